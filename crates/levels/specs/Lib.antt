@@ -1,0 +1,12 @@
+pub mod Basics
+pub mod Record
+pub mod Map
+pub mod Waste
+pub mod Choose
+pub mod Merge
+pub mod Place
+pub mod Store
+pub mod Call
+pub mod Put
+pub mod Bench
+pub mod Figures

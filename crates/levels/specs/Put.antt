@@ -1,0 +1,112 @@
+-- Put and delete on a store that passes the form check (document 01, "Calls"), without words.
+use Prim.Native.Nat.{ℕ, zero, suc, _+_, _-_, _*_, _<_, _≤_}
+use mathlib.Core.Bool.{Bool, true, false, not, _&&_, _||_}
+use mathlib.Core.List.{List, [], _∷_, _++_, map}
+use mathlib.Core.Option.{Option, none, some}
+use lib.Dec.{leb, ltb, eqb}
+use lib.ListN.{length, take, drop}
+use Rattle.geometry.specs.declared.Geometry.{Geometry}
+use Rattle.geometry.specs.Geometry.{capacityOf, windowOf, keyLimitOf, topCapacityOf}
+use Rattle.levels.specs.Basics.{if_then_else_, isSome, total}
+use Rattle.levels.specs.Record.{Rec, Block, Level}
+use Rattle.levels.specs.Map.{find, isLive}
+use Rattle.levels.specs.Choose.{overlap}
+use Rattle.levels.specs.Place.{inUse, newlyUsed}
+use Rattle.levels.specs.Store.{Store, rows, blocksOf}
+use Rattle.levels.specs.Call.{Compaction, Merge, mergesFrom, afterMerges}
+
+-- What a put or delete does to a store that passes the form check.
+pub data Change : Type 0 where
+  -- it is turned down for this reason
+  refused : ℕ → Change
+  -- "absent means no change"
+  absent : Change
+  -- if the key was live, the merges that the call makes, and the store afterwards
+  entered : Bool → List Merge → Store → Change
+
+-- a record goes into level 0 in key order, or over the one with its key
+unfoldable pub insert : Rec → List Rec → List Rec
+insert r [] = r ∷ []
+insert r (s ∷ ss) = elim (ltb (r .key) (s .key)) [
+  | true ↦ r ∷ s ∷ ss
+  | false ↦ elim (eqb (r .key) (s .key)) [ true ↦ r ∷ ss | false ↦ s ∷ insert r ss ]
+]
+
+-- "a key found in level 0 is overwritten there; otherwise, if c = K(0)×B, level 0 is merged first, then the record goes in."
+-- The merges that this makes.
+unfoldable pub mergesFor : Geometry → Store → ℕ → List Merge
+mergesFor g s k = elim (isSome (find k (s .top)) || ltb (length (s .top)) (topCapacityOf g)) [ true ↦ [] | false ↦ mergesFrom g s ]
+
+-- "with the call's own record and live then entered"
+abbrev pub withRecord : Rec → ℕ → Store → Store
+withRecord r live s = record { live = live; cursor = s .cursor; top = insert r (s .top); levels = s .levels }
+
+-- the change that enters r, where `was` says if its key was live, and `live` is the number of keys then
+unfoldable pub enter : Geometry → Store → Rec → Bool → ℕ → Change
+enter g s r was live = let ms = mergesFor g s (r .key) in entered was ms (withRecord r live (afterMerges s ms))
+
+-- "Put k, v": "The answer says if k was live." Refusal 5: "A put has a key not in the map while live = N."
+unfoldable pub put : Geometry → Store → ℕ → ℕ → Change
+put g s k v =
+    let r : Rec = record { key = k; tombstone = false; pay = v } in
+    elim (isLive k (rows s)) [
+      | true ↦ enter g s r true (s .live)
+      | false ↦ elim (eqb (s .live) (keyLimitOf g)) [ true ↦ refused 5 | false ↦ enter g s r false (suc (s .live)) ]
+    ]
+
+-- "Delete k: absent means no change and the answer absent; otherwise as put, with a mark."
+unfoldable pub delete : Geometry → Store → ℕ → Change
+delete g s k = elim (isLive k (rows s)) [
+  | true ↦ enter g s (record { key = k; tombstone = true; pay = 0 }) true (s .live - 1)
+  | false ↦ absent
+]
+
+-- "The merges of a call": "A refused call, an absent delete, an overwriting in level 0 and a level 0 with room give the empty list"
+unfoldable pub mergesOf : Change → List Merge
+mergesOf (refused n) = []
+mergesOf absent = []
+mergesOf (entered was ms s) = ms
+
+-- Demand 3's numbers of a merge, "both at the merge's start": w is W(i), a the blocks of level i (in level 0, pages), n those of level i + 1, q is X's overlap.
+unfoldable pub windowAt : Geometry → Merge → ℕ
+windowAt g m = windowOf g (m .level)
+
+unfoldable pub aboveAt : Geometry → Merge → ℕ
+aboveAt g m = length (blocksOf g (m .level) (m .start))
+
+unfoldable pub belowAt : Geometry → Merge → ℕ
+belowAt g m = length (blocksOf g (suc (m .level)) (m .start))
+
+unfoldable pub runOf : Geometry → Merge → Level
+runOf g m = take (windowAt g m) (drop (m .first) (blocksOf g (m .level) (m .start)))
+
+unfoldable pub overlapAt : Geometry → Merge → ℕ
+overlapAt g m = overlap (blocksOf g (suc (m .level)) (m .start)) (runOf g m)
+
+-- "Blocks written by a merge are the places in use at its end that were not in use at its start, step 2's block with them."
+unfoldable pub writtenBy : Merge → ℕ
+writtenBy m = newlyUsed (inUse (m .start .levels)) (inUse (m .finish .levels))
+
+-- "Blocks written compacting a level are the places in use at the end of the compaction that were not in use at its start."
+unfoldable pub writtenCompacting : Compaction → ℕ
+writtenCompacting c = newlyUsed (inUse (c .start .levels)) (inUse (c .finish .levels))
+
+-- "Put and delete answer for each level 1 to 3: merges into it, blocks written by them, blocks written compacting it."
+pub record Counts : Type 0 where
+  pub merges : ℕ
+  pub written : ℕ
+  pub compacted : ℕ
+
+-- f of each merge into a level, summed
+abbrev pub totalInto : ℕ → (Merge → ℕ) → List Merge → ℕ
+totalInto j f ms = total (λ (m : Merge). if eqb (suc (m .level)) j then f m else 0) ms
+
+abbrev pub compactedOf : ℕ → List Compaction → ℕ
+compactedOf j cs = total (λ (c : Compaction). if eqb (c .level) j then writtenCompacting c else 0) cs
+
+unfoldable pub countsOf : ℕ → List Merge → Counts
+countsOf j ms = record {
+  merges = totalInto j (λ m. 1) ms;
+  written = totalInto j writtenBy ms;
+  compacted = total (λ (m : Merge). compactedOf j (m .compactions)) ms;
+}

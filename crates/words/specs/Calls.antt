@@ -1,0 +1,134 @@
+-- Document 01, "Calls": each call as a function from the lent words and its arguments to its answer and the lent words afterwards.
+use Prim.Native.Nat.{ℕ, zero, suc, _+_, _-_, _*_, _<_, _≤_}
+use mathlib.Core.Bool.{Bool, true, false, not, _&&_, _||_}
+use mathlib.Core.List.{List, [], _∷_, _++_, map}
+use mathlib.Core.Option.{Option, none, some}
+use lib.Dec.{leb, ltb, eqb}
+use lib.ListN.{length, take, drop, getD, replicate}
+use Rattle.geometry.specs.declared.Geometry.{Geometry}
+use Rattle.geometry.specs.Geometry.{keyLimitOf, placeStart, blockWidth, sizeReason, within}
+use Rattle.levels.specs.Basics.{if_then_else_, total}
+use Rattle.levels.specs.Record.{Rec, Block, Level, firstKey, lastKey}
+use Rattle.levels.specs.Map.{lookUp, next}
+use Rattle.levels.specs.Choose.{meets}
+use Rattle.levels.specs.Store.{Store, rows}
+use Rattle.levels.specs.Call.{Compaction, Merge}
+use Rattle.levels.specs.Put.{Change, refused, absent, entered, Counts, countsOf, put, delete}
+use Rattle.words.specs.Layout.{geometryAt, storeAt, storeWords, areaOf, writeBlocks, levelAt, placeOf}
+use Rattle.words.specs.Form.{reasonOf}
+
+-- What a call gives: its answer and the words afterwards.
+pub record Outcome (A : Type 0) : Type 0 where
+  pub answer : A
+  pub words : List ℕ
+
+-- The answers, as numbers: "the answer has only the number and zeros" where a call is turned down.
+pub record FormatAnswer : Type 0 where
+  pub reason : ℕ
+  pub limit : ℕ
+
+pub record LookAnswer : Type 0 where
+  pub reason : ℕ
+  pub found : Bool
+  pub pay : ℕ
+
+pub record NextAnswer : Type 0 where
+  pub reason : ℕ
+  pub found : Bool
+  pub key : ℕ
+  pub pay : ℕ
+
+pub record ChangeAnswer : Type 0 where
+  pub reason : ℕ
+  pub live : Bool
+  pub level1 : Counts
+  pub level2 : Counts
+  pub level3 : Counts
+
+-- "Format: every word 0 but the six of the geometry and hand = P − 1; answers N."
+unfoldable pub formatWords : Geometry → ℕ → List ℕ
+formatWords g n = g .b ∷ g .w ∷ g .d ∷ g .g ∷ g .h ∷ g .p ∷ 0 ∷ (g .p - 1) ∷ replicate (n - 8) 0
+
+unfoldable pub formatOf : List ℕ → Geometry → Outcome FormatAnswer
+formatOf ws g = elim (sizeReason (length ws) g) [
+  | zero ↦ record { answer = record { reason = 0; limit = keyLimitOf g }; words = formatWords g (length ws) }
+  | suc n ↦ record { answer = record { reason = suc n; limit = 0 }; words = ws }
+]
+
+-- "Check: the reason 1 to 4 that a store is turned down for, or 0."
+unfoldable pub checkOf : List ℕ → ℕ
+checkOf ws = reasonOf ws
+
+-- "Look up k"
+abbrev pub lookAnswer : Option Rec → LookAnswer
+lookAnswer none = record { reason = 0; found = false; pay = 0 }
+lookAnswer (some r) = record { reason = 0; found = true; pay = r .pay }
+
+unfoldable pub lookUpOf : List ℕ → ℕ → LookAnswer
+lookUpOf ws k = elim (reasonOf ws) [
+  | zero ↦ lookAnswer (lookUp k (rows (storeAt (geometryAt ws) ws)))
+  | suc n ↦ record { reason = suc n; found = false; pay = 0 }
+]
+
+-- "Next k"
+abbrev pub nextAnswer : Option Rec → NextAnswer
+nextAnswer none = record { reason = 0; found = false; key = 0; pay = 0 }
+nextAnswer (some r) = record { reason = 0; found = true; key = r .key; pay = r .pay }
+
+unfoldable pub nextOf : List ℕ → ℕ → NextAnswer
+nextOf ws k = elim (reasonOf ws) [
+  | zero ↦ nextAnswer (next k (rows (storeAt (geometryAt ws) ws)))
+  | suc n ↦ record { reason = suc n; found = false; key = 0; pay = 0 }
+]
+
+-- "Show i, k: of level i, 1 to h, the words of the block whose first to last key encloses k, given back as that part of the lent store;
+-- an empty part if there is none, i is another number or the store is turned down."
+unfoldable pub enclosing : ℕ → Level → Option Block
+enclosing k [] = none
+enclosing k (b ∷ bs) = elim (meets k k b) [ true ↦ some b | false ↦ enclosing k bs ]
+
+abbrev pub partOf : Geometry → List ℕ → Option Block → List ℕ
+partOf g ws none = []
+partOf g ws (some b) = take (blockWidth g) (drop (placeStart g (placeOf b)) ws)
+
+unfoldable pub showIn : Geometry → List ℕ → ℕ → ℕ → List ℕ
+showIn g ws i k = elim (within 1 (g .h) i) [ true ↦ partOf g ws (enclosing k (levelAt g ws i)) | false ↦ [] ]
+
+unfoldable pub showOf : List ℕ → ℕ → ℕ → List ℕ
+showOf ws i k = elim (reasonOf ws) [ zero ↦ showIn (geometryAt ws) ws i k | suc n ↦ [] ]
+
+-- The blocks that a list of merges with its compactings writes, in order.
+abbrev pub writtenCompacting : List Compaction → List Block
+writtenCompacting [] = []
+writtenCompacting (c ∷ cs) = c .written ++ writtenCompacting cs
+
+abbrev pub writtenIn : List Merge → List Block
+writtenIn [] = []
+writtenIn (m ∷ ms) = m .written ++ (writtenCompacting (m .compactions) ++ writtenIn ms)
+
+-- "the lent store is, word for word, what this list with its compactings leaves": a store over the places with the blocks written
+unfoldable pub leftWords : Geometry → List ℕ → List Merge → Store → List ℕ
+leftWords g ws ms s = storeWords g s (writeBlocks g (areaOf g ws) (writtenIn ms))
+
+-- "for each level 1 to 3: merges into it, blocks written by them, blocks written compacting it"
+abbrev pub changeAnswer : ℕ → Bool → List Merge → ChangeAnswer
+changeAnswer reason was ms = record { reason = reason; live = was; level1 = countsOf 1 ms; level2 = countsOf 2 ms; level3 = countsOf 3 ms }
+
+-- the answer and the words of a change; "no lent word changes" where there is none
+unfoldable pub changeOutcome : Geometry → List ℕ → Change → Outcome ChangeAnswer
+changeOutcome g ws (refused n) = record { answer = changeAnswer n false []; words = ws }
+changeOutcome g ws absent = record { answer = changeAnswer 0 false []; words = ws }
+changeOutcome g ws (entered was ms s) = record { answer = changeAnswer 0 was ms; words = leftWords g ws ms s }
+
+-- "Put k, v" and "Delete k", with all refusals in their order
+unfoldable pub putOf : List ℕ → ℕ → ℕ → Outcome ChangeAnswer
+putOf ws k v = elim (reasonOf ws) [
+  | zero ↦ let g = geometryAt ws in changeOutcome g ws (put g (storeAt g ws) k v)
+  | suc n ↦ changeOutcome (geometryAt ws) ws (refused (suc n))
+]
+
+unfoldable pub deleteOf : List ℕ → ℕ → Outcome ChangeAnswer
+deleteOf ws k = elim (reasonOf ws) [
+  | zero ↦ let g = geometryAt ws in changeOutcome g ws (delete g (storeAt g ws) k)
+  | suc n ↦ changeOutcome (geometryAt ws) ws (refused (suc n))
+]

@@ -1,0 +1,4 @@
+pub mod Layout
+pub mod Form
+pub mod Calls
+pub mod Figures
