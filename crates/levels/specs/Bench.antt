@@ -1,9 +1,8 @@
 -- What a line of document 01's "Bench figures" can say, and the test of it: the definitions computed and compared.
-use Prim.Native.Nat.{ℕ, zero, suc, _+_, _-_, _*_, _<_, _≤_}
+use Prim.Native.Nat.{ℕ, _+_, _-_}
 use Prim.Native.String.{String}
-use mathlib.Core.Path.{_≡_, refl}
-use mathlib.Core.Bool.{Bool, true, false, not, _&&_, _||_}
-use mathlib.Core.List.{List, [], _∷_, _++_, map}
+use mathlib.Core.Bool.{Bool, true, false, not, _&&_}
+use mathlib.Core.List.{List, [], _∷_, map}
 use mathlib.Core.Option.{Option, none, some}
 use lib.Dec.{leb, ltb, eqb}
 use lib.ListN.{length, getD}
@@ -29,14 +28,13 @@ use Rattle.geometry.specs.Geometry.{
   sizeReason,
 }
 use Rattle.levels.specs.Basics.{if_then_else_}
-use Rattle.levels.specs.Record.{Rec, Block, Level, records}
+use Rattle.levels.specs.Record.{Rec, Block, Level}
 use Rattle.levels.specs.Map.{find, into, overlay, view, unmarked, mapOf, liveCount, decides, lookUp, isLive}
 use Rattle.levels.specs.Waste.{needsCompact}
-use Rattle.levels.specs.Choose.{Least, overlap, runs, choose, overlapBound, cutAt}
+use Rattle.levels.specs.Choose.{overlap, runs, choose, overlapBound, cutAt}
 use Rattle.levels.specs.Place.{freeAfter, firstFree, settle, newlyUsed}
 use Rattle.levels.specs.Store.{Store, emptyStore}
 use Rattle.levels.specs.Call.{
-  Compaction,
   Merge,
   mergeCut,
   compactLevel,
@@ -48,25 +46,8 @@ use Rattle.levels.specs.Call.{
   mergesBelow,
   mergesFrom,
 }
-use Rattle.levels.specs.Put.{
-  Change,
-  refused,
-  absent,
-  entered,
-  insert,
-  mergesFor,
-  enter,
-  put,
-  delete,
-  mergesOf,
-  windowAt,
-  aboveAt,
-  belowAt,
-  runOf,
-  overlapAt,
-  writtenBy,
-  writtenCompacting,
-}
+use Rattle.levels.specs.Put.{Change, refused, absent, entered, insert, mergesFor, enter, put, delete, mergesOf}
+use Rattle.levels.specs.Count.{aboveOf, underOf, aboveCount, underCount, runOf, overlapOf, blocksMerged, blocksCompacted}
 
 -- Equality of numbers, truth values, lists, places, records, blocks.
 abbrev pub same : Bool → Bool → Bool
@@ -132,7 +113,7 @@ mergesIn g (a ∷ as′) s = let c = changeOf g s a in length (mergesOf c) + mer
 
 -- the numbers of a merge: level, first block, w, q, a, n, blocks written
 abbrev pub numbersOf : Geometry → Merge → List ℕ
-numbersOf g m = m .level ∷ m .first ∷ windowAt g m ∷ overlapAt g m ∷ aboveAt g m ∷ belowAt g m ∷ writtenBy m ∷ []
+numbersOf g m = m .level ∷ m .first ∷ m .window ∷ overlapOf g m ∷ aboveCount g m ∷ underCount g m ∷ blocksMerged m ∷ []
 
 abbrev pub reasonOfChange : Change → ℕ
 reasonOfChange (refused n) = n
@@ -171,20 +152,20 @@ unfolding
     capacityOf windowOf capacitySum flashCapacityOf keyLimitOf inRanges inSizes isLegal topCapacityOf marksStart keysStart paysStart listStart blockWidth
     placesStart placeStart storeLength sizeReason find into overlay view unmarked mapOf liveCount decides lookUp isLive cutAt freeAfter firstFree settle
     newlyUsed emptyStore mergeCut compactLevel compactIfNeeded stepFive mergeRun mergeLevel deepestOver mergesBelow mergesFrom insert mergesFor enter put
-    delete mergesOf windowAt aboveAt belowAt runOf overlapAt writtenBy writtenCompacting
+    delete mergesOf aboveOf underOf aboveCount underCount runOf overlapOf blocksMerged blocksCompacted
 holds (sizes g s n l) = isLegal g && eqb (flashCapacityOf g) s && eqb (keyLimitOf g) n && eqb (storeLength g) l && eqb (sizeReason l g) 0
 holds (turnedDown l g r) = eqb (sizeReason l g) r
 holds (noLimit g) = ltb (keyLimitOf g) 1
 holds (merges bottom w above under u l n) =
     let m = onto bottom w above under in
-    sameLevel (levelAfter (m .finish) 1) u && sameLevel (levelAfter (m .finish) 2) l && eqb (writtenBy m) n
+    sameLevel (levelAfter (m .finish) 1) u && sameLevel (levelAfter (m .finish) 2) l && eqb (blocksMerged m) n
 holds (overlaps w above under qs i bound) =
     sameNumbers (map (overlap under) (runs w above)) qs && eqb (choose w above under .at) i && eqb (overlapBound w (length above) (length under)) bound
     && leb (choose w above under .value) bound
 holds (keeps l) = not (needsCompact 4 l)
 holds (compacts l n) =
     let c = compactLevel (geo 4 1 2 4 1 40) 1 (record { live = 0; cursor = 39; top = []; levels = l ∷ [] }) in
-    needsCompact 4 l && eqb (length (levelAfter (c .finish) 1)) n && eqb (writtenCompacting c) n
+    needsCompact 4 l && eqb (length (levelAfter (c .finish) 1)) n && eqb (blocksCompacted c) n
 holds (quiet g as′ n) = eqb (mergesIn g as′ (emptyStore g)) n
 holds (leads g as′ a r ms top l live) =
     let s = afterActs g as′ (emptyStore g) in

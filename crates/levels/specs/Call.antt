@@ -1,17 +1,17 @@
 -- Document 01, "A merge from level i to i + 1" and "The merges of a call".
-use Prim.Native.Nat.{ℕ, zero, suc, _+_, _-_, _*_, _<_, _≤_}
-use mathlib.Core.Bool.{Bool, true, false, not, _&&_, _||_}
+use Prim.Native.Nat.{ℕ, zero, suc, _+_, _-_, _*_}
+use mathlib.Core.Bool.{true, false}
 use mathlib.Core.List.{List, [], _∷_, _++_}
-use lib.Dec.{leb, ltb, eqb}
-use lib.ListN.{length, getD}
+use lib.Dec.{ltb, eqb}
+use lib.ListN.{length}
 use Rattle.geometry.specs.declared.Geometry.{Geometry}
 use Rattle.geometry.specs.Geometry.{capacityOf, windowOf}
-use Rattle.levels.specs.Basics.{if_then_else_, total}
-use Rattle.levels.specs.Record.{Rec, Block, Level, records}
+use Rattle.levels.specs.Basics.{total}
+use Rattle.levels.specs.Record.{Block, Level, records}
 use Rattle.levels.specs.Waste.{needsCompact, compact}
-use Rattle.levels.specs.Choose.{Least, choose, Cut, cutAt}
+use Rattle.levels.specs.Choose.{choose, Cut, cutAt}
 use Rattle.levels.specs.Merge.{merge, close}
-use Rattle.levels.specs.Place.{Allocation, Settled, settle, inUse, newlyUsed}
+use Rattle.levels.specs.Place.{Allocation, Settled, settle}
 use Rattle.levels.specs.Store.{Store, blocksOf, withBlocks, withCursor, allocationOf}
 
 -- A compaction: its level, the store at its start and at its end, the blocks written, in order.
@@ -21,11 +21,12 @@ pub record Compaction : Type 0 where
   pub finish : Store
   pub written : List Block
 
--- A merge: the upper level i, the number of the run's first block in it, the store at its start and at its end, the blocks written, in order,
--- and the compactions of its step 5.
+-- A merge: the upper level i, the number of the run's first block in it and of its blocks (demand 3's w), the store at its start and at its end,
+-- the blocks written, in order, and the compactions of its step 5.
 pub record Merge : Type 0 where
   pub level : ℕ
   pub first : ℕ
+  pub window : ℕ
   pub start : Store
   pub finish : Store
   pub written : List Block
@@ -72,7 +73,7 @@ unfoldable pub mergeRun : Geometry → ℕ → ℕ → ℕ → Store → Merge
 mergeRun g i w first s =
     let m = mergeCut g i (cutAt w first (blocksOf g i s) (blocksOf g (suc i) s)) s in
     let t = withCursor (m .lower .allocation .cursor) (withBlocks (suc i) (m .lower .level) (withBlocks i (m .upper .level) s)) in
-    record { level = i; first = first; start = s; finish = t; written = m .upper .written ++ m .lower .written; compactions = stepFive g i t }
+    record { level = i; first = first; window = w; start = s; finish = t; written = m .upper .written ++ m .lower .written; compactions = stepFive g i t }
 
 -- A merge from level i to i + 1, steps 1 to 5.
 unfoldable pub mergeLevel : Geometry → ℕ → Store → Merge

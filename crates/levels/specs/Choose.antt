@@ -1,11 +1,11 @@
 -- Step 1 of a merge: the run of neighbours that overlaps the fewest blocks below (the paper's ChooseBest).
-use Prim.Native.Nat.{ℕ, zero, suc, _+_, _-_, _*_, _/_, _<_, _≤_}
-use mathlib.Core.Bool.{Bool, true, false, not, _&&_, _||_}
-use mathlib.Core.List.{List, [], _∷_, _++_, map}
-use lib.Dec.{leb, ltb, eqb}
+use Prim.Native.Nat.{ℕ, suc, _+_, _/_}
+use mathlib.Core.Bool.{Bool, _&&_}
+use mathlib.Core.List.{List, [], _∷_, map}
+use lib.Dec.{leb, ltb}
 use lib.ListN.{length, take, drop}
 use Rattle.levels.specs.Basics.{if_then_else_, ceilDiv}
-use Rattle.levels.specs.Record.{Rec, Block, Level, firstKey, lastKey}
+use Rattle.levels.specs.Record.{Block, Level, firstKey, lastKey}
 
 -- "A run is W(i) neighbours of level i": the runs of w neighbours, lowest keys first
 abbrev pub runs : ℕ → Level → List Level

@@ -2,7 +2,7 @@
 -- and further computed cases beside it.
 use Prim.Native.Nat.{ℕ}
 use mathlib.Core.Path.{_≡_, refl}
-use mathlib.Core.Bool.{Bool, true, false}
+use mathlib.Core.Bool.{true, false}
 use mathlib.Core.List.{List, [], _∷_, _++_, map}
 use Rattle.geometry.specs.declared.Geometry.{Geometry}
 use Rattle.levels.specs.Record.{Rec}
@@ -14,7 +14,6 @@ use Rattle.levels.specs.Bench.{
   Act,
   putKey,
   delKey,
-  Figure,
   sizes,
   turnedDown,
   noLimit,

@@ -8,5 +8,6 @@ pub mod Place
 pub mod Store
 pub mod Call
 pub mod Put
+pub mod Count
 pub mod Bench
 pub mod Figures

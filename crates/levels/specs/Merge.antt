@@ -1,9 +1,8 @@
 -- Steps 2 to 4 of a merge, over given blocks: a state, a step that reads one record or reuses one block, and the joins.
 -- Nothing here knows how X was chosen or which place a new block gets.
-use Prim.Native.Nat.{ℕ, zero, suc, _+_, _-_, _*_, _<_, _≤_}
-use mathlib.Core.Bool.{Bool, true, false, not, _&&_, _||_}
+use Prim.Native.Nat.{ℕ, zero, suc, _+_}
+use mathlib.Core.Bool.{Bool, true, false, not, _&&_}
 use mathlib.Core.List.{List, [], _∷_, _++_, reverse, reverseAux, tail}
-use mathlib.Core.Option.{Option, none, some}
 use lib.Dec.{leb, ltb, eqb}
 use lib.ListN.{length}
 use Rattle.levels.specs.Basics.{if_then_else_, iterate}

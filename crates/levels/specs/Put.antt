@@ -1,19 +1,16 @@
 -- Put and delete on a store that passes the form check (document 01, "Calls"), without words.
-use Prim.Native.Nat.{ℕ, zero, suc, _+_, _-_, _*_, _<_, _≤_}
-use mathlib.Core.Bool.{Bool, true, false, not, _&&_, _||_}
-use mathlib.Core.List.{List, [], _∷_, _++_, map}
-use mathlib.Core.Option.{Option, none, some}
-use lib.Dec.{leb, ltb, eqb}
-use lib.ListN.{length, take, drop}
+use Prim.Native.Nat.{ℕ, suc, _-_}
+use mathlib.Core.Bool.{Bool, true, false, _||_}
+use mathlib.Core.List.{List, [], _∷_}
+use lib.Dec.{ltb, eqb}
+use lib.ListN.{length}
 use Rattle.geometry.specs.declared.Geometry.{Geometry}
-use Rattle.geometry.specs.Geometry.{capacityOf, windowOf, keyLimitOf, topCapacityOf}
-use Rattle.levels.specs.Basics.{if_then_else_, isSome, total}
-use Rattle.levels.specs.Record.{Rec, Block, Level}
+use Rattle.geometry.specs.Geometry.{keyLimitOf, topCapacityOf}
+use Rattle.levels.specs.Basics.{isSome}
+use Rattle.levels.specs.Record.{Rec}
 use Rattle.levels.specs.Map.{find, isLive}
-use Rattle.levels.specs.Choose.{overlap}
-use Rattle.levels.specs.Place.{inUse, newlyUsed}
-use Rattle.levels.specs.Store.{Store, rows, blocksOf}
-use Rattle.levels.specs.Call.{Compaction, Merge, mergesFrom, afterMerges}
+use Rattle.levels.specs.Store.{Store, rows}
+use Rattle.levels.specs.Call.{Merge, mergesFrom, afterMerges}
 
 -- What a put or delete does to a store that passes the form check.
 pub data Change : Type 0 where
@@ -66,47 +63,3 @@ unfoldable pub mergesOf : Change → List Merge
 mergesOf (refused n) = []
 mergesOf absent = []
 mergesOf (entered was ms s) = ms
-
--- Demand 3's numbers of a merge, "both at the merge's start": w is W(i), a the blocks of level i (in level 0, pages), n those of level i + 1, q is X's overlap.
-unfoldable pub windowAt : Geometry → Merge → ℕ
-windowAt g m = windowOf g (m .level)
-
-unfoldable pub aboveAt : Geometry → Merge → ℕ
-aboveAt g m = length (blocksOf g (m .level) (m .start))
-
-unfoldable pub belowAt : Geometry → Merge → ℕ
-belowAt g m = length (blocksOf g (suc (m .level)) (m .start))
-
-unfoldable pub runOf : Geometry → Merge → Level
-runOf g m = take (windowAt g m) (drop (m .first) (blocksOf g (m .level) (m .start)))
-
-unfoldable pub overlapAt : Geometry → Merge → ℕ
-overlapAt g m = overlap (blocksOf g (suc (m .level)) (m .start)) (runOf g m)
-
--- "Blocks written by a merge are the places in use at its end that were not in use at its start, step 2's block with them."
-unfoldable pub writtenBy : Merge → ℕ
-writtenBy m = newlyUsed (inUse (m .start .levels)) (inUse (m .finish .levels))
-
--- "Blocks written compacting a level are the places in use at the end of the compaction that were not in use at its start."
-unfoldable pub writtenCompacting : Compaction → ℕ
-writtenCompacting c = newlyUsed (inUse (c .start .levels)) (inUse (c .finish .levels))
-
--- "Put and delete answer for each level 1 to 3: merges into it, blocks written by them, blocks written compacting it."
-pub record Counts : Type 0 where
-  pub merges : ℕ
-  pub written : ℕ
-  pub compacted : ℕ
-
--- f of each merge into a level, summed
-abbrev pub totalInto : ℕ → (Merge → ℕ) → List Merge → ℕ
-totalInto j f ms = total (λ (m : Merge). if eqb (suc (m .level)) j then f m else 0) ms
-
-abbrev pub compactedOf : ℕ → List Compaction → ℕ
-compactedOf j cs = total (λ (c : Compaction). if eqb (c .level) j then writtenCompacting c else 0) cs
-
-unfoldable pub countsOf : ℕ → List Merge → Counts
-countsOf j ms = record {
-  merges = totalInto j (λ m. 1) ms;
-  written = totalInto j writtenBy ms;
-  compacted = total (λ (m : Merge). compactedOf j (m .compactions)) ms;
-}

@@ -1,19 +1,18 @@
 -- Document 01, "Calls": each call as a function from the lent words and its arguments to its answer and the lent words afterwards.
-use Prim.Native.Nat.{ℕ, zero, suc, _+_, _-_, _*_, _<_, _≤_}
-use mathlib.Core.Bool.{Bool, true, false, not, _&&_, _||_}
-use mathlib.Core.List.{List, [], _∷_, _++_, map}
+use Prim.Native.Nat.{ℕ, _-_}
+use mathlib.Core.Bool.{Bool, true, false}
+use mathlib.Core.List.{List, [], _∷_, _++_}
 use mathlib.Core.Option.{Option, none, some}
-use lib.Dec.{leb, ltb, eqb}
-use lib.ListN.{length, take, drop, getD, replicate}
+use lib.Dec.{eqb}
+use lib.ListN.{length, take, drop, replicate}
 use Rattle.geometry.specs.declared.Geometry.{Geometry}
 use Rattle.geometry.specs.Geometry.{keyLimitOf, placeStart, blockWidth, sizeReason, within}
-use Rattle.levels.specs.Basics.{if_then_else_, total}
 use Rattle.levels.specs.Record.{Rec, Block, Level, firstKey, lastKey}
 use Rattle.levels.specs.Map.{lookUp, next}
-use Rattle.levels.specs.Choose.{meets}
 use Rattle.levels.specs.Store.{Store, rows}
 use Rattle.levels.specs.Call.{Compaction, Merge}
-use Rattle.levels.specs.Put.{Change, refused, absent, entered, Counts, countsOf, put, delete}
+use Rattle.levels.specs.Put.{Change, refused, absent, entered, put, delete}
+use Rattle.levels.specs.Count.{Counts, countsOf}
 use Rattle.words.specs.Layout.{geometryAt, storeAt, storeWords, areaOf, writeBlocks, levelAt, placeOf}
 use Rattle.words.specs.Form.{reasonOf}
 
@@ -50,10 +49,12 @@ unfoldable pub formatWords : Geometry → ℕ → List ℕ
 formatWords g n = g .b ∷ g .w ∷ g .d ∷ g .g ∷ g .h ∷ g .p ∷ 0 ∷ (g .p - 1) ∷ replicate (n - 8) 0
 
 unfoldable pub formatOf : List ℕ → Geometry → Outcome FormatAnswer
-formatOf ws g = elim (sizeReason (length ws) g) [
-  | zero ↦ record { answer = record { reason = 0; limit = keyLimitOf g }; words = formatWords g (length ws) }
-  | suc n ↦ record { answer = record { reason = suc n; limit = 0 }; words = ws }
-]
+formatOf ws g =
+    let r = sizeReason (length ws) g in
+    elim (eqb r 0) [
+      | true ↦ record { answer = record { reason = 0; limit = keyLimitOf g }; words = formatWords g (length ws) }
+      | false ↦ record { answer = record { reason = r; limit = 0 }; words = ws }
+    ]
 
 -- "Check: the reason 1 to 4 that a store is turned down for, or 0."
 unfoldable pub checkOf : List ℕ → ℕ
@@ -65,9 +66,9 @@ lookAnswer none = record { reason = 0; found = false; pay = 0 }
 lookAnswer (some r) = record { reason = 0; found = true; pay = r .pay }
 
 unfoldable pub lookUpOf : List ℕ → ℕ → LookAnswer
-lookUpOf ws k = elim (reasonOf ws) [
-  | zero ↦ lookAnswer (lookUp k (rows (storeAt (geometryAt ws) ws)))
-  | suc n ↦ record { reason = suc n; found = false; pay = 0 }
+lookUpOf ws k = elim (eqb (reasonOf ws) 0) [
+  | true ↦ lookAnswer (lookUp k (rows (storeAt (geometryAt ws) ws)))
+  | false ↦ record { reason = reasonOf ws; found = false; pay = 0 }
 ]
 
 -- "Next k"
@@ -76,16 +77,16 @@ nextAnswer none = record { reason = 0; found = false; key = 0; pay = 0 }
 nextAnswer (some r) = record { reason = 0; found = true; key = r .key; pay = r .pay }
 
 unfoldable pub nextOf : List ℕ → ℕ → NextAnswer
-nextOf ws k = elim (reasonOf ws) [
-  | zero ↦ nextAnswer (next k (rows (storeAt (geometryAt ws) ws)))
-  | suc n ↦ record { reason = suc n; found = false; key = 0; pay = 0 }
+nextOf ws k = elim (eqb (reasonOf ws) 0) [
+  | true ↦ nextAnswer (next k (rows (storeAt (geometryAt ws) ws)))
+  | false ↦ record { reason = reasonOf ws; found = false; key = 0; pay = 0 }
 ]
 
 -- "Show i, k: of level i, 1 to h, the words of the block whose first to last key encloses k, given back as that part of the lent store;
 -- an empty part if there is none, i is another number or the store is turned down."
 unfoldable pub enclosing : ℕ → Level → Option Block
 enclosing k [] = none
-enclosing k (b ∷ bs) = elim (meets k k b) [ true ↦ some b | false ↦ enclosing k bs ]
+enclosing k (b ∷ bs) = elim (within (firstKey (b .recs)) (lastKey (b .recs)) k) [ true ↦ some b | false ↦ enclosing k bs ]
 
 abbrev pub partOf : Geometry → List ℕ → Option Block → List ℕ
 partOf g ws none = []
@@ -95,20 +96,20 @@ unfoldable pub showIn : Geometry → List ℕ → ℕ → ℕ → List ℕ
 showIn g ws i k = elim (within 1 (g .h) i) [ true ↦ partOf g ws (enclosing k (levelAt g ws i)) | false ↦ [] ]
 
 unfoldable pub showOf : List ℕ → ℕ → ℕ → List ℕ
-showOf ws i k = elim (reasonOf ws) [ zero ↦ showIn (geometryAt ws) ws i k | suc n ↦ [] ]
+showOf ws i k = elim (eqb (reasonOf ws) 0) [ true ↦ showIn (geometryAt ws) ws i k | false ↦ [] ]
 
--- The blocks that a list of merges with its compactings writes, in order.
-abbrev pub writtenCompacting : List Compaction → List Block
-writtenCompacting [] = []
-writtenCompacting (c ∷ cs) = c .written ++ writtenCompacting cs
+-- The blocks that compactions write, and that a list of merges with its compactings writes, in order.
+abbrev pub compactedBlocks : List Compaction → List Block
+compactedBlocks [] = []
+compactedBlocks (c ∷ cs) = c .written ++ compactedBlocks cs
 
-abbrev pub writtenIn : List Merge → List Block
-writtenIn [] = []
-writtenIn (m ∷ ms) = m .written ++ (writtenCompacting (m .compactions) ++ writtenIn ms)
+abbrev pub writtenBlocks : List Merge → List Block
+writtenBlocks [] = []
+writtenBlocks (m ∷ ms) = m .written ++ (compactedBlocks (m .compactions) ++ writtenBlocks ms)
 
 -- "the lent store is, word for word, what this list with its compactings leaves": a store over the places with the blocks written
 unfoldable pub leftWords : Geometry → List ℕ → List Merge → Store → List ℕ
-leftWords g ws ms s = storeWords g s (writeBlocks g (areaOf g ws) (writtenIn ms))
+leftWords g ws ms s = storeWords g s (writeBlocks g (areaOf g ws) (writtenBlocks ms))
 
 -- "for each level 1 to 3: merges into it, blocks written by them, blocks written compacting it"
 abbrev pub changeAnswer : ℕ → Bool → List Merge → ChangeAnswer
@@ -122,13 +123,11 @@ changeOutcome g ws (entered was ms s) = record { answer = changeAnswer 0 was ms;
 
 -- "Put k, v" and "Delete k", with all refusals in their order
 unfoldable pub putOf : List ℕ → ℕ → ℕ → Outcome ChangeAnswer
-putOf ws k v = elim (reasonOf ws) [
-  | zero ↦ let g = geometryAt ws in changeOutcome g ws (put g (storeAt g ws) k v)
-  | suc n ↦ changeOutcome (geometryAt ws) ws (refused (suc n))
-]
+putOf ws k v =
+    let g = geometryAt ws in
+    changeOutcome g ws (elim (eqb (reasonOf ws) 0) [ true ↦ put g (storeAt g ws) k v | false ↦ refused (reasonOf ws) ])
 
 unfoldable pub deleteOf : List ℕ → ℕ → Outcome ChangeAnswer
-deleteOf ws k = elim (reasonOf ws) [
-  | zero ↦ let g = geometryAt ws in changeOutcome g ws (delete g (storeAt g ws) k)
-  | suc n ↦ changeOutcome (geometryAt ws) ws (refused (suc n))
-]
+deleteOf ws k =
+    let g = geometryAt ws in
+    changeOutcome g ws (elim (eqb (reasonOf ws) 0) [ true ↦ delete g (storeAt g ws) k | false ↦ refused (reasonOf ws) ])

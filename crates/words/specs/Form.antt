@@ -1,17 +1,17 @@
 -- Document 01, "Form check" and "Why a call is turned down".
-use Prim.Native.Nat.{ℕ, zero, suc, _+_, _-_, _*_, _/_, _%_, _^_, _<_, _≤_}
-use mathlib.Core.Bool.{Bool, true, false, not, _&&_, _||_}
-use mathlib.Core.List.{List, [], _∷_, _++_, map}
+use Prim.Native.Nat.{ℕ, zero, suc, _+_, _^_}
+use mathlib.Core.Bool.{Bool, true, false, not, _&&_}
+use mathlib.Core.List.{List, [], _∷_, _++_}
 use lib.Dec.{leb, ltb, eqb}
-use lib.ListN.{length, take, drop, getD}
+use lib.ListN.{length, drop}
 use Rattle.geometry.specs.declared.Geometry.{Geometry}
 use Rattle.geometry.specs.Geometry.{within, capacityOf, topCapacityOf, keyLimitOf, marksStart, sizeReason}
 use Rattle.levels.specs.Basics.{if_then_else_, all}
-use Rattle.levels.specs.Record.{Rec, Level, records, rising, hasTombstone, cleanTombstones}
+use Rattle.levels.specs.Record.{Rec, records, rising, hasTombstone, cleanTombstones}
 use Rattle.levels.specs.Map.{liveCount}
 use Rattle.levels.specs.Waste.{pairRule, needsCompact}
 use Rattle.levels.specs.Place.{distinct}
-use Rattle.levels.specs.Store.{Store, rows}
+use Rattle.levels.specs.Store.{rows}
 use Rattle.words.specs.Layout.{word, geometryAt, liveAt, cursorAt, topCountAt, countAt, topSlots, listAt, listedAt, recordCount, markWordAt, blockSlots, levelAt, each, storeAt}
 
 -- a test of every level 1 to h
@@ -35,7 +35,10 @@ isZero n = eqb n 0
 
 -- "live is the number of keys of the map and at most N"
 unfoldable pub liveExact : Geometry → List ℕ → Bool
-liveExact g ws = eqb (liveAt ws) (liveCount (rows (storeAt g ws))) && leb (liveAt ws) (keyLimitOf g)
+liveExact g ws = eqb (liveAt ws) (liveCount (rows (storeAt g ws)))
+
+unfoldable pub liveFits : Geometry → List ℕ → Bool
+liveFits g ws = leb (liveAt ws) (keyLimitOf g)
 
 -- "hand is below P; c is at most K(0)×B"
 unfoldable pub cursorInside : Geometry → List ℕ → Bool
@@ -85,31 +88,40 @@ blocksUnusedZero g ws =
 unfoldable pub tombstonesClean : Geometry → List ℕ → Bool
 tombstonesClean g ws = all cleanTombstones (rows (storeAt g ws))
 
--- "every level from 1 on keeps both waste rules"
-unfoldable pub wasteKept : Geometry → List ℕ → Bool
-wasteKept g ws = everyLevel g (λ i. pairRule (g .b) (levelAt g ws i) && not (needsCompact (g .b) (levelAt g ws i)))
+-- "every level from 1 on keeps both waste rules": the pair rule, and the level rule
+unfoldable pub pairsKept : Geometry → List ℕ → Bool
+pairsKept g ws = everyLevel g (λ i. pairRule (g .b) (levelAt g ws i))
 
--- the form check: every clause, in the document's order
-unfoldable pub formed : Geometry → List ℕ → Bool
-formed g ws =
+unfoldable pub levelsKept : Geometry → List ℕ → Bool
+levelsKept g ws = everyLevel g (λ i. not (needsCompact (g .b) (levelAt g ws i)))
+
+-- the clauses of the form check, in the document's order
+unfoldable pub clauses : Geometry → List ℕ → List Bool
+clauses g ws =
     liveExact g ws
-    && (cursorInside g ws
-    && (topFits g ws
-    && (countsFit g ws
-    && (placesInside g ws
-    && (placesOnce g ws
-    && (blocksFilled g ws
-    && (keysRise g ws
-    && (bottomUnmarked g ws
-    && (topUnusedZero g ws
-    && (listsUnusedZero g ws
-    && (blocksUnusedZero g ws
-    && (tombstonesClean g ws
-    && wasteKept g ws))))))))))))
+    ∷ liveFits g ws
+    ∷ cursorInside g ws
+    ∷ topFits g ws
+    ∷ countsFit g ws
+    ∷ placesInside g ws
+    ∷ placesOnce g ws
+    ∷ blocksFilled g ws
+    ∷ keysRise g ws
+    ∷ bottomUnmarked g ws
+    ∷ topUnusedZero g ws
+    ∷ listsUnusedZero g ws
+    ∷ blocksUnusedZero g ws
+    ∷ tombstonesClean g ws
+    ∷ pairsKept g ws
+    ∷ levelsKept g ws
+    ∷ []
+
+-- the form check finds no breach
+unfoldable pub formed : Geometry → List ℕ → Bool
+formed g ws = all (λ (t : Bool). t) (clauses g ws)
 
 -- "Why a call is turned down. In this order": 1 to 3 by the sizes, "4. The form check finds a breach"; 0 for a store that passes
 unfoldable pub reasonOf : List ℕ → ℕ
-reasonOf ws = elim (sizeReason (length ws) (geometryAt ws)) [
-  | zero ↦ elim (formed (geometryAt ws) ws) [ true ↦ 0 | false ↦ 4 ]
-  | suc n ↦ suc n
-]
+reasonOf ws =
+    let r = sizeReason (length ws) (geometryAt ws) in
+    elim (eqb r 0) [ true ↦ elim (formed (geometryAt ws) ws) [ true ↦ 0 | false ↦ 4 ] | false ↦ r ]

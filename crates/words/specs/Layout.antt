@@ -1,12 +1,12 @@
 -- Document 01, "Layout of the lent store": where the words of a store stand, and what they say.
-use Prim.Native.Nat.{ℕ, zero, suc, _+_, _-_, _*_, _/_, _%_, _^_, _<_, _≤_}
-use mathlib.Core.Bool.{Bool, true, false, not, _&&_, _||_}
+use Prim.Native.Nat.{ℕ, zero, suc, _+_, _-_, _*_, _/_, _%_}
+use mathlib.Core.Bool.{Bool, true, false}
 use mathlib.Core.List.{List, [], _∷_, _++_, map, foldl}
-use mathlib.Core.Option.{Option, none, some}
-use lib.Dec.{leb, ltb, eqb}
+use mathlib.Core.Option.{none, some}
+use lib.Dec.{eqb}
 use lib.ListN.{length, take, drop, getD, replicate}
 use Rattle.geometry.specs.declared.Geometry.{Geometry}
-use Rattle.geometry.specs.Geometry.{capacityOf, topCapacityOf, marksStart, keysStart, paysStart, listStart, placesStart, placeStart, blockWidth, storeLength}
+use Rattle.geometry.specs.Geometry.{capacityOf, topCapacityOf, marksStart, keysStart, paysStart, listStart, placesStart, placeStart, blockWidth}
 use Rattle.levels.specs.Record.{Rec, Block, Level, pages}
 use Rattle.levels.specs.Store.{Store}
 

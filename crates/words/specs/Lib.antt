@@ -1,4 +1,5 @@
 pub mod Layout
 pub mod Form
 pub mod Calls
+pub mod Bench
 pub mod Figures
