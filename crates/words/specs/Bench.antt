@@ -4,6 +4,7 @@ use Prim.Native.String.{String}
 use mathlib.Core.Bool.{Bool, false, not, _&&_, _||_}
 use mathlib.Core.List.{List, [], _∷_, _++_}
 use lib.Dec.{eqb}
+use lib.ListN.{replicate}
 use Rattle.geometry.specs.declared.Geometry.{Geometry}
 use Rattle.geometry.specs.Geometry.{
   capacityOf,
@@ -143,3 +144,15 @@ holds c =
 unfoldable pub failing : List Case → List String
 failing [] = []
 failing (c ∷ cs) = if holds c then failing cs else (c .text ∷ failing cs)
+
+-- words written as counts and values
+abbrev pub expand : List ℕ → List ℕ
+expand [] = []
+expand (n ∷ []) = []
+expand (n ∷ v ∷ xs) = replicate n v ++ expand xs
+
+-- these calls, one after the other on these words, give these answers and leave these words
+unfoldable pub agrees : List ℕ → List Act → List (List ℕ) → List ℕ → Bool
+agrees ws [] ns end = sameNumbers ws end
+agrees ws (a ∷ as′) [] end = false
+agrees ws (a ∷ as′) (n ∷ ns) end = let o = perform ws a in sameNumbers (o .answer) n && agrees (o .words) as′ ns end

@@ -1,0 +1,287 @@
+//! "Calls" and "Why a call is turned down" of document 01. Each call takes a
+//! slice of words of any length and content; a refused call changes no word.
+
+use crate::block::Record;
+use crate::form::checked;
+use crate::geometry::Geometry;
+use crate::layout::{COUNTS, CURSOR, HEADER, LIVE, MOST_LEVELS};
+use crate::level::View;
+use crate::work::{Merge, Work};
+
+/// The answer of format: refusal number or 0, and N ("the answer has only the
+/// number and zeros" when refused).
+#[derive(Clone, Copy, Debug, Default, PartialEq, Eq)]
+pub struct Formatted {
+    pub refusal: u32,
+    pub limit: u32,
+}
+
+/// The answer of look up.
+#[derive(Clone, Copy, Debug, Default, PartialEq, Eq)]
+pub struct Found {
+    pub refusal: u32,
+    pub found: bool,
+    pub payload: u32,
+}
+
+/// The answer of next.
+#[derive(Clone, Copy, Debug, Default, PartialEq, Eq)]
+pub struct Next {
+    pub refusal: u32,
+    pub found: bool,
+    pub key: u32,
+    pub payload: u32,
+}
+
+/// What put and delete answer for one level.
+#[derive(Clone, Copy, Debug, Default, PartialEq, Eq)]
+pub struct Counts {
+    /// Merges into the level.
+    pub merges: u32,
+    /// Blocks written by these merges.
+    pub merge_writes: u32,
+    /// Blocks written compacting the level.
+    pub compaction_writes: u32,
+}
+
+/// The answer of put and delete; `levels[i − 1]` is for level i.
+#[derive(Clone, Copy, Debug, Default, PartialEq, Eq)]
+pub struct Changed {
+    pub refusal: u32,
+    /// Whether the key was live before the call.
+    pub live_before: bool,
+    pub levels: [Counts; MOST_LEVELS],
+}
+
+/// Format: "every word 0 but the six of the geometry and hand = P − 1; answers
+/// N." Refusals 1, 2, 3 in this order, whatever the old words are (reading 17).
+pub fn format(words: &mut [u32], numbers: [u32; 6]) -> Formatted {
+    let refused = |refusal| Formatted { refusal, limit: 0 };
+    if words.len() < HEADER {
+        return refused(1);
+    }
+    let Some(geometry) = Geometry::new(numbers) else {
+        return refused(2);
+    };
+    if words.len() != geometry.length() {
+        return refused(3);
+    }
+    words.fill(0);
+    words[..6].copy_from_slice(&numbers);
+    words[CURSOR] = geometry.slots() as u32 - 1;
+    Formatted {
+        refusal: 0,
+        limit: geometry.key_limit() as u32,
+    }
+}
+
+/// Check: "the reason 1 to 4 that a store is turned down for, or 0."
+pub fn check(words: &[u32]) -> u32 {
+    checked(words).err().unwrap_or(0)
+}
+
+/// Look up k: "the first level from 0 down that has k decides; a mark or no record
+/// is absent."
+pub fn look_up(words: &[u32], key: u32) -> Found {
+    match checked(words) {
+        Err(refusal) => Found {
+            refusal,
+            ..Found::default()
+        },
+        Ok(view) => match view.look_up(key) {
+            Some(payload) => Found {
+                refusal: 0,
+                found: true,
+                payload,
+            },
+            None => Found::default(),
+        },
+    }
+}
+
+/// Next k: "the smallest live key at or above k with its payload, or none."
+pub fn next(words: &[u32], key: u32) -> Next {
+    let view = match checked(words) {
+        Err(refusal) => {
+            return Next {
+                refusal,
+                ..Next::default()
+            }
+        }
+        Ok(view) => view,
+    };
+    match view.newest_from(key).find(|record| !record.tombstone) {
+        Some(Record { key, payload, .. }) => Next {
+            refusal: 0,
+            found: true,
+            key,
+            payload,
+        },
+        None => Next::default(),
+    }
+}
+
+/// Show i, k: "of level i, 1 to h, the words of the block whose first to last key
+/// encloses k, given back as that part of the lent store; an empty part if there
+/// is none, i is another number or the store is turned down." (Reading 20.)
+pub fn show(words: &[u32], level: u32, key: u32) -> &[u32] {
+    let Ok(view) = checked(words) else {
+        return &words[..0];
+    };
+    let level = level as usize;
+    if level < 1 || level > view.geometry.levels() {
+        return &words[..0];
+    }
+    let slot = view.list(level).get(view.first_block(level, key));
+    match slot.map(|&slot| view.slot(slot)) {
+        Some(slot) if slot.span().first <= key => slot.words(),
+        _ => &words[..0],
+    }
+}
+
+/// Put k, v.
+pub fn put(words: &mut [u32], key: u32, payload: u32) -> Changed {
+    put_listed(words, key, payload).0
+}
+
+/// Delete k.
+pub fn delete(words: &mut [u32], key: u32) -> Changed {
+    delete_listed(words, key).0
+}
+
+/// Put k, v, with the list of the call's merges: "a key found in level 0 is
+/// overwritten there; otherwise, if c = K(0)×B, level 0 is merged first, then the
+/// record goes in. The answer says if k was live." Refusal 5: "A put has a key
+/// not in the map while live = N."
+pub fn put_listed(words: &mut [u32], key: u32, payload: u32) -> (Changed, Vec<Merge>) {
+    let view = match checked(words) {
+        Err(refusal) => return refused(refusal),
+        Ok(view) => view,
+    };
+    let live_before = view.look_up(key).is_some();
+    if !live_before && view.live() == view.geometry.key_limit() {
+        return refused(5);
+    }
+    let live = view.live() + usize::from(!live_before);
+    let merges = enter(
+        words,
+        Record {
+            key,
+            payload,
+            tombstone: false,
+        },
+    );
+    words[LIVE] = live as u32;
+    (answer(live_before, &merges), merges)
+}
+
+/// Delete k, with the list of the call's merges: "absent means no change and the
+/// answer absent; otherwise as put, with a mark."
+pub fn delete_listed(words: &mut [u32], key: u32) -> (Changed, Vec<Merge>) {
+    let view = match checked(words) {
+        Err(refusal) => return refused(refusal),
+        Ok(view) => view,
+    };
+    if view.look_up(key).is_none() {
+        return (Changed::default(), Vec::new());
+    }
+    let live = view.live() - 1;
+    let merges = enter(
+        words,
+        Record {
+            key,
+            payload: 0,
+            tombstone: true,
+        },
+    );
+    words[LIVE] = live as u32;
+    (answer(true, &merges), merges)
+}
+
+/// A refused put or delete: the number, zeros and the empty list.
+fn refused(refusal: u32) -> (Changed, Vec<Merge>) {
+    (
+        Changed {
+            refusal,
+            ..Changed::default()
+        },
+        Vec::new(),
+    )
+}
+
+/// The answer to an accepted put or delete, with the counts of its merges.
+fn answer(live_before: bool, merges: &[Merge]) -> Changed {
+    let mut levels = [Counts::default(); MOST_LEVELS];
+    for merge in merges {
+        let counts = &mut levels[merge.upper];
+        counts.merges += 1;
+        counts.merge_writes += merge.writes() as u32;
+        for compaction in &merge.compactions {
+            levels[compaction.level - 1].compaction_writes += compaction.writes() as u32;
+        }
+    }
+    Changed {
+        refusal: 0,
+        live_before,
+        levels,
+    }
+}
+
+/// Enters the call's record in level 0 of a store that passed the form check:
+/// overwritten where the key is found, otherwise after the merges of a full level.
+fn enter(words: &mut [u32], record: Record) -> Vec<Merge> {
+    let Ok(view) = View::of(words) else {
+        return Vec::new();
+    };
+    let geometry = view.geometry;
+    if let Ok(index) = view.zero_search(record.key) {
+        set_zero(geometry, words, index, record);
+        return Vec::new();
+    }
+    let mut merges = Vec::new();
+    if view.count(0) == geometry.level_zero_records() {
+        if let Some(mut work) = Work::open(words) {
+            merges = work.merge_all();
+            work.close();
+        }
+    }
+    insert_zero(geometry, words, record);
+    merges
+}
+
+/// Puts a new key into level 0, which has room; the records above it move on.
+fn insert_zero(geometry: Geometry, words: &mut [u32], record: Record) {
+    let view = View { geometry, words };
+    let (count, b) = (view.count(0), geometry.block());
+    let index = view.zero_search(record.key).unwrap_or_else(|at| at);
+    for at in [geometry.keys_at(), geometry.payloads_at()] {
+        words.copy_within(at + index..at + count, at + index + 1);
+    }
+    let tombstones = &mut words[geometry.tombstones_at()..geometry.keys_at()];
+    shift_bits(tombstones, b, index);
+    words[COUNTS] = count as u32 + 1;
+    set_zero(geometry, words, index, record);
+}
+
+/// Moves the tombstone bits of level 0 from record `index` on up by one record;
+/// the last bit of a page becomes the first of the next one.
+fn shift_bits(tombstones: &mut [u32], b: usize, index: usize) {
+    let low = (1u32 << (index % b)) - 1;
+    let mut carried = 0;
+    for (page, word) in tombstones.iter_mut().enumerate().skip(index / b) {
+        let kept = if page == index / b { *word & low } else { 0 };
+        let shifted = (*word - kept) << 1;
+        *word = kept | shifted & ((1 << b) - 1) | carried;
+        carried = shifted >> b & 1;
+    }
+}
+
+/// Writes record number `index` of level 0 with its tombstone bit.
+fn set_zero(geometry: Geometry, words: &mut [u32], index: usize, record: Record) {
+    let b = geometry.block();
+    let tombstones = &mut words[geometry.tombstones_at() + index / b];
+    *tombstones &= !(1 << (index % b));
+    *tombstones |= u32::from(record.tombstone) << (index % b);
+    words[geometry.keys_at() + index] = record.key;
+    words[geometry.payloads_at() + index] = record.payload;
+}

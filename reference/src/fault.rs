@@ -1,0 +1,45 @@
+//! A switch for wrong variants, in test builds only: the tests show with it that
+//! they are able to fail. Elsewhere it is always off.
+
+/// Wrong variants; the first three are from "Errors in the trade".
+#[derive(Clone, Copy, Debug, PartialEq, Eq)]
+pub enum Fault {
+    /// A tombstone and a put below it both vanish in a middle level.
+    CancelInMiddle,
+    /// A block with tombstones is reused in level h.
+    ReuseTombstonesAtBottom,
+    /// The pair rule is tested only for a buffer that is not empty.
+    PairRuleOnlyForBuffer,
+    /// Of equal runs the one with the highest keys is taken.
+    HighestOfEquals,
+    /// Step 2 leaves its two neighbours as they are.
+    NoJoinAbove,
+    /// Slots of X and Y are taken anew before the merge has ended.
+    SlotsFreeTooSoon,
+    /// Step 5 leaves out level i.
+    NoCompactionAbove,
+}
+
+#[cfg(test)]
+thread_local! {
+    static FAULT: std::cell::Cell<Option<Fault>> = const { std::cell::Cell::new(None) };
+}
+
+/// Turns a wrong variant on for this thread, or all of them off.
+#[cfg(test)]
+pub fn set(fault: Option<Fault>) {
+    FAULT.with(|cell| cell.set(fault));
+}
+
+/// Whether this wrong variant is on.
+#[cfg(test)]
+pub fn is(fault: Fault) -> bool {
+    FAULT.with(|cell| cell.get()) == Some(fault)
+}
+
+/// Whether this wrong variant is on: never outside the tests.
+#[cfg(not(test))]
+#[inline]
+pub fn is(_: Fault) -> bool {
+    false
+}

@@ -1,0 +1,29 @@
+//! The reference implementation of the flash record store of document 01
+//! ("The record store of a brake tester console"), written from that document
+//! and the list of readings alone. It is plain on purpose: it is the other side
+//! of a comparison. Standard library only.
+//!
+//! Words of this code and of document 01: a *tombstone* is the document's delete
+//! mark, a *slot* is its place, the *allocation cursor* is its hand, a
+//! *compaction* is its compacting. Run, overlap, level, block and live are the
+//! document's own.
+
+#![forbid(unsafe_code)]
+
+pub mod block;
+pub mod calls;
+pub mod choose;
+mod fault;
+pub mod form;
+pub mod generate;
+pub mod geometry;
+pub mod layout;
+pub mod level;
+pub mod merge;
+pub mod random;
+pub mod script;
+pub mod unreachable;
+pub mod work;
+
+#[cfg(test)]
+mod tests;

@@ -1,0 +1,83 @@
+//! The tests. The random ones take their seed from REFERENCE_SEED, or 1, and
+//! print it.
+
+mod checker;
+mod damage;
+mod faults;
+mod figures;
+mod geometry;
+mod lists;
+mod refusals;
+mod scripts;
+mod steps;
+
+use crate::block::{write_slot, Record};
+use crate::geometry::Geometry;
+use crate::layout::{COUNTS, CURSOR, LIVE};
+use crate::level::View;
+
+/// The seed of the random tests.
+fn seed() -> u64 {
+    let seed = std::env::var("REFERENCE_SEED")
+        .ok()
+        .and_then(|text| text.parse().ok())
+        .unwrap_or(1);
+    println!("REFERENCE_SEED={seed}");
+    seed
+}
+
+/// A put record.
+fn set(key: u32, payload: u32) -> Record {
+    Record {
+        key,
+        payload,
+        tombstone: false,
+    }
+}
+
+/// A tombstone.
+fn tomb(key: u32) -> Record {
+    Record {
+        key,
+        payload: 0,
+        tombstone: true,
+    }
+}
+
+/// Put records with payloads that tell their origin.
+fn sets(keys: &[u32], origin: u32) -> Vec<Record> {
+    keys.iter()
+        .map(|&key| set(key, 1000 * origin + key))
+        .collect()
+}
+
+/// A store with these records in level 0 and these blocks in the levels on flash,
+/// at slots 5, 6, 7 .., whatever the form check says of it; live is counted.
+fn build(numbers: [u32; 6], zero: &[Record], levels: &[&[Vec<Record>]]) -> Vec<u32> {
+    let geometry = Geometry::new(numbers).expect("a legal geometry");
+    let mut words = vec![0; geometry.length()];
+    words[..6].copy_from_slice(&numbers);
+    words[CURSOR] = 3;
+    words[COUNTS] = zero.len() as u32;
+    for (index, record) in zero.iter().enumerate() {
+        let (page, bit) = (index / geometry.block(), index % geometry.block());
+        words[geometry.tombstones_at() + page] |= u32::from(record.tombstone) << bit;
+        words[geometry.keys_at() + index] = record.key;
+        words[geometry.payloads_at() + index] = record.payload;
+    }
+    let mut slot = 5;
+    for (level, blocks) in (1..).zip(levels) {
+        words[COUNTS + level] = blocks.len() as u32;
+        for (index, records) in blocks.iter().enumerate() {
+            write_slot(geometry, &mut words, slot, records);
+            words[geometry.list_at(level) + index] = slot;
+            slot += 1;
+        }
+    }
+    words[LIVE] = View {
+        geometry,
+        words: &words,
+    }
+    .count_live() as u32;
+    words
+}
