@@ -144,9 +144,9 @@ sized-opened ws g v e l =
 pub ready-reason : (ws : List ℕ) (g : Geometry) → openedOf ws ≡ Ready g → reasonOf ws ≡ (if formed g ws then 0 else 4)
 unfolding reasonOf
 ready-reason ws g e =
-    rw ((opened-ready ws g e) .geometry, eq-eqb _ 0 (opened-none ws g e), reasonOf) (either (formed (geometryAt ws) ws))
+    rw ((opened-ready ws g e) .geometry, eq-eqb (sizeReason (length ws) (geometryAt ws)) 0 (opened-none ws g e), reasonOf) (either (formed (geometryAt ws) ws))
   where
-    either : (t : Bool) → elim t [ true ↦ 0 | false ↦ 4 ] ≡ (if t then 0 else 4)
+    either : (t : Bool) → _≡_ {A = ℕ} (elim t [ true ↦ 0 | false ↦ 4 ]) (if t then 0 else 4)
     either true = refl
     either false = refl
 
@@ -154,4 +154,4 @@ ready-reason ws g e =
 pub refused-reason : (ws : List ℕ) (n : ℕ) → openedOf ws ≡ Refused n → reasonOf ws ≡ n
 unfolding reasonOf
 refused-reason ws n e =
-    let k = opened-refused ws n e in rw (ne-eqb _ 0 (λ z. absurd (omega arith)), reasonOf) (k .0)
+    let k = opened-refused ws n e in rw (ne-eqb (sizeReason (length ws) (geometryAt ws)) 0 (λ z. omega arith), reasonOf) (k .0)

@@ -32,9 +32,8 @@ pub fn fit(n: usize, b: u32, w: u32, d: u32, g: u32, h: u32, p: u32) -> Opened
 pub fn open(s: &[u32]) -> Opened
     ensures { λ r. ⌜ r ≡ openedOf (now (s .entry)) ⌝ }
 {
-    let n = s.len();
-    if n < 12 {
+    if s.len() < 12 {
         return Opened::Refused(1);
     }
-    fit(n, s[0], s[1], s[2], s[3], s[4], s[5])
+    fit(s.len(), s[0], s[1], s[2], s[3], s[4], s[5])
 }
