@@ -1,6 +1,6 @@
 -- Format: what it writes, and that this is the empty store.
 use Prim.Native.Nat.{ℕ, zero, suc, _+_, _-_, _*_, _≤_, _<_}
-use mathlib.Core.Path.{_≡_, refl, sym, ap, _∙_}
+use mathlib.Core.Path.{_≡_, refl, sym, ap, subst, _∙_}
 use mathlib.Core.List.{List, [], _∷_, _++_}
 use native.Mathlib.Nat.{mul-le-mul}
 use native.Mathlib.Omega.{arith}
@@ -8,7 +8,7 @@ use lib.ListN.{length, replicate}
 use borrow.Author.Tests.{eq-eqb, ne-eqb}
 use Rattle.geometry.specs.declared.Geometry.{Geometry}
 use Rattle.geometry.specs.Geometry.{Valid, keyLimitOf, sizeReason}
-use Rattle.geometry.proofs.Laws.{key-limit-high}
+use Rattle.geometry.proofs.Laws.{key-limit-high, store-length-low}
 use Rattle.words.specs.Calls.{formatWords, formatOf}
 use Rattle.entry.specs.declared.Opened.the-variants.{Ready, Refused}
 use Rattle.entry.specs.Entry.{fitOf}
@@ -19,7 +19,8 @@ use Rattle.store.specs.Format.{headed}
 pub cleared-headed : (g : Geometry) (n : ℕ) → 8 ≤ n → headed (replicate n 0) g ≡ formatWords g n
 unfolding headed formatWords
 cleared-headed g n h =
-    let e : suc (suc (suc (suc (suc (suc (suc (suc (n - 8)))))))) ≡ n = omega arith in rw e at (go (n - 8))
+    let e : suc (suc (suc (suc (suc (suc (suc (suc (n - 8)))))))) ≡ n = omega arith in
+    subst (λ (k : ℕ). headed (replicate k 0) g ≡ formatWords g k) e (go (n - 8))
   where
     go : (m : ℕ) → headed (replicate (suc (suc (suc (suc (suc (suc (suc (suc m)))))))) 0) g ≡ formatWords g (suc (suc (suc (suc (suc (suc (suc (suc m))))))))
     go m = let e : suc (suc (suc (suc (suc (suc (suc (suc m))))))) - 8 ≡ m = omega arith in rw e
@@ -41,3 +42,10 @@ unfolding formatOf
 format-done ws s g e =
     let k = fitted-ready (length ws) s g e in
     rw (eq-eqb (sizeReason (length ws) s) 0 (k .1 .1 .1), formatOf, k .0)
+
+-- a store that fits has room for the words that format writes, and a place for hand to stand at
+pub fitted-room : (n : ℕ) (s g : Geometry) → fitOf n s ≡ Ready g → (8 ≤ n) × (1 ≤ s .p)
+fitted-room n s g e =
+    let k = fitted-ready n s g e in
+    let v = k .1 .0 in
+    (omega (arith, k .1 .1 .0, store-length-low g v), rw (← k .0) (omega (arith, v .places-low)))

@@ -1,3 +1,7 @@
+use native.Mathlib.Omega.{arith}
+use mathlib.Core.Path.{_≡_, sym, _∙_}
+use Rattle.entry.proofs.Laws.{fitted-ready}
+use Rattle.store.proofs.Laws.{cleared-headed, format-refused, format-done, fitted-room}
 use borrow.Author.Needs.{needs}
 use Rattle.store.proofs.format.Statement.{statement}
 use Rattle.store.proofs.format.Tie as tie
@@ -8,41 +12,34 @@ use Rattle.store.proofs.clear.Reads as clear-reads
 use Rattle.store.proofs.limit.Reads as limit-reads
 use Rattle.store.proofs.put_header.Reads as put-header-reads
 
--- src/lib.rt:26:11
 fit-requires : tie.Need-fit-requires
 fit-requires c κs = search needs
 
--- src/lib.rt:27:25
 enum-known-n : tie.Need-enum-known-n
 enum-known-n c = search needs
 
--- src/lib.rt:28:23
 enum-known-t : tie.Need-enum-known-t
 enum-known-t c = search needs
 
--- src/lib.rt:29:13
 clear-requires : tie.Need-clear-requires
 clear-requires c κs = search needs
 
--- src/lib.rt:30:13
 put-header-requires : tie.Need-put-header-requires
-put-header-requires c κs = ?
+put-header-requires c κs = let k = fitted-room _ _ _ (sym (c .before .before .before .before .before .before .before .before .fit .ensures) ∙ c .before .before .before .before .before .before .t .given .1) in (omega (arith, k .0, c .before .before .before .clear .kept .0), k .1)
 
--- src/lib.rt:31:29
 limit-requires : tie.Need-limit-requires
-limit-requires c κs = ?
+limit-requires c κs = fitted-ready _ _ _ (sym (c .before .before .before .before .before .before .before .before .before .before .before .fit .ensures) ∙ c .before .before .before .before .before .before .before .before .before .t .given .1) .1 .0
 
--- src/lib.rt:20:1
 returns : tie.Need-returns
-returns c = ?
+returns c = sym (format-refused _ _ _ (sym (c .before .before .before .fit .ensures) ∙ c .before .n .given .1))
 
--- src/lib.rt:20:1
 same-length : tie.Need-same-length
 same-length c = search needs
 
--- src/lib.rt:20:1
 returns-2 : tie.Need-returns-2
-returns-2 c = ?
+returns-2 c =
+    let e = sym (c .before .before .before .before .before .before .before .before .before .before .before .before .fit .ensures) ∙ c .before .before .before .before .before .before .before .before .before .before .t .given .1 in
+    rw (c .limit .ensures, c .before .before .before .put-header .ensures, c .before .before .before .before .before .before .before .clear .ensures, cleared-headed _ _ (fitted-room _ _ _ e .0)) (sym (format-done _ _ _ e))
 
 pub format-spec : {M : Type 1} → statement M
 format-spec =
