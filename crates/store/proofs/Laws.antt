@@ -1,19 +1,28 @@
 -- Format: what it writes, and that this is the empty store.
-use Prim.Native.Nat.{ℕ, zero, suc, _+_, _-_, _*_, _≤_, _<_}
+use Prim.Native.Nat.{ℕ, zero, suc, _+_, _-_, _*_, _^_, _≤_, _<_}
 use mathlib.Core.Path.{_≡_, refl, sym, ap, subst, _∙_}
+use mathlib.Core.Bool.{true, not}
 use mathlib.Core.List.{List, [], _∷_, _++_}
-use native.Mathlib.Nat.{mul-le-mul}
+use native.Mathlib.Nat.{mul-le-mul, one-le-pow}
 use native.Mathlib.Omega.{arith}
-use lib.ListN.{length, replicate}
-use borrow.Author.Tests.{eq-eqb, ne-eqb}
+use lib.Dec.{leb, ltb}
+use lib.ListN.{length, drop, replicate, length-replicate}
+use borrow.Author.Tests.{lt-ltb, le-ltb, le-leb, eq-eqb, ne-eqb}
 use Rattle.geometry.specs.declared.Geometry.{Geometry}
-use Rattle.geometry.specs.Geometry.{Valid, keyLimitOf, sizeReason}
+use Rattle.geometry.specs.Geometry.{Valid, capacityOf, keyLimitOf, topCapacityOf, marksStart, keysStart, paysStart, listStart, storeLength, sizeReason}
 use Rattle.geometry.proofs.Laws.{key-limit-high, store-length-low}
+use Rattle.levels.specs.Basics.{if_then_else_, all, ceilDiv}
+use Rattle.levels.specs.Map.{overlay, view, unmarked, mapOf, liveCount}
+use Rattle.levels.specs.Waste.{pairRule, needsCompact}
+use Rattle.levels.specs.Store.{emptyStore, rows}
+use Rattle.words.specs.Layout.{word, countAt, topSlots, topRecs, listAt, listedAt, levelAt, each, storeAt}
+use Rattle.words.specs.Form.{isZero, listedPlaces, liveExact, liveFits, cursorInside, topFits, countsFit, placesInside, placesOnce, blocksFilled, keysRise, bottomUnmarked, topUnusedZero, listsUnusedZero, blocksUnusedZero, tombstonesClean, pairsKept, levelsKept, clauses, formed, reasonOf}
 use Rattle.words.specs.Calls.{formatWords, formatOf}
 use Rattle.entry.specs.declared.Opened.the-variants.{Ready, Refused}
 use Rattle.entry.specs.Entry.{fitOf}
-use Rattle.entry.proofs.Laws.{fitted-ready, fitted-refused}
+use Rattle.entry.proofs.Laws.{fitted-ready, fitted-refused, sized-opened, ready-reason}
 use Rattle.store.specs.Format.{headed}
+use Rattle.store.proofs.Zeros.{ZeroFrom, zeros-word, zeros-drop, zeros-take, all-each, pages-blank, none-view, none-rising, none-clean}
 
 -- "every word 0 but the six of the geometry and hand = P − 1"
 pub cleared-headed : (g : Geometry) (n : ℕ) → 8 ≤ n → headed (replicate n 0) g ≡ formatWords g n
@@ -49,3 +58,132 @@ fitted-room n s g e =
     let k = fitted-ready n s g e in
     let v = k .1 .0 in
     (omega (arith, k .1 .1 .0, store-length-low g v), rw (← k .0) (omega (arith, v .places-low)))
+
+-- The freshly formatted store.
+
+-- format keeps the number of words
+pub fresh-length : (g : Geometry) (n : ℕ) → 8 ≤ n → length (formatWords g n) ≡ n
+unfolding formatWords
+fresh-length g n h = rw (length-replicate {A = ℕ} (n - 8) 0) (omega arith)
+
+-- "every word 0 but the six of the geometry and hand"
+pub fresh-zero : (g : Geometry) (n : ℕ) → ZeroFrom 8 (formatWords g n)
+unfolding formatWords
+fresh-zero g n i h =
+    let e : suc (suc (suc (suc (suc (suc (suc (suc (i - 8)))))))) ≡ i = omega arith in
+    subst (λ (k : ℕ). word (formatWords g n) k ≡ 0) e (zeros-word (n - 8) (i - 8))
+
+pub fresh-drop : (g : Geometry) (n k : ℕ) → 8 ≤ k → drop k (formatWords g n) ≡ replicate (n - k) 0
+unfolding formatWords
+fresh-drop g n k h =
+    let e : suc (suc (suc (suc (suc (suc (suc (suc (k - 8)))))))) ≡ k = omega arith in
+    subst (λ (j : ℕ). drop j (formatWords g n) ≡ replicate (n - j) 0) e (go (k - 8))
+  where
+    go : (m : ℕ) → drop (suc (suc (suc (suc (suc (suc (suc (suc m)))))))) (formatWords g n) ≡ replicate (n - suc (suc (suc (suc (suc (suc (suc (suc m)))))))) 0
+    go m = let e : n - suc (suc (suc (suc (suc (suc (suc (suc m))))))) ≡ n - 8 - m = omega arith in rw e (zeros-drop (n - 8) m)
+
+-- no level lists a block
+pub fresh-level : (g : Geometry) (n i : ℕ) → levelAt g (formatWords g n) i ≡ []
+unfolding levelAt listedAt
+fresh-level g n i = rw (fresh-zero g n (8 + i) (omega arith))
+
+fresh-levels : (g : Geometry) (n i h : ℕ) → each (levelAt g (formatWords g n)) i h ≡ replicate h []
+fresh-levels g n i zero = refl
+fresh-levels g n i (suc h) = rw (fresh-level g n i, fresh-levels g n (suc i) h)
+
+-- what the words say is the empty store
+pub fresh-store : (g : Geometry) (n : ℕ) → storeAt g (formatWords g n) ≡ emptyStore g
+unfolding storeAt emptyStore topRecs formatWords
+fresh-store g n = rw (fresh-zero g n 8 (omega arith), fresh-levels g n 1 (g .h))
+
+-- the map of the empty store is empty
+pub empty-map : (g : Geometry) → mapOf (rows (emptyStore g)) ≡ []
+unfolding emptyStore mapOf view overlay unmarked
+empty-map g = rw (none-view (g .h))
+
+pub fresh-map : (g : Geometry) (n : ℕ) → mapOf (rows (storeAt g (formatWords g n))) ≡ []
+fresh-map g n = rw (fresh-store g n) (empty-map g)
+
+-- The clauses of the form check that are not about nothing.
+fresh-listed : (g : Geometry) (n i h : ℕ) → listedPlaces g (formatWords g n) i h ≡ []
+unfolding listedPlaces listedAt
+fresh-listed g n i zero = refl
+fresh-listed g n i (suc h) = rw (fresh-zero g n (8 + i) (omega arith)) (fresh-listed g n (suc i) h)
+
+fresh-live-exact : (g : Geometry) (n : ℕ) → liveExact g (formatWords g n) ≡ true
+unfolding liveExact liveCount formatWords
+fresh-live-exact g n = rw (fresh-map g n)
+
+fresh-live-fits : (g : Geometry) (n : ℕ) → liveFits g (formatWords g n) ≡ true
+unfolding liveFits formatWords
+fresh-live-fits g n = le-leb 0 (keyLimitOf g) (omega arith)
+
+fresh-cursor : (g : Geometry) (n : ℕ) → Valid g → cursorInside g (formatWords g n) ≡ true
+unfolding cursorInside formatWords
+fresh-cursor g n v = lt-ltb (g .p - 1) (g .p) (omega (arith, v .places-low))
+
+fresh-top : (g : Geometry) (n : ℕ) → topFits g (formatWords g n) ≡ true
+unfolding topFits
+fresh-top g n = rw (fresh-zero g n 8 (omega arith)) (le-leb 0 (topCapacityOf g) (omega arith))
+
+fresh-counts : (g : Geometry) (n : ℕ) → countsFit g (formatWords g n) ≡ true
+unfolding countsFit
+fresh-counts g n = rw (fits 1, fits 2, fits 3)
+  where
+    fits : (i : ℕ) → leb (countAt (formatWords g n) i) (if leb i (g .h) then capacityOf g i else 0) ≡ true
+    fits i = rw (fresh-zero g n (8 + i) (omega arith)) (le-leb 0 (if leb i (g .h) then capacityOf g i else 0) (omega arith))
+
+fresh-rise : (g : Geometry) (n : ℕ) → keysRise g (formatWords g n) ≡ true
+unfolding keysRise emptyStore
+fresh-rise g n = rw (fresh-store g n) (none-rising (g .h))
+
+fresh-bottom : (g : Geometry) (n : ℕ) → bottomUnmarked g (formatWords g n) ≡ true
+unfolding bottomUnmarked
+fresh-bottom g n = rw (fresh-level g n (g .h))
+
+fresh-top-unused : (g : Geometry) (n : ℕ) → topUnusedZero g (formatWords g n) ≡ true
+unfolding topUnusedZero topSlots marksStart
+fresh-top-unused g n =
+    rw (fresh-zero g n 8 (omega arith), pages-blank 8 g (formatWords g n) (fresh-zero g n) (omega arith) 0 (capacityOf g 0))
+    (all-each (λ i. ltb (word (formatWords g n) (marksStart g + i)) (2 ^ g .b)) 0 (capacityOf g 0) mark)
+  where
+    mark : (i : ℕ) → 0 ≤ i → ltb (word (formatWords g n) (marksStart g + i)) (2 ^ g .b) ≡ true
+    mark i h = rw (fresh-zero g n (12 + i) (omega arith)) (lt-ltb 0 (2 ^ g .b) (one-le-pow (g .b) 2 (omega arith)))
+
+fresh-lists-unused : (g : Geometry) (n : ℕ) → listsUnusedZero g (formatWords g n) ≡ true
+unfolding listsUnusedZero listAt listStart paysStart keysStart marksStart
+fresh-lists-unused g n = all-each (λ i. all isZero (drop (countAt (formatWords g n) i) (listAt g (formatWords g n) i))) 1 (g .h) list
+  where
+    list : (i : ℕ) → 1 ≤ i → all isZero (drop (countAt (formatWords g n) i) (listAt g (formatWords g n) i)) ≡ true
+    list i h =
+        rw (fresh-zero g n (8 + i) (omega arith), fresh-drop g n (listStart g i) (omega arith))
+        (zeros-take (n - listStart g i) (capacityOf g i))
+
+fresh-clean : (g : Geometry) (n : ℕ) → tombstonesClean g (formatWords g n) ≡ true
+unfolding tombstonesClean emptyStore
+fresh-clean g n = rw (fresh-store g n) (none-clean (g .h))
+
+fresh-pairs : (g : Geometry) (n : ℕ) → pairsKept g (formatWords g n) ≡ true
+unfolding pairsKept
+fresh-pairs g n =
+    all-each (λ i. pairRule (g .b) (levelAt g (formatWords g n) i)) 1 (g .h) (λ i h. rw (fresh-level g n i))
+
+fresh-kept : (g : Geometry) (n : ℕ) → levelsKept g (formatWords g n) ≡ true
+unfolding levelsKept
+fresh-kept g n =
+    all-each (λ i. not (needsCompact (g .b) (levelAt g (formatWords g n) i))) 1 (g .h)
+    (λ i h. rw (fresh-level g n i, le-ltb (ceilDiv 0 (g .b)) 0 (omega arith)))
+
+-- a formatted store passes the form check
+pub fresh-formed : (g : Geometry) (n : ℕ) → Valid g → formed g (formatWords g n) ≡ true
+unfolding formed clauses placesInside placesOnce blocksFilled blocksUnusedZero
+fresh-formed g n v =
+    rw (fresh-live-exact g n, fresh-live-fits g n, fresh-cursor g n v, fresh-top g n, fresh-counts g n, fresh-listed g n 1 (g .h), fresh-rise g n, fresh-bottom g n, fresh-top-unused g n, fresh-lists-unused g n, fresh-clean g n, fresh-pairs g n, fresh-kept g n)
+
+-- and so no call is turned down on it
+pub fresh-reason : (g : Geometry) → Valid g → reasonOf (formatWords g (storeLength g)) ≡ 0
+unfolding formatWords
+fresh-reason g v =
+    let n = storeLength g in
+    let l = fresh-length g n (omega (arith, store-length-low g v)) in
+    rw (ready-reason (formatWords g n) g (sized-opened (formatWords g n) g v refl l), fresh-formed g n v)

@@ -18,10 +18,8 @@ pub enum Formatted {
 
 // An empty store of this geometry, whatever the words were before.
 pub fn format(s: &mut [u32], b: u32, w: u32, d: u32, g: u32, h: u32, p: u32) -> Formatted
-    ensures {
-        λ r. ⌜ _≡_ {A = Outcome FormatAnswer} (record { answer = formatAnswer r; words = now (s .exit) })
-            (formatOf (now (s .entry)) (record { b = b; w = w; d = d; g = g; h = h; p = p })) ⌝
-    }
+    ensures { λ r. ⌜ _≡_ {A = Outcome FormatAnswer} (record { answer = formatAnswer r; words = now (s .exit) })
+        (formatOf (now (s .entry)) (record { b = b; w = w; d = d; g = g; h = h; p = p })) ⌝ }
 {
     match entry::fit(s.len(), b, w, d, g, h, p) {
         Opened::Refused(n) => Formatted::Refused(n),
