@@ -2,20 +2,21 @@
 use Prim.Native.Nat.{ℕ, zero, suc, _+_, _-_, _*_, _^_, _≤_, _<_}
 use mathlib.Core.Path.{_≡_, refl, sym, ap, subst, _∙_}
 use mathlib.Core.Bool.{true, not}
-use mathlib.Core.List.{List, [], _∷_, _++_}
-use native.Mathlib.Nat.{mul-le-mul, one-le-pow}
+use mathlib.Core.List.{List, [], _∷_, _++_, map}
+use native.Mathlib.Nat.{add-zero, sub-zero, add-sub-cancel, mul-le-mul, one-le-pow}
 use native.Mathlib.Omega.{arith}
 use lib.Dec.{leb, ltb}
-use lib.ListN.{length, drop, replicate, length-replicate}
+use lib.ListN.{length, drop, replicate, length-replicate, replicate-append-replicate}
 use borrow.Author.Tests.{lt-ltb, le-ltb, le-leb, eq-eqb, ne-eqb}
 use Rattle.geometry.specs.declared.Geometry.{Geometry}
-use Rattle.geometry.specs.Geometry.{Valid, capacityOf, keyLimitOf, topCapacityOf, marksStart, keysStart, paysStart, listStart, storeLength, sizeReason}
+use Rattle.geometry.specs.Geometry.{Valid, capacityOf, capacitySum, keyLimitOf, topCapacityOf, marksStart, keysStart, paysStart, listStart, blockWidth, placesStart, placeStart, storeLength, sizeReason}
 use Rattle.geometry.proofs.Laws.{key-limit-high, store-length-low}
 use Rattle.levels.specs.Basics.{if_then_else_, all, ceilDiv}
+use Rattle.levels.specs.Record.{Level}
 use Rattle.levels.specs.Map.{overlay, view, unmarked, mapOf, liveCount}
 use Rattle.levels.specs.Waste.{pairRule, needsCompact}
 use Rattle.levels.specs.Store.{emptyStore, rows}
-use Rattle.words.specs.Layout.{word, countAt, topSlots, topRecs, listAt, listedAt, levelAt, each, storeAt}
+use Rattle.words.specs.Layout.{word, countAt, topSlots, topRecs, listAt, listedAt, levelAt, each, storeAt, pad, headerWords, topWords, listWords, storeWords}
 use Rattle.words.specs.Form.{isZero, listedPlaces, liveExact, liveFits, cursorInside, topFits, countsFit, placesInside, placesOnce, blocksFilled, keysRise, bottomUnmarked, topUnusedZero, listsUnusedZero, blocksUnusedZero, tombstonesClean, pairsKept, levelsKept, clauses, formed, reasonOf}
 use Rattle.words.specs.Calls.{formatWords, formatOf}
 use Rattle.entry.specs.declared.Opened.the-variants.{Ready, Refused}
@@ -187,3 +188,48 @@ fresh-reason g v =
     let n = storeLength g in
     let l = fresh-length g n (omega (arith, store-length-low g v)) in
     rw (ready-reason (formatWords g n) g (sized-opened (formatWords g n) g v refl l), fresh-formed g n v)
+
+-- The words of the empty store, part by part: each is 0s only.
+pad-none : (n : ℕ) → pad n [] ≡ replicate n 0
+pad-none n = rw (sub-zero n)
+
+none-counts : (h : ℕ) → map {B = ℕ} (λ (l : Level). length l) (replicate h []) ≡ replicate h 0
+none-counts zero = refl
+none-counts (suc h) = ap (λ (t : List ℕ). 0 ∷ t) (none-counts h)
+
+-- "the block counts of levels 1, 2, 3 (zero above h)"
+counts-words : (h : ℕ) → h ≤ 3 → pad 3 (map (λ (l : Level). length l) (replicate h [])) ≡ replicate 3 0
+counts-words h l =
+    let e : h + (3 - h) ≡ 3 = omega arith in
+    rw (none-counts h, length-replicate {A = ℕ} h 0, replicate-append-replicate {A = ℕ} h (3 - h) 0, e)
+
+top-words : (g : Geometry) → topWords g [] ≡ replicate (capacityOf g 0 + (topCapacityOf g + topCapacityOf g)) 0
+unfolding topWords
+top-words g =
+    rw (pad-none (capacityOf g 0), pad-none (topCapacityOf g), replicate-append-replicate {A = ℕ} (topCapacityOf g) (topCapacityOf g) 0)
+    (replicate-append-replicate {A = ℕ} (capacityOf g 0) (topCapacityOf g + topCapacityOf g) 0)
+
+-- the capacities of levels from i on, the first of them taken off
+capacity-sum-first : (g : Geometry) (i n : ℕ) → capacitySum g i (suc n) ≡ capacityOf g i + capacitySum g (suc i) n
+unfolding capacitySum
+capacity-sum-first g i zero = rw (add-zero i) (omega arith)
+capacity-sum-first g i (suc n) = 
+    let e : suc i + n ≡ i + suc n = omega arith in
+    rw (e) (omega (arith, capacity-sum-first g i n))
+
+list-words : (g : Geometry) (i h : ℕ) → listWords g i (replicate h []) ≡ replicate (capacitySum g i h) 0
+unfolding listWords capacitySum
+list-words g i zero = refl
+list-words g i (suc h) =
+    rw (capacity-sum-first g i h, pad-none (capacityOf g i), list-words g (suc i) h)
+    (replicate-append-replicate {A = ℕ} (capacityOf g i) (capacitySum g (suc i) h) 0)
+
+-- format writes the empty store, over places that are 0
+pub fresh-words : (g : Geometry) → Valid g → formatWords g (storeLength g) ≡ storeWords g (emptyStore g) (replicate (g .p * blockWidth g) 0)
+unfolding formatWords storeWords headerWords emptyStore storeLength placeStart placesStart listStart paysStart keysStart marksStart
+fresh-words g v =
+    let top = capacityOf g 0 + (topCapacityOf g + topCapacityOf g) in
+    let lists = capacitySum g 1 (g .h) in
+    let area = g .p * blockWidth g in
+    let e : storeLength g - 8 ≡ suc (suc (suc (suc (top + (lists + area))))) = rw (add-sub-cancel (g .h) 1) (omega arith) in
+    rw (e, counts-words (g .h) (v .ranged .h-high), top-words g, list-words g 1 (g .h), replicate-append-replicate {A = ℕ} lists area 0, replicate-append-replicate {A = ℕ} top (lists + area) 0)
