@@ -1,16 +1,16 @@
--- Format: what it writes, and that this is the empty store.
-use Prim.Native.Nat.{ℕ, zero, suc, _+_, _-_, _*_, _^_, _≤_, _<_}
-use mathlib.Core.Path.{_≡_, refl, sym, ap, subst, _∙_}
+-- Laws of the calls, for whoever uses them. Format: its words are those of the empty store, whose map is empty, and no call is turned down on them.
+use Prim.Native.Nat.{ℕ, zero, suc, _+_, _-_, _*_, _^_, _≤_}
+use mathlib.Core.Path.{_≡_, refl, ap, subst}
 use mathlib.Core.Bool.{true, not}
 use mathlib.Core.List.{List, [], _∷_, _++_, map}
-use native.Mathlib.Nat.{add-zero, sub-zero, add-sub-cancel, mul-le-mul, one-le-pow}
+use native.Mathlib.Nat.{add-zero, sub-zero, add-sub-cancel, one-le-pow}
 use native.Mathlib.Omega.{arith}
 use lib.Dec.{leb, ltb}
 use lib.ListN.{length, drop, replicate, length-replicate, replicate-append-replicate}
-use borrow.Author.Tests.{lt-ltb, le-ltb, le-leb, eq-eqb, ne-eqb}
+use borrow.Author.Tests.{lt-ltb, le-ltb, le-leb}
 use Rattle.geometry.specs.declared.Geometry.{Geometry}
-use Rattle.geometry.specs.Geometry.{Valid, capacityOf, capacitySum, keyLimitOf, topCapacityOf, marksStart, keysStart, paysStart, listStart, blockWidth, placesStart, placeStart, storeLength, sizeReason}
-use Rattle.geometry.proofs.Laws.{key-limit-high, store-length-low}
+use Rattle.geometry.specs.Geometry.{Valid, capacityOf, capacitySum, keyLimitOf, topCapacityOf, marksStart, keysStart, paysStart, listStart, blockWidth, placesStart, placeStart, storeLength}
+use Rattle.geometry.proofs.Laws.{store-length-low}
 use Rattle.levels.specs.Basics.{if_then_else_, all, ceilDiv}
 use Rattle.levels.specs.Record.{Level}
 use Rattle.levels.specs.Map.{overlay, view, unmarked, mapOf, liveCount}
@@ -18,49 +18,9 @@ use Rattle.levels.specs.Waste.{pairRule, needsCompact}
 use Rattle.levels.specs.Store.{emptyStore, rows}
 use Rattle.words.specs.Layout.{word, countAt, topSlots, topRecs, listAt, listedAt, levelAt, each, storeAt, pad, headerWords, topWords, listWords, storeWords}
 use Rattle.words.specs.Form.{isZero, listedPlaces, liveExact, liveFits, cursorInside, topFits, countsFit, placesInside, placesOnce, blocksFilled, keysRise, bottomUnmarked, topUnusedZero, listsUnusedZero, blocksUnusedZero, tombstonesClean, pairsKept, levelsKept, clauses, formed, reasonOf}
-use Rattle.words.specs.Calls.{formatWords, formatOf}
-use Rattle.entry.specs.declared.Opened.the-variants.{Ready, Refused}
-use Rattle.entry.specs.Entry.{fitOf}
-use Rattle.entry.proofs.Laws.{fitted-ready, fitted-refused, sized-opened, ready-reason}
-use Rattle.store.specs.Format.{headed}
-use Rattle.store.proofs.Zeros.{ZeroFrom, zeros-word, zeros-drop, zeros-take, all-each, pages-blank, none-view, none-rising, none-clean}
-
--- "every word 0 but the six of the geometry and hand = P − 1"
-pub cleared-headed : (g : Geometry) (n : ℕ) → 8 ≤ n → headed (replicate n 0) g ≡ formatWords g n
-unfolding headed formatWords
-cleared-headed g n h =
-    let e : suc (suc (suc (suc (suc (suc (suc (suc (n - 8)))))))) ≡ n = omega arith in
-    subst (λ (k : ℕ). headed (replicate k 0) g ≡ formatWords g k) e (go (n - 8))
-  where
-    go : (m : ℕ) → headed (replicate (suc (suc (suc (suc (suc (suc (suc (suc m)))))))) 0) g ≡ formatWords g (suc (suc (suc (suc (suc (suc (suc (suc m))))))))
-    go m = let e : suc (suc (suc (suc (suc (suc (suc (suc m))))))) - 8 ≡ m = omega arith in rw e
-
--- "answers N": N is a word
-pub limit-fits : (g : Geometry) → Valid g → keyLimitOf g < 16384
-limit-fits g v = omega (arith, key-limit-high g v, mul-le-mul (v .ranged .b-high) (v .bottom-high))
-
--- format of words and a geometry that do not fit: "no lent word changes"
-pub format-refused : (ws : List ℕ) (s : Geometry) (n : ℕ) → fitOf (length ws) s ≡ Refused n → formatOf ws s ≡ record { answer = record { reason = n; limit = 0 }; words = ws }
-unfolding formatOf
-format-refused ws s n e =
-    let k = fitted-refused (length ws) s n e in
-    rw (ne-eqb (sizeReason (length ws) s) 0 (λ z. omega arith), formatOf, k .0)
-
--- format of a geometry whose layout has as many words: "answers N"
-pub format-done : (ws : List ℕ) (s g : Geometry) → fitOf (length ws) s ≡ Ready g → formatOf ws s ≡ record { answer = record { reason = 0; limit = keyLimitOf g }; words = formatWords s (length ws) }
-unfolding formatOf
-format-done ws s g e =
-    let k = fitted-ready (length ws) s g e in
-    rw (eq-eqb (sizeReason (length ws) s) 0 (k .1 .1 .1), formatOf, k .0)
-
--- a store that fits has room for the words that format writes, and a place for hand to stand at
-pub fitted-room : (n : ℕ) (s g : Geometry) → fitOf n s ≡ Ready g → (8 ≤ n) × (1 ≤ s .p)
-fitted-room n s g e =
-    let k = fitted-ready n s g e in
-    let v = k .1 .0 in
-    (omega (arith, k .1 .1 .0, store-length-low g v), rw (← k .0) (omega (arith, v .places-low)))
-
--- The freshly formatted store.
+use Rattle.words.specs.Calls.{formatWords}
+use Rattle.entry.proofs.Laws.{sized-opened, ready-reason}
+use Rattle.store.proofs.Zeros.{ZeroFrom, eightMore, eight-more, zeros-word, zeros-drop, zeros-take, all-each, pages-blank, none-view, none-rising, none-clean}
 
 -- format keeps the number of words
 pub fresh-length : (g : Geometry) (n : ℕ) → 8 ≤ n → length (formatWords g n) ≡ n
@@ -70,18 +30,14 @@ fresh-length g n h = rw (length-replicate {A = ℕ} (n - 8) 0) (omega arith)
 -- "every word 0 but the six of the geometry and hand"
 pub fresh-zero : (g : Geometry) (n : ℕ) → ZeroFrom 8 (formatWords g n)
 unfolding formatWords
-fresh-zero g n i h =
-    let e : suc (suc (suc (suc (suc (suc (suc (suc (i - 8)))))))) ≡ i = omega arith in
-    subst (λ (k : ℕ). word (formatWords g n) k ≡ 0) e (zeros-word (n - 8) (i - 8))
+fresh-zero g n i h = subst (λ (k : ℕ). word (formatWords g n) k ≡ 0) (eight-more i h) (zeros-word (n - 8) (i - 8))
 
 pub fresh-drop : (g : Geometry) (n k : ℕ) → 8 ≤ k → drop k (formatWords g n) ≡ replicate (n - k) 0
 unfolding formatWords
-fresh-drop g n k h =
-    let e : suc (suc (suc (suc (suc (suc (suc (suc (k - 8)))))))) ≡ k = omega arith in
-    subst (λ (j : ℕ). drop j (formatWords g n) ≡ replicate (n - j) 0) e (go (k - 8))
+fresh-drop g n k h = subst (λ (j : ℕ). drop j (formatWords g n) ≡ replicate (n - j) 0) (eight-more k h) (go (k - 8))
   where
-    go : (m : ℕ) → drop (suc (suc (suc (suc (suc (suc (suc (suc m)))))))) (formatWords g n) ≡ replicate (n - suc (suc (suc (suc (suc (suc (suc (suc m)))))))) 0
-    go m = let e : n - suc (suc (suc (suc (suc (suc (suc (suc m))))))) ≡ n - 8 - m = omega arith in rw e (zeros-drop (n - 8) m)
+    go : (m : ℕ) → drop (eightMore m) (formatWords g n) ≡ replicate (n - eightMore m) 0
+    go m = let e : n - eightMore m ≡ n - 8 - m = omega arith in rw e (zeros-drop (n - 8) m)
 
 -- no level lists a block
 pub fresh-level : (g : Geometry) (n i : ℕ) → levelAt g (formatWords g n) i ≡ []
@@ -213,7 +169,7 @@ top-words g =
 capacity-sum-first : (g : Geometry) (i n : ℕ) → capacitySum g i (suc n) ≡ capacityOf g i + capacitySum g (suc i) n
 unfolding capacitySum
 capacity-sum-first g i zero = rw (add-zero i) (omega arith)
-capacity-sum-first g i (suc n) = 
+capacity-sum-first g i (suc n) =
     let e : suc i + n ≡ i + suc n = omega arith in
     rw (e) (omega (arith, capacity-sum-first g i n))
 

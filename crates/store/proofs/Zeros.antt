@@ -15,6 +15,13 @@ use Rattle.levels.specs.Map.{overlay, view}
 use Rattle.words.specs.Layout.{word, slotsAt, pageSlots, each}
 use Rattle.words.specs.Form.{blank, isZero}
 
+-- numbers from 8 on, as the lists of words compute with them: 8 words are before the first that format leaves 0
+abbrev pub eightMore : ℕ → ℕ
+eightMore m = suc (suc (suc (suc (suc (suc (suc (suc m)))))))
+
+pub eight-more : (n : ℕ) → 8 ≤ n → eightMore (n - 8) ≡ n
+eight-more n h = omega arith
+
 pub zeros-word : (n i : ℕ) → word (replicate n 0) i ≡ 0
 zeros-word zero i = refl
 zeros-word (suc n) zero = refl

@@ -28,10 +28,17 @@ store-length-requires : tie.Need-store-length-requires
 store-length-requires c κs = built-valid _ _ (sym (c .before .before .before .new .ensures) ∙ c .before .t .given .1) .1
 
 returns-3 : tie.Need-returns-3
-returns-3 c = fit-ready _ _ _ (c .before .before .before .before .before .before .if1 .left) (sym (c .before .before .before .before .before .new .ensures) ∙ c .before .before .before .t .given .1) (c .if2 .taken ∙ c .before .store-length .ensures)
+returns-3 c =
+    let known = c .before .before .before in
+    let new = known .before .before in
+    fit-ready _ _ _ (new .before .if1 .left) (sym (new .new .ensures) ∙ known .t .given .1) (c .if2 .taken ∙ c .before .store-length .ensures)
 
 returns-4 : tie.Need-returns-4
-returns-4 c = fit-other _ _ _ (c .before .before .before .before .before .before .if1 .left) (sym (c .before .before .before .before .before .new .ensures) ∙ c .before .before .before .t .given .1) (λ e. c .if2 .left (e ∙ sym (c .before .store-length .ensures)))
+returns-4 c =
+    let known = c .before .before .before in
+    let new = known .before .before in
+    fit-other _ _ _ (new .before .if1 .left) (sym (new .new .ensures) ∙ known .t .given .1)
+    (λ e. c .if2 .left (e ∙ sym (c .before .store-length .ensures)))
 
 pub fit-spec : {M : Type 1} → statement M
 fit-spec =

@@ -1,7 +1,7 @@
 use native.Mathlib.Omega.{arith}
 use mathlib.Core.Path.{_≡_, sym, _∙_}
 use Rattle.entry.proofs.Laws.{fitted-ready}
-use Rattle.store.proofs.Laws.{cleared-headed, format-refused, format-done, fitted-room}
+use Rattle.store.proofs.Formatting.{cleared-headed, format-refused, format-done, fitted-room}
 use borrow.Author.Needs.{needs}
 use Rattle.store.proofs.format.Statement.{statement}
 use Rattle.store.proofs.format.Tie as tie
@@ -25,10 +25,15 @@ clear-requires : tie.Need-clear-requires
 clear-requires c κs = search needs
 
 put-header-requires : tie.Need-put-header-requires
-put-header-requires c κs = let k = fitted-room _ _ _ (sym (c .before .before .before .before .before .before .before .before .fit .ensures) ∙ c .before .before .before .before .before .before .t .given .1) in (omega (arith, k .0, c .before .before .before .clear .kept .0), k .1)
+put-header-requires c κs =
+    let clear = c .before .before .before in
+    let at = clear .before .before .before in
+    let k = fitted-room _ _ _ (sym (at .before .before .fit .ensures) ∙ at .t .given .1) in
+    (omega (arith, k .0, clear .clear .kept .0), k .1)
 
 limit-requires : tie.Need-limit-requires
-limit-requires c κs = fitted-ready _ _ _ (sym (c .before .before .before .before .before .before .before .before .before .before .before .fit .ensures) ∙ c .before .before .before .before .before .before .before .before .before .t .given .1) .1 .0
+limit-requires c κs =
+    let at = c .before .before .before .before .before .before .before .before .before in fitted-ready _ _ _ (sym (at .before .before .fit .ensures) ∙ at .t .given .1) .1 .0
 
 returns : tie.Need-returns
 returns c = sym (format-refused _ _ _ (sym (c .before .before .before .fit .ensures) ∙ c .before .n .given .1))
@@ -38,8 +43,11 @@ same-length c = search needs
 
 returns-2 : tie.Need-returns-2
 returns-2 c =
-    let e = sym (c .before .before .before .before .before .before .before .before .before .before .before .before .fit .ensures) ∙ c .before .before .before .before .before .before .before .before .before .before .t .given .1 in
-    rw (c .limit .ensures, c .before .before .before .put-header .ensures, c .before .before .before .before .before .before .before .clear .ensures, cleared-headed _ _ (fitted-room _ _ _ e .0)) (sym (format-done _ _ _ e))
+    let header = c .before .before .before in
+    let clear = header .before .before .before .before in
+    let at = clear .before .before .before in
+    let e = sym (at .before .before .fit .ensures) ∙ at .t .given .1 in
+    rw (c .limit .ensures, header .put-header .ensures, clear .clear .ensures, cleared-headed _ _ (fitted-room _ _ _ e .0)) (sym (format-done _ _ _ e))
 
 pub format-spec : {M : Type 1} → statement M
 format-spec =

@@ -1,5 +1,5 @@
 use native.Mathlib.Omega.{arith}
-use Rattle.store.proofs.Laws.{limit-fits}
+use Rattle.store.proofs.Formatting.{limit-fits}
 use borrow.Author.Needs.{needs}
 use Rattle.store.proofs.limit.Statement.{statement}
 use Rattle.store.proofs.limit.Tie as tie
