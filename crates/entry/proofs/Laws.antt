@@ -107,6 +107,11 @@ fitted-ready n s g e =
     let r = size-none n s (k .1) in
     (k .0, (rw (k .0) (r .valid), (rw (k .0) (r .words), k .1)))
 
+-- six numbers that there is no reason to turn down for n words are ready
+pub fitted-none : (n : ℕ) (g : Geometry) → sizeReason n g ≡ 0 → fitOf n g ≡ Ready g
+unfolding fitOf
+fitted-none n g e = rw e
+
 pub fitted-refused : (n : ℕ) (s : Geometry) (m : ℕ) → fitOf n s ≡ Refused m → (sizeReason n s ≡ m) × (1 ≤ m)
 unfolding fitOf
 fitted-refused n s m e = pick-refused (sizeReason n s) s m e

@@ -9,7 +9,7 @@ use lib.Dec.{leb, ltb}
 use lib.ListN.{length, drop, replicate, length-replicate, replicate-append-replicate}
 use borrow.Author.Tests.{lt-ltb, le-ltb, le-leb}
 use Rattle.geometry.specs.declared.Geometry.{Geometry}
-use Rattle.geometry.specs.Geometry.{Valid, capacityOf, capacitySum, keyLimitOf, topCapacityOf, marksStart, keysStart, paysStart, listStart, blockWidth, placesStart, placeStart, storeLength}
+use Rattle.geometry.specs.Geometry.{Valid, capacityOf, capacitySum, keyLimitOf, topCapacityOf, marksStart, keysStart, paysStart, listStart, blockWidth, placesStart, placeStart, storeLength, sizeReason}
 use Rattle.geometry.proofs.Laws.{store-length-low}
 use Rattle.levels.specs.Basics.{if_then_else_, all, ceilDiv}
 use Rattle.levels.specs.Record.{Level}
@@ -18,8 +18,9 @@ use Rattle.levels.specs.Waste.{pairRule, needsCompact}
 use Rattle.levels.specs.Store.{emptyStore, rows}
 use Rattle.words.specs.Layout.{word, countAt, topSlots, topRecs, listAt, listedAt, levelAt, each, storeAt, pad, headerWords, topWords, listWords, storeWords}
 use Rattle.words.specs.Form.{isZero, listedPlaces, liveExact, liveFits, cursorInside, topFits, countsFit, placesInside, placesOnce, blocksFilled, keysRise, bottomUnmarked, topUnusedZero, listsUnusedZero, blocksUnusedZero, tombstonesClean, pairsKept, levelsKept, clauses, formed, reasonOf}
-use Rattle.words.specs.Calls.{formatWords}
-use Rattle.entry.proofs.Laws.{sized-opened, ready-reason}
+use Rattle.words.specs.Calls.{formatWords, formatOf}
+use Rattle.entry.proofs.Laws.{fitted-none, fitted-ready, sized-opened, ready-reason}
+use Rattle.store.proofs.Formatting.{format-done}
 use Rattle.store.proofs.Zeros.{ZeroFrom, eightMore, eight-more, zeros-word, zeros-drop, zeros-take, all-each, pages-blank, none-view, none-rising, none-clean}
 
 -- format keeps the number of words
@@ -144,6 +145,13 @@ fresh-reason g v =
     let n = storeLength g in
     let l = fresh-length g n (omega (arith, store-length-low g v)) in
     rw (ready-reason (formatWords g n) g (sized-opened (formatWords g n) g v refl l), fresh-formed g n v)
+
+-- "Format .. answers N": once format is not turned down, no call on what it leaves is
+pub formatted-reason : (ws : List ℕ) (g : Geometry) → sizeReason (length ws) g ≡ 0 → reasonOf ((formatOf ws g) .words) ≡ 0
+formatted-reason ws g e =
+    let f = fitted-none (length ws) g e in
+    let k = fitted-ready (length ws) g g f in
+    rw (format-done ws g g f, k .1 .1 .0) (fresh-reason g (k .1 .0))
 
 -- The words of the empty store, part by part: each is 0s only.
 pad-none : (n : ℕ) → pad n [] ≡ replicate n 0
