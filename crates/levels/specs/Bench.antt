@@ -35,6 +35,8 @@ use Rattle.levels.specs.Choose.{overlap, runs, choose, overlapBound, cut
 use Rattle.levels.specs.Place.{freeAfter, firstFree, settle, newlyUsed}
 use Rattle.levels.specs.Store.{Store, emptyStore}
 use Rattle.levels.specs.Call.{
+  Compaction,
+  afterMerge,
   Merge,
   mergeCut,
   compactLevel,
@@ -137,6 +139,8 @@ pub data Figure : Type 0 where
   noLimit : Geometry → Figure
   -- a merge: is i + 1 = h, the window, above, below; the upper and the lower level then, blocks written
   merges : Bool → ℕ → Level → Level → Level → Level → ℕ → Figure
+  -- a merge with its step 5: the same, the levels then, and of each compaction its level and the blocks written
+  compactsAfter : Bool → ℕ → Level → Level → Level → Level → List (List ℕ) → Figure
   -- window, above, below: the overlap of each run, the chosen run's first block, the bound on its overlap
   overlaps : ℕ → Level → Level → List ℕ → ℕ → ℕ → Figure
   -- a level is not compacted; it is, to so many blocks, all of them written
@@ -159,6 +163,10 @@ holds (noLimit g) = ltb (keyLimitOf g) 1
 holds (merges bottom w above under u l n) =
     let m = onto bottom w above under in
     sameLevel (levelAfter (m .finish) 1) u && sameLevel (levelAfter (m .finish) 2) l && eqb (blocksMerged m) n
+holds (compactsAfter bottom w above under u l cs) =
+    let m = onto bottom w above under in
+    sameLevel (levelAfter (afterMerge m) 1) u && sameLevel (levelAfter (afterMerge m) 2) l
+    && sameBy sameNumbers (map (λ (c : Compaction). c .level ∷ blocksCompacted c ∷ []) (m .compactions)) cs
 holds (overlaps w above under qs i bound) =
     sameNumbers (map (overlap under) (runs w above)) qs && eqb (choose w above under .at) i && eqb (overlapBound w (length above) (length under)) bound
     && leb (choose w above under .value) bound

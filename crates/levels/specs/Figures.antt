@@ -21,6 +21,7 @@ use Rattle.levels.specs.Bench.{
   overlaps,
   keeps,
   compacts,
+  compactsAfter,
   quiet,
   leads,
   holds,
@@ -98,6 +99,29 @@ cases =
     (merges true 1 (at 5 (puts 1 (10 ∷ 11 ∷ [])) ∷ at 6 (puts 1 (20 ∷ 21 ∷ [])) ∷ at 7 (puts 1 (30 ∷ 31 ∷ [])) ∷ [])
     (at 1 (puts 2 (9 ∷ 12 ∷ 13 ∷ [])) ∷ at 2 (puts 2 (29 ∷ 31 ∷ 33 ∷ 34 ∷ [])) ∷ []) (at 0 (puts 1 (10 ∷ 11 ∷ 30 ∷ 31 ∷ [])) ∷ [])
     (at 1 (puts 2 (9 ∷ 12 ∷ 13 ∷ [])) ∷ at 6 (puts 1 (20 ∷ 21 ∷ [])) ∷ at 2 (puts 2 (29 ∷ 31 ∷ 33 ∷ 34 ∷ [])) ∷ []) 1)
+    ∷ line "step 2's block takes its place first; e and b that hold B together are not left apart"
+    (merges true 1 (at 5 (puts 1 (10 ∷ 11 ∷ [])) ∷ at 6 (puts 1 (20 ∷ 21 ∷ [])) ∷ at 7 (puts 1 (30 ∷ 31 ∷ [])) ∷ [])
+    (at 1 (puts 2 (9 ∷ 12 ∷ [])) ∷ at 2 (puts 2 (29 ∷ 31 ∷ 33 ∷ 34 ∷ [])) ∷ []) (at 0 (puts 1 (10 ∷ 11 ∷ 30 ∷ 31 ∷ [])) ∷ [])
+    (at 3 (puts 2 (9 ∷ 12 ∷ []) ++ puts 1 (20 ∷ 21 ∷ [])) ∷ at 2 (puts 2 (29 ∷ 31 ∷ 33 ∷ 34 ∷ [])) ∷ []) 2)
+    ∷ line "a buffer and b that hold B together: b is not reused"
+    (merges true 1 (at 7 (puts 1 (5 ∷ 6 ∷ 20 ∷ [])) ∷ []) (at 1 (puts 2 (10 ∷ 11 ∷ [])) ∷ []) []
+    (at 0 (puts 1 (5 ∷ 6 ∷ []) ++ puts 2 (10 ∷ 11 ∷ [])) ∷ at 2 (puts 1 (20 ∷ [])) ∷ []) 2)
+    ∷ line "e and a buffer that hold B together: b is not reused"
+    (merges true 1 (at 7 (puts 1 (11 ∷ 12 ∷ 20 ∷ [])) ∷ []) (at 1 (puts 2 (5 ∷ 6 ∷ [])) ∷ at 3 (puts 2 (17 ∷ 18 ∷ 19 ∷ [])) ∷ []) []
+    (at 1 (puts 2 (5 ∷ 6 ∷ [])) ∷ at 0 (puts 1 (11 ∷ 12 ∷ []) ++ puts 2 (17 ∷ 18 ∷ [])) ∷ at 2 (puts 2 (19 ∷ []) ++ puts 1 (20 ∷ [])) ∷ []) 2)
+    ∷ line "X ends where a block below begins: the block is in Y"
+    (merges true 1 (at 7 (puts 1 (5 ∷ 10 ∷ [])) ∷ []) (at 1 (puts 2 (10 ∷ 20 ∷ 30 ∷ 40 ∷ [])) ∷ []) []
+    (at 0 (puts 1 (5 ∷ 10 ∷ []) ++ puts 2 (20 ∷ 30 ∷ [])) ∷ at 2 (puts 2 (40 ∷ [])) ∷ []) 2)
+    ∷ line "two blocks leave; the blocks on both sides stay"
+    (merges true 2 (at 4 (puts 1 (1 ∷ 2 ∷ 3 ∷ [])) ∷ at 5 (puts 1 (11 ∷ 12 ∷ 13 ∷ [])) ∷ at 6 (puts 1 (21 ∷ 22 ∷ 23 ∷ [])) ∷ at 7 (puts 1 (31 ∷ 32 ∷ 33 ∷ [])) ∷ [])
+    (at 1 (puts 2 (2 ∷ 4 ∷ 5 ∷ [])) ∷ at 2 (puts 2 (30 ∷ 34 ∷ 35 ∷ [])) ∷ []) (at 4 (puts 1 (1 ∷ 2 ∷ 3 ∷ [])) ∷ at 7 (puts 1 (31 ∷ 32 ∷ 33 ∷ [])) ∷ [])
+    (at 1 (puts 2 (2 ∷ 4 ∷ 5 ∷ [])) ∷ at 5 (puts 1 (11 ∷ 12 ∷ 13 ∷ [])) ∷ at 6 (puts 1 (21 ∷ 22 ∷ 23 ∷ [])) ∷ at 2 (puts 2 (30 ∷ 34 ∷ 35 ∷ [])) ∷ []) 0)
+    ∷ line "level i needs compacting once X has left: 12 records in 4 blocks, to 3"
+    (compactsAfter true 1
+    (at 11 (puts 1 (1 ∷ 2 ∷ 3 ∷ 4 ∷ [])) ∷ at 12 (puts 1 (11 ∷ 12 ∷ 13 ∷ [])) ∷ at 13 (puts 1 (21 ∷ 22 ∷ 23 ∷ [])) ∷ at 14 (puts 1 (31 ∷ 32 ∷ 33 ∷ []))
+    ∷ at 15 (puts 1 (41 ∷ 42 ∷ 43 ∷ [])) ∷ []) []
+    (at 0 (puts 1 (11 ∷ 12 ∷ 13 ∷ 21 ∷ [])) ∷ at 1 (puts 1 (22 ∷ 23 ∷ 31 ∷ 32 ∷ [])) ∷ at 2 (puts 1 (33 ∷ 41 ∷ 42 ∷ 43 ∷ [])) ∷ [])
+    (at 11 (puts 1 (1 ∷ 2 ∷ 3 ∷ 4 ∷ [])) ∷ []) ((1 ∷ 3 ∷ []) ∷ []))
     ∷ line "a leftover, e and the block after Y become one new block"
     (merges true 1 (at 7 (dels (20 ∷ 21 ∷ 22 ∷ []) ++ puts 1 (23 ∷ [])) ∷ [])
     (at 1 (puts 2 (10 ∷ [])) ∷ at 2 (puts 2 (20 ∷ 21 ∷ 22 ∷ 23 ∷ [])) ∷ at 3 (puts 2 (30 ∷ 31 ∷ [])) ∷ []) []

@@ -1,0 +1,50 @@
+-- What the proof of format needs: its words are the definition's, its answer is a word, and the two cases of its outcome.
+use Prim.Native.Nat.{ℕ, suc, _-_, _≤_, _<_}
+use mathlib.Core.Path.{_≡_, subst}
+use mathlib.Core.List.{List}
+use native.Mathlib.Nat.{mul-le-mul}
+use native.Mathlib.Omega.{arith}
+use lib.ListN.{length, replicate}
+use borrow.Author.Tests.{eq-eqb, ne-eqb}
+use Rattle.geometry.specs.declared.Geometry.{Geometry}
+use Rattle.geometry.specs.Geometry.{Valid, keyLimitOf, sizeReason}
+use Rattle.geometry.proofs.Laws.{key-limit-high, store-length-low}
+use Rattle.words.specs.Calls.{formatWords, formatOf}
+use Rattle.entry.specs.declared.Opened.the-variants.{Ready, Refused}
+use Rattle.entry.specs.Entry.{fitOf}
+use Rattle.entry.proofs.Laws.{fitted-ready, fitted-refused}
+use Rattle.store.specs.Format.{headed}
+use Rattle.store.proofs.Zeros.{eightMore, eight-more}
+
+-- "every word 0 but the six of the geometry and hand = P − 1"
+pub cleared-headed : (g : Geometry) (n : ℕ) → 8 ≤ n → headed (replicate n 0) g ≡ formatWords g n
+unfolding headed formatWords
+cleared-headed g n h = subst (λ (k : ℕ). headed (replicate k 0) g ≡ formatWords g k) (eight-more n h) (go (n - 8))
+  where
+    go : (m : ℕ) → headed (replicate (eightMore m) 0) g ≡ formatWords g (eightMore m)
+    go m = let e : eightMore m - 8 ≡ m = omega arith in rw e
+
+-- "answers N": N is a word
+pub limit-fits : (g : Geometry) → Valid g → keyLimitOf g < 16384
+limit-fits g v = omega (arith, key-limit-high g v, mul-le-mul (v .ranged .b-high) (v .bottom-high))
+
+-- format of words and a geometry that do not fit: "no lent word changes"
+pub format-refused : (ws : List ℕ) (s : Geometry) (n : ℕ) → fitOf (length ws) s ≡ Refused n → formatOf ws s ≡ record { answer = record { reason = n; limit = 0 }; words = ws }
+unfolding formatOf
+format-refused ws s n e =
+    let k = fitted-refused (length ws) s n e in
+    rw (ne-eqb (sizeReason (length ws) s) 0 (λ z. omega arith), formatOf, k .0)
+
+-- format of a geometry whose layout has as many words: "answers N"
+pub format-done : (ws : List ℕ) (s g : Geometry) → fitOf (length ws) s ≡ Ready g → formatOf ws s ≡ record { answer = record { reason = 0; limit = keyLimitOf g }; words = formatWords s (length ws) }
+unfolding formatOf
+format-done ws s g e =
+    let k = fitted-ready (length ws) s g e in
+    rw (eq-eqb (sizeReason (length ws) s) 0 (k .1 .1 .1), formatOf, k .0)
+
+-- a store that fits has room for the words that format writes, and a place for hand to stand at
+pub fitted-room : (n : ℕ) (s g : Geometry) → fitOf n s ≡ Ready g → (8 ≤ n) × (1 ≤ s .p)
+fitted-room n s g e =
+    let k = fitted-ready n s g e in
+    let v = k .1 .0 in
+    (omega (arith, k .1 .1 .0, store-length-low g v), rw (← k .0) (omega (arith, v .places-low)))
