@@ -1,0 +1,31 @@
+-- Laws of the small helpers: tests joined by `&&`, `if`, the first that is there.
+use Prim.Native.Nat.{ℕ, zero, suc}
+use mathlib.Core.Path.{_≡_, refl}
+use mathlib.Core.Bool.{Bool, true, false, _&&_}
+use mathlib.Core.Option.{Option, none, some}
+use Rattle.levels.specs.Basics.{if_then_else_, orElse}
+
+pub and-left : (a b : Bool) → (a && b) ≡ true → a ≡ true
+and-left true b e = refl
+and-left false b e = e
+
+pub and-right : (a b : Bool) → (a && b) ≡ true → b ≡ true
+and-right true b e = e
+and-right false b e = cc
+
+pub and-both : (a b : Bool) → a ≡ true → b ≡ true → (a && b) ≡ true
+and-both true b d e = e
+and-both false b d e = d
+
+-- what holds of both branches
+pub if-either : {A : Type 0} (P : A → Type 0) (t : Bool) (a b : A) → P a → P b → P (if t then a else b)
+if-either P true a b p q = p
+if-either P false a b p q = q
+
+pub or-assoc : {A : Type 0} (a b c : Option A) → orElse (orElse a b) c ≡ orElse a (orElse b c)
+or-assoc none b c = refl
+or-assoc (some x) b c = refl
+
+pub or-none : {A : Type 0} (a : Option A) → orElse a none ≡ a
+or-none none = refl
+or-none (some x) = refl

@@ -1,0 +1,4 @@
+pub mod Basics
+pub mod Rising
+pub mod Overlay
+pub mod View
