@@ -5,3 +5,4 @@ pub mod View
 pub mod Levels
 pub mod Choice
 pub mod Overlap
+pub mod Cut
