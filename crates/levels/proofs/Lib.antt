@@ -6,3 +6,4 @@ pub mod Levels
 pub mod Choice
 pub mod Overlap
 pub mod Cut
+pub mod MergeRecords
