@@ -7,3 +7,6 @@ pub mod Choice
 pub mod Overlap
 pub mod Cut
 pub mod MergeRecords
+pub mod MergeWell
+pub mod Fresh
+pub mod MergeWrites
