@@ -8,21 +8,27 @@ use lib.ListN.{length}
 use Rattle.levels.specs.Record.{Rec, Block, Level, new}
 use Rattle.levels.specs.Place.{placesOf}
 
--- 1 for a new block; 1 for an old one
+-- 1 for a new block
 abbrev pub one : Block → ℕ
 one b = elim (b .place) [ none ↦ 1 | some p ↦ 0 ]
 
-abbrev pub old : Block → ℕ
-old b = elim (b .place) [ none ↦ 0 | some p ↦ 1 ]
+-- what the place of an old block weighs
+abbrev pub weight : (ℕ → ℕ) → Block → ℕ
+weight f b = elim (b .place) [ none ↦ 0 | some p ↦ f p ]
 
--- the new blocks and the old blocks of a level. Every block has a place where fresh l ≡ 0.
+-- the new blocks of a level. Every block has a place where fresh l ≡ 0.
 abbrev pub fresh : Level → ℕ
 fresh [] = 0
 fresh (b ∷ bs) = one b + fresh bs
 
+-- the places of a level, weighed
+abbrev pub weights : (ℕ → ℕ) → Level → ℕ
+weights f [] = 0
+weights f (b ∷ bs) = weight f b + weights f bs
+
+-- the old blocks of a level
 abbrev pub olds : Level → ℕ
-olds [] = 0
-olds (b ∷ bs) = old b + olds bs
+olds l = weights (λ p. 1) l
 
 pub count-all : (l : Level) → fresh l + olds l ≡ length l
 count-all [] = refl
@@ -39,6 +45,10 @@ pub fresh-append : (k l : Level) → fresh (k ++ l) ≡ fresh k + fresh l
 fresh-append [] l = omega arith
 fresh-append (b ∷ bs) l = omega (arith, fresh-append bs l)
 
+pub weights-append : (f : ℕ → ℕ) (k l : Level) → weights f (k ++ l) ≡ weights f k + weights f l
+weights-append f [] l = omega arith
+weights-append f (b ∷ bs) l = omega (arith, weights-append f bs l)
+
 -- an old block lists its place
 pub places-olds : (l : Level) → length (placesOf l) ≡ olds l
 places-olds [] = refl
@@ -53,9 +63,9 @@ pub reverse-fresh : (l m : Level) → fresh (reverseAux l m) ≡ fresh l + fresh
 reverse-fresh [] m = omega arith
 reverse-fresh (b ∷ bs) m = omega (arith, reverse-fresh bs (b ∷ m))
 
-pub reverse-olds : (l m : Level) → olds (reverseAux l m) ≡ olds l + olds m
-reverse-olds [] m = omega arith
-reverse-olds (b ∷ bs) m = omega (arith, reverse-olds bs (b ∷ m))
+pub reverse-weights : (f : ℕ → ℕ) (l m : Level) → weights f (reverseAux l m) ≡ weights f l + weights f m
+reverse-weights f [] m = omega arith
+reverse-weights f (b ∷ bs) m = omega (arith, reverse-weights f bs (b ∷ m))
 
 pub reverse-length : (l m : Level) → length (reverseAux l m) ≡ length l + length m
 reverse-length [] m = omega arith
