@@ -10,3 +10,4 @@ pub mod MergeRecords
 pub mod MergeWell
 pub mod Fresh
 pub mod MergeWrites
+pub mod Laid
