@@ -11,3 +11,5 @@ pub mod MergeWell
 pub mod Fresh
 pub mod MergeWrites
 pub mod Laid
+pub mod Rows
+pub mod Merged
