@@ -13,3 +13,5 @@ pub mod MergeWrites
 pub mod Laid
 pub mod Rows
 pub mod Merged
+pub mod Fits
+pub mod Compaction

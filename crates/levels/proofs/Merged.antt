@@ -13,7 +13,7 @@ use Rattle.levels.specs.Choose.{loOf, hiOf, Cut, cutAt}
 use Rattle.levels.specs.Merge.{merge, close}
 use Rattle.levels.proofs.Rising.{Rising, Below, rising-from, rising-left, rising-right, rising-swap}
 use Rattle.levels.proofs.Overlay.{find-append, find-overlay, overlay-rising, same-find}
-use Rattle.levels.proofs.View.{unmarked-rising, unmarked-clean, find-unmarked, present-or}
+use Rattle.levels.proofs.View.{unmarked-rising, unmarked-clean, find-unmarked, present-or, present-clean}
 use Rattle.levels.proofs.Levels.{Filled, Sized, Well, records-three, records-three-length, sized-filled}
 use Rattle.levels.proofs.Cut.{cut-above, cut-under, cut-lengths, run-length, WellCut, cut-well, Lies, cut-lies}
 use Rattle.levels.proofs.Fresh.{fresh, olds, weights, fresh-append, weights-append, olds-most}
@@ -146,6 +146,20 @@ module _ (B w first : ℕ) (above under : Level) (h : Mergeable B w first above 
       let v = or-false-both (hasTombstone (records (c .over))) _ (sym (has-append (records (c .over)) (records (c .behind))) ∙ u .1) in
       ap hasTombstone (lower-records true) ∙ has-append (records (c .before)) (M ++ records (c .behind)) ∙ ap (λ (t : Bool). t || hasTombstone (M ++ records (c .behind))) (u .0)
       ∙ has-append M (records (c .behind)) ∙ ap (λ (t : Bool). t || hasTombstone (records (c .behind))) (unmarked-clean (overlay (records (c .run)) (records (c .over)))) ∙ v .1
+
+  -- level h: the lower level is X laid over it, without the tombstones
+  pub lower-unmarked : hasTombstone (records under) ≡ false → let c = cutAt w first above under in records (lowerOf B true c) ≡ unmarked (overlay (records (c .run)) (records under))
+  lower-unmarked e =
+      let c = cutAt w first above under in
+      let V₁ : List Rec = records (c .before) in
+      let V₂ : List Rec = records (c .behind) in
+      let M : List Rec = overlay (records (c .run)) (records (c .over)) in
+      let O : List Rec = overlay (records (c .run)) (records under) in
+      let ro = overlay-rising 0 (records (c .run)) (records under) run-sorted (h .under-sorted) in
+      same-find 0 0 (records (lowerOf B true c)) (unmarked O) (lower-rising true) (unmarked-rising 0 O ro)
+      (λ k. sym (present-clean k 0 (records (lowerOf B true c)) (lower-rising true) (lower-clean e)) ∙ ap (λ (l : List Rec). present (find k l)) (lower-records true)
+      ∙ ap present (find-append k V₁ (unmarked M ++ V₂)) ∙ present-or (find k V₁) (find k (unmarked M ++ V₂)) (find k (M ++ V₂)) (present-kept true k 0 M V₂ (rising-right 0 V₁ (M ++ V₂) middle-rising))
+      ∙ ap present (sym (find-append k V₁ (M ++ V₂)) ∙ ap (find k) (sym (lower-records false)) ∙ ap (find k) lower-overlay) ∙ sym (find-unmarked k 0 O ro))
 
   -- records only move down or vanish: X's leave level i, and level i + 1 gets at most so many
   pub upper-count : (i : ℕ) → let c = cutAt w first above under in length (records (upperOf B i c)) + length (records (c .run)) ≡ length (records above)

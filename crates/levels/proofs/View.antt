@@ -84,6 +84,22 @@ unmarked-clean (r ∷ rs) = go (r .tombstone) refl (unmarked-clean rs)
     go true e i = rw (unmarked-drop r rs e) i
     go false e i = ap hasTombstone (unmarked-keep r rs e) ∙ ap (λ (t : Bool). t || hasTombstone (unmarked rs)) e ∙ i
 
+-- a list without tombstones is its own unmarked list, and all that is found in it is present
+pub clean-tail : (r : Rec) (rs : List Rec) → hasTombstone (r ∷ rs) ≡ false → (r .tombstone ≡ false) × (hasTombstone rs ≡ false)
+clean-tail r rs = go (r .tombstone)
+  where
+    go : (t : Bool) → (t || hasTombstone rs) ≡ false → (t ≡ false) × (hasTombstone rs ≡ false)
+    go true e = absurd (true≢false e)
+    go false e = (refl, e)
+
+pub clean-unmarked : (rs : List Rec) → hasTombstone rs ≡ false → unmarked rs ≡ rs
+unfolding unmarked
+clean-unmarked [] e = refl
+clean-unmarked (r ∷ rs) e = let c = clean-tail r rs e in unmarked-keep r rs (c .0) ∙ ap (λ (l : List Rec). r ∷ l) (clean-unmarked rs (c .1))
+
+pub present-clean : (k low : ℕ) (rs : List Rec) → Rising low rs → hasTombstone rs ≡ false → present (find k rs) ≡ find k rs
+present-clean k low rs h e = sym (find-unmarked k low rs h) ∙ ap (find k) (clean-unmarked rs e)
+
 pub map-rising : (ls : List (List Rec)) → Risings ls → Rising 0 (mapOf ls)
 unfolding mapOf
 map-rising ls h = unmarked-rising 0 (view ls) (view-rising ls h)
