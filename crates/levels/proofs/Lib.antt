@@ -15,3 +15,5 @@ pub mod Rows
 pub mod Merged
 pub mod Fits
 pub mod Compaction
+pub mod FirstFree
+pub mod Settling
