@@ -17,3 +17,5 @@ pub mod Fits
 pub mod Compaction
 pub mod FirstFree
 pub mod Settling
+pub mod Places
+pub mod Written

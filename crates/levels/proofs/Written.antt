@@ -1,0 +1,130 @@
+-- Blocks written by a merge or a compaction: its new blocks, each at the first free place after the cursor, and they are the places newly in use.
+-- The levels are given as a list; level i + 1 is at index i.
+use Prim.Native.Nat.{ℕ, zero, suc, _+_, _-_, _<_, _≤_}
+use mathlib.Core.Path.{_≡_, refl, sym, _∙_, ap}
+use mathlib.Core.Bool.{Bool, true, false}
+use mathlib.Core.List.{List, [], _∷_, _++_}
+use mathlib.Core.Option.{Option, none, some}
+use native.Mathlib.Omega.{arith}
+use lib.ListN.{length, length-append, getD, set, length-set}
+use Rattle.levels.specs.Basics.{total}
+use Rattle.levels.specs.Record.{Rec, Block, Level}
+use Rattle.levels.specs.Waste.{compact}
+use Rattle.levels.specs.Choose.{cutAt}
+use Rattle.levels.specs.Place.{Allocation, Settled, settle, placesOf, inUse, newlyUsed}
+use Rattle.levels.proofs.Fresh.{fresh, weights, count-all}
+use Rattle.levels.proofs.Merged.{Mergeable, upperOf, lowerOf, pair-places, lower-places}
+use Rattle.levels.proofs.Compaction.{compact-fresh}
+use Rattle.levels.proofs.Settling.{afterTaking, Takes, takes-append, settle-takes, settle-cursor, settle-allocation, settle-used, settle-places, written-places}
+use Rattle.levels.proofs.Places.{total-append, weights-places, in-use-set, in-use-at, Changed, changed-newly}
+
+-- a level of new blocks lists no place
+pub fresh-weights : (f : ℕ → ℕ) (l : Level) → fresh l ≡ length l → weights f l ≡ 0
+fresh-weights f [] e = refl
+fresh-weights f (b ∷ bs) e = go (b .place) e (fresh-weights f bs) (count-all bs)
+  where
+    go : (p : Option ℕ) → fresh (record { place = p; recs = b .recs } ∷ bs) ≡ suc (length bs) → (fresh bs ≡ length bs → weights f bs ≡ 0) → fresh bs + weights (λ q. 1) bs ≡ length bs
+        → weights f (record { place = p; recs = b .recs } ∷ bs) ≡ 0
+    go none e ih c = omega (arith, ih (omega arith))
+    go (some p) e ih c = absurd (omega arith)
+
+other : (ls : List Level) (j : ℕ) (l : Level) → getD (set ls j l) (suc j) [] ≡ getD ls (suc j) []
+other [] j l = refl
+other (a ∷ ls) zero l = refl
+other (a ∷ ls) (suc j) l = other ls j l
+
+takes-from : (P : ℕ) (b c : Allocation) (ps : List ℕ) → b ≡ c → Takes P b ps → Takes P c ps
+takes-from P b c ps e t = rw (sym e) t
+
+-- one level replaced by m, whose old blocks are blocks of the level: a compaction, or level 1 when level 0 merges
+module _ (P cursor : ℕ) (ls : List Level) (j : ℕ) (m : Level) (old : (f : ℕ → ℕ) → weights f m ≤ weights f (getD ls j [])) (inside : j < length ls) (low : cursor < P) (room : length (inUse ls) + fresh m ≤ P) where
+  pub replaced-changed : let a : Allocation = record { used = inUse ls; cursor = cursor } in
+      let r = settle P a m in Changed P a (inUse (set ls j (r .level))) (placesOf (r .written))
+  replaced-changed =
+      let a : Allocation = record { used = inUse ls; cursor = cursor } in
+      let r = settle P a m in
+      record {
+        takes = settle-takes P a m low room;
+        most = λ f. omega (arith, in-use-set f ls j (r .level) inside, settle-places f P a m, old f, weights-places f m, weights-places f (getD ls j []));
+        least = λ f. omega (arith, in-use-set f ls j (r .level) inside, settle-places f P a m, in-use-at f ls j);
+      }
+
+  -- "Blocks written compacting a level are the places in use at the end of the compaction that were not in use at its start"
+  pub replaced-newly : let a : Allocation = record { used = inUse ls; cursor = cursor } in newlyUsed (inUse ls) (inUse (set ls j (settle P a m .level))) ≡ fresh m
+  replaced-newly =
+      let a : Allocation = record { used = inUse ls; cursor = cursor } in
+      let r = settle P a m in
+      changed-newly P a (inUse (set ls j (r .level))) (placesOf (r .written)) replaced-changed ∙ written-places P a m
+
+-- a compaction keeps no old block, so it is such a replacing
+pub compact-old : (B : ℕ) (l k : Level) (f : ℕ → ℕ) → weights f (compact B l) ≤ weights f k
+compact-old B l k f = omega (arith, fresh-weights f (compact B l) (compact-fresh B l))
+
+-- and so is a merge out of level 0, whose pages have no places
+pub lower-old : (B w first : ℕ) (above under : Level) → Mergeable B w first above under → (bottom : Bool) → fresh above ≡ length above → (f : ℕ → ℕ) → weights f (lowerOf B bottom (cutAt w first above under)) ≤ weights f under
+lower-old B w first above under h bottom e f = omega (arith, lower-places B w first above under h f bottom, fresh-weights f above e)
+
+-- a merge of the run of w blocks from `first` on, out of the level at index j, which is level j + 1, into the one below
+module _ (P B w first cursor : ℕ) (bottom : Bool) (i : ℕ) (ls : List Level) (j : ℕ) (h : Mergeable B w first (getD ls j []) (getD ls (suc j) [])) (inside : suc j < length ls) (low : cursor < P)
+    (room : let c = cutAt w first (getD ls j []) (getD ls (suc j) []) in length (inUse ls) + (fresh (upperOf B (suc i) c) + fresh (lowerOf B bottom c)) ≤ P) where
+  -- step 2's block, and those of steps 3 and 4
+  abbrev pub upperSettled : Settled
+  upperSettled = settle P (record { used = inUse ls; cursor = cursor }) (upperOf B (suc i) (cutAt w first (getD ls j []) (getD ls (suc j) [])))
+
+  abbrev pub lowerSettled : Settled
+  lowerSettled = settle P (upperSettled .allocation) (lowerOf B bottom (cutAt w first (getD ls j []) (getD ls (suc j) [])))
+
+  -- "step 2's block takes its place before those of steps 3 and 4": each takes the first free place, and so on
+  merge-takes : Takes P (record { used = inUse ls; cursor = cursor }) (placesOf (upperSettled .written) ++ placesOf (lowerSettled .written))
+  merge-takes =
+      let a : Allocation = record { used = inUse ls; cursor = cursor } in
+      let c = cutAt w first (getD ls j []) (getD ls (suc j) []) in
+      let u : Level = upperOf B (suc i) c in
+      let l : Level = lowerOf B bottom c in
+      let t = settle-takes P (upperSettled .allocation) l (settle-cursor P a u low (omega arith)) (omega (arith, settle-used P a u)) in
+      takes-append P a (placesOf (upperSettled .written)) (placesOf (lowerSettled .written)) (settle-takes P a u low (omega arith))
+      (takes-from P (upperSettled .allocation) (afterTaking a (placesOf (upperSettled .written))) (placesOf (lowerSettled .written)) (settle-allocation P a u) t)
+
+  merge-totals : (f : ℕ → ℕ) → let n = total f (inUse (set (set ls j (upperSettled .level)) (suc j) (lowerSettled .level))) in
+      let m = total f (placesOf (upperSettled .written)) + total f (placesOf (lowerSettled .written)) in (n ≤ total f (inUse ls) + m) × (m ≤ n)
+  merge-totals f =
+      let a : Allocation = record { used = inUse ls; cursor = cursor } in
+      let above : Level = getD ls j [] in
+      let under : Level = getD ls (suc j) [] in
+      let c = cutAt w first above under in
+      let u : Level = upperOf B (suc i) c in
+      let l : Level = lowerOf B bottom c in
+      let U : Level = upperSettled .level in
+      let p = in-use-set f ls j U (omega arith) in
+      let q = in-use-set f (set ls j U) (suc j) (lowerSettled .level) (omega (arith, length-set ls j U)) in
+      let o = ap (λ (k : Level). total f (placesOf k)) (other ls j U) in
+      let su = settle-places f P a u in
+      let sl = settle-places f P (upperSettled .allocation) l in
+      let e = in-use-set f ls j [] (omega arith) in
+      let g = in-use-at f (set ls j []) (suc j) in
+      let z = ap (λ (k : Level). total f (placesOf k)) (other ls j []) in
+      let k = pair-places B w first above under h f bottom i in (
+        omega (arith, p, q, o, su, sl, k, weights-places f u, weights-places f l, weights-places f above, weights-places f under),
+        omega (arith, p, q, o, su, sl, e, g, z),
+      )
+
+  pub merge-changed : Changed P (record { used = inUse ls; cursor = cursor }) (inUse (set (set ls j (upperSettled .level)) (suc j) (lowerSettled .level))) (placesOf (upperSettled .written) ++ placesOf (lowerSettled .written))
+  merge-changed = record {
+    takes = merge-takes;
+    most = λ f. omega (arith, merge-totals f .0, total-append f (placesOf (upperSettled .written)) (placesOf (lowerSettled .written)));
+    least = λ f. omega (arith, merge-totals f .1, total-append f (placesOf (upperSettled .written)) (placesOf (lowerSettled .written)));
+  }
+
+  -- "Blocks written by a merge are the places in use at its end that were not in use at its start, step 2's block with them."
+  pub merge-newly : let c = cutAt w first (getD ls j []) (getD ls (suc j) []) in
+      newlyUsed (inUse ls) (inUse (set (set ls j (upperSettled .level)) (suc j) (lowerSettled .level))) ≡ fresh (upperOf B (suc i) c) + fresh (lowerOf B bottom c)
+  merge-newly =
+      let a : Allocation = record { used = inUse ls; cursor = cursor } in
+      let c = cutAt w first (getD ls j []) (getD ls (suc j) []) in
+      omega (
+        arith,
+        changed-newly P a (inUse (set (set ls j (upperSettled .level)) (suc j) (lowerSettled .level))) (placesOf (upperSettled .written) ++ placesOf (lowerSettled .written)) merge-changed,
+        length-append (placesOf (upperSettled .written)) (placesOf (lowerSettled .written)),
+        written-places P a (upperOf B (suc i) c),
+        written-places P (upperSettled .allocation) (lowerOf B bottom c),
+      )
