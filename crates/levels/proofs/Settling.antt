@@ -8,6 +8,7 @@ use native.Mathlib.Omega.{arith}
 use lib.ListN.{length}
 use Rattle.levels.specs.Basics.{total}
 use Rattle.levels.specs.Record.{Rec, Block, Level, size, records}
+use Rattle.levels.specs.Waste.{needsCompact}
 use Rattle.levels.specs.Place.{Allocation, firstFree, Settled, settleOne, settle, placesOf}
 use Rattle.levels.proofs.Levels.{Sized, Apart, Pairs, Well, well-nil, well-tail}
 use Rattle.levels.proofs.Fresh.{fresh}
@@ -69,6 +70,10 @@ settle-well P B a (b ∷ bs) w = go (b .place) (λ c. settle-well P B c bs (well
     go : (p : Option ℕ) → ((c : Allocation) → Well B (settle P c bs .level)) → ((c : Allocation) → Apart B (size b) (settle P c bs .level)) → Well B (settle P a (record { place = p; recs = b .recs } ∷ bs) .level)
     go none ih ap = record { pairs = (ap (next P a), ih (next P a) .pairs); sized = (w .sized .0, w .sized .1, ih (next P a) .sized) }
     go (some p) ih ap = record { pairs = (ap a, ih a .pairs); sized = (w .sized .0, w .sized .1, ih a .sized) }
+
+-- and so does the level rule
+pub settle-rule : (P B : ℕ) (a : Allocation) (l : Level) → needsCompact B (settle P a l .level) ≡ needsCompact B l
+settle-rule P B a l = rw (settle-length P a l, settle-records P a l)
 
 -- the new blocks of a level
 abbrev pub newOf : Level → Level

@@ -10,9 +10,9 @@ use native.Mathlib.Decide.{ℕ-discrete}
 use lib.Dec.{leb}
 use lib.ListN.{length}
 use borrow.Author.Tests.{leb-true, leb-false}
-use Rattle.levels.specs.Basics.{if_then_else_, orElse}
+use Rattle.levels.specs.Basics.{if_then_else_, orElse, isSome}
 use Rattle.levels.specs.Record.{Rec, hasTombstone}
-use Rattle.levels.specs.Map.{find, overlay, view, unmarked, mapOf, liveCount, decides, present, lookUp, firstFrom, next}
+use Rattle.levels.specs.Map.{find, overlay, view, unmarked, mapOf, liveCount, decides, present, lookUp, isLive, firstFrom, next}
 use Rattle.levels.proofs.Rising.{Rising, rising-from}
 use Rattle.levels.proofs.Overlay.{find-here, find-past, find-below, find-overlay, overlay-rising, same-find}
 
@@ -108,6 +108,11 @@ map-rising ls h = unmarked-rising 0 (view ls) (view-rising ls h)
 pub look-up-find : (k : ℕ) (ls : List (List Rec)) → Risings ls → lookUp k ls ≡ find k (mapOf ls)
 unfolding mapOf lookUp
 look-up-find k ls h = sym (find-unmarked k 0 (view ls) (view-rising ls h) ∙ ap present (find-view k ls h))
+
+-- "A key is live if it is in the map"
+pub is-live-find : (k : ℕ) (ls : List (List Rec)) → Risings ls → isLive k ls ≡ isSome (find k (mapOf ls))
+unfolding isLive
+is-live-find k ls h = ap isSome (look-up-find k ls h)
 
 -- the lookups settle the map: rows in which the same is looked up for every key stand for the same map
 pub same-map : (ls ms : List (List Rec)) → Risings ls → Risings ms → ((k : ℕ) → lookUp k ls ≡ lookUp k ms) → mapOf ls ≡ mapOf ms

@@ -10,7 +10,7 @@ use lib.ListN.{length, length-append, getD, set, length-set}
 use Rattle.levels.specs.Basics.{total}
 use Rattle.levels.specs.Record.{Rec, Block, Level}
 use Rattle.levels.specs.Waste.{compact}
-use Rattle.levels.specs.Choose.{cutAt}
+use Rattle.levels.specs.Choose.{Cut, cutAt}
 use Rattle.levels.specs.Place.{Allocation, Settled, settle, placesOf, inUse, newlyUsed}
 use Rattle.levels.proofs.Fresh.{fresh, weights, count-all}
 use Rattle.levels.proofs.Merged.{Mergeable, upperOf, lowerOf, pair-places, lower-places}
@@ -64,67 +64,92 @@ compact-old B l k f = omega (arith, fresh-weights f (compact B l) (compact-fresh
 pub lower-old : (B w first : ℕ) (above under : Level) → Mergeable B w first above under → (bottom : Bool) → fresh above ≡ length above → (f : ℕ → ℕ) → weights f (lowerOf B bottom (cutAt w first above under)) ≤ weights f under
 lower-old B w first above under h bottom e f = omega (arith, lower-places B w first above under h f bottom, fresh-weights f above e)
 
--- a merge of the run of w blocks from `first` on, out of the level at index j, which is level j + 1, into the one below
-module _ (P B w first cursor : ℕ) (bottom : Bool) (i : ℕ) (ls : List Level) (j : ℕ) (h : Mergeable B w first (getD ls j []) (getD ls (suc j) [])) (inside : suc j < length ls) (low : cursor < P)
-    (room : let c = cutAt w first (getD ls j []) (getD ls (suc j) []) in length (inUse ls) + (fresh (upperOf B (suc i) c) + fresh (lowerOf B bottom c)) ≤ P) where
-  -- step 2's block, and those of steps 3 and 4
-  abbrev pub upperSettled : Settled
-  upperSettled = settle P (record { used = inUse ls; cursor = cursor }) (upperOf B (suc i) (cutAt w first (getD ls j []) (getD ls (suc j) [])))
+-- A merge of the run of w blocks from `first` on, out of the level at index j, which is level j + 1, into the one below:
+-- step 2's block takes its place, then those of steps 3 and 4.
+abbrev pub cutIn : ℕ → ℕ → List Level → ℕ → Cut
+cutIn w first ls j = cutAt w first (getD ls j []) (getD ls (suc j) [])
 
-  abbrev pub lowerSettled : Settled
-  lowerSettled = settle P (upperSettled .allocation) (lowerOf B bottom (cutAt w first (getD ls j []) (getD ls (suc j) [])))
+abbrev pub upperSettled : ℕ → ℕ → Allocation → Cut → Settled
+upperSettled P B a c = settle P a (upperOf B 1 c)
 
-  -- "step 2's block takes its place before those of steps 3 and 4": each takes the first free place, and so on
-  merge-takes : Takes P (record { used = inUse ls; cursor = cursor }) (placesOf (upperSettled .written) ++ placesOf (lowerSettled .written))
+abbrev pub lowerSettled : ℕ → ℕ → Bool → Allocation → Cut → Settled
+lowerSettled P B bottom a c = settle P (upperSettled P B a c .allocation) (lowerOf B bottom c)
+
+-- the places taken, in the order of taking
+abbrev pub takenBy : ℕ → ℕ → Bool → Allocation → Cut → List ℕ
+takenBy P B bottom a c = placesOf (upperSettled P B a c .written) ++ placesOf (lowerSettled P B bottom a c .written)
+
+-- the levels afterwards
+abbrev pub levelsAfter : ℕ → ℕ → Bool → Allocation → Cut → List Level → ℕ → List Level
+levelsAfter P B bottom a c ls j = set (set ls j (upperSettled P B a c .level)) (suc j) (lowerSettled P B bottom a c .level)
+
+module _ (P B w first cursor : ℕ) (bottom : Bool) (ls : List Level) (j : ℕ) (h : Mergeable B w first (getD ls j []) (getD ls (suc j) [])) (inside : suc j < length ls) (low : cursor < P)
+    (room : let c = cutIn w first ls j in length (inUse ls) + (fresh (upperOf B 1 c) + fresh (lowerOf B bottom c)) ≤ P) where
+  merge-takes : let a : Allocation = record { used = inUse ls; cursor = cursor } in Takes P a (takenBy P B bottom a (cutIn w first ls j))
   merge-takes =
       let a : Allocation = record { used = inUse ls; cursor = cursor } in
-      let c = cutAt w first (getD ls j []) (getD ls (suc j) []) in
-      let u : Level = upperOf B (suc i) c in
+      let c = cutIn w first ls j in
+      let u : Level = upperOf B 1 c in
       let l : Level = lowerOf B bottom c in
-      let t = settle-takes P (upperSettled .allocation) l (settle-cursor P a u low (omega arith)) (omega (arith, settle-used P a u)) in
-      takes-append P a (placesOf (upperSettled .written)) (placesOf (lowerSettled .written)) (settle-takes P a u low (omega arith))
-      (takes-from P (upperSettled .allocation) (afterTaking a (placesOf (upperSettled .written))) (placesOf (lowerSettled .written)) (settle-allocation P a u) t)
+      let x : Settled = upperSettled P B a c in
+      let y : Settled = lowerSettled P B bottom a c in
+      let t = settle-takes P (x .allocation) l (settle-cursor P a u low (omega arith)) (omega (arith, settle-used P a u)) in
+      takes-append P a (placesOf (x .written)) (placesOf (y .written)) (settle-takes P a u low (omega arith))
+      (takes-from P (x .allocation) (afterTaking a (placesOf (x .written))) (placesOf (y .written)) (settle-allocation P a u) t)
 
-  merge-totals : (f : ℕ → ℕ) → let n = total f (inUse (set (set ls j (upperSettled .level)) (suc j) (lowerSettled .level))) in
-      let m = total f (placesOf (upperSettled .written)) + total f (placesOf (lowerSettled .written)) in (n ≤ total f (inUse ls) + m) × (m ≤ n)
+  merge-totals : (f : ℕ → ℕ) → let a : Allocation = record { used = inUse ls; cursor = cursor } in
+      let c = cutIn w first ls j in
+      let n = total f (inUse (levelsAfter P B bottom a c ls j)) in
+      let m = total f (placesOf (upperSettled P B a c .written)) + total f (placesOf (lowerSettled P B bottom a c .written)) in
+      (n ≤ total f (inUse ls) + m) × (m ≤ n)
   merge-totals f =
       let a : Allocation = record { used = inUse ls; cursor = cursor } in
       let above : Level = getD ls j [] in
       let under : Level = getD ls (suc j) [] in
-      let c = cutAt w first above under in
-      let u : Level = upperOf B (suc i) c in
+      let c = cutIn w first ls j in
+      let u : Level = upperOf B 1 c in
       let l : Level = lowerOf B bottom c in
-      let U : Level = upperSettled .level in
-      let p = in-use-set f ls j U (omega arith) in
-      let q = in-use-set f (set ls j U) (suc j) (lowerSettled .level) (omega (arith, length-set ls j U)) in
-      let o = ap (λ (k : Level). total f (placesOf k)) (other ls j U) in
+      let x : Settled = upperSettled P B a c in
+      let y : Settled = lowerSettled P B bottom a c in
+      let p = in-use-set f ls j (x .level) (omega arith) in
+      let q = in-use-set f (set ls j (x .level)) (suc j) (y .level) (omega (arith, length-set ls j (x .level))) in
+      let o = ap (λ (k : Level). total f (placesOf k)) (other ls j (x .level)) in
       let su = settle-places f P a u in
-      let sl = settle-places f P (upperSettled .allocation) l in
+      let sl = settle-places f P (x .allocation) l in
       let e = in-use-set f ls j [] (omega arith) in
       let g = in-use-at f (set ls j []) (suc j) in
       let z = ap (λ (k : Level). total f (placesOf k)) (other ls j []) in
-      let k = pair-places B w first above under h f bottom i in (
+      let k = pair-places B w first above under h f bottom 0 in (
         omega (arith, p, q, o, su, sl, k, weights-places f u, weights-places f l, weights-places f above, weights-places f under),
         omega (arith, p, q, o, su, sl, e, g, z),
       )
 
-  pub merge-changed : Changed P (record { used = inUse ls; cursor = cursor }) (inUse (set (set ls j (upperSettled .level)) (suc j) (lowerSettled .level))) (placesOf (upperSettled .written) ++ placesOf (lowerSettled .written))
-  merge-changed = record {
-    takes = merge-takes;
-    most = λ f. omega (arith, merge-totals f .0, total-append f (placesOf (upperSettled .written)) (placesOf (lowerSettled .written)));
-    least = λ f. omega (arith, merge-totals f .1, total-append f (placesOf (upperSettled .written)) (placesOf (lowerSettled .written)));
-  }
+  -- what is in use afterwards is part of what was, and the places taken, each the first free one after the cursor
+  pub merge-changed : let a : Allocation = record { used = inUse ls; cursor = cursor } in
+      let c = cutIn w first ls j in Changed P a (inUse (levelsAfter P B bottom a c ls j)) (takenBy P B bottom a c)
+  merge-changed =
+      let a : Allocation = record { used = inUse ls; cursor = cursor } in
+      let c = cutIn w first ls j in
+      let x : Settled = upperSettled P B a c in
+      let y : Settled = lowerSettled P B bottom a c in
+      record {
+        takes = merge-takes;
+        most = λ f. omega (arith, merge-totals f .0, total-append f (placesOf (x .written)) (placesOf (y .written)));
+        least = λ f. omega (arith, merge-totals f .1, total-append f (placesOf (x .written)) (placesOf (y .written)));
+      }
 
   -- "Blocks written by a merge are the places in use at its end that were not in use at its start, step 2's block with them."
-  pub merge-newly : let c = cutAt w first (getD ls j []) (getD ls (suc j) []) in
-      newlyUsed (inUse ls) (inUse (set (set ls j (upperSettled .level)) (suc j) (lowerSettled .level))) ≡ fresh (upperOf B (suc i) c) + fresh (lowerOf B bottom c)
+  pub merge-newly : let a : Allocation = record { used = inUse ls; cursor = cursor } in
+      let c = cutIn w first ls j in newlyUsed (inUse ls) (inUse (levelsAfter P B bottom a c ls j)) ≡ fresh (upperOf B 1 c) + fresh (lowerOf B bottom c)
   merge-newly =
       let a : Allocation = record { used = inUse ls; cursor = cursor } in
-      let c = cutAt w first (getD ls j []) (getD ls (suc j) []) in
+      let c = cutIn w first ls j in
+      let x : Settled = upperSettled P B a c in
+      let y : Settled = lowerSettled P B bottom a c in
       omega (
         arith,
-        changed-newly P a (inUse (set (set ls j (upperSettled .level)) (suc j) (lowerSettled .level))) (placesOf (upperSettled .written) ++ placesOf (lowerSettled .written)) merge-changed,
-        length-append (placesOf (upperSettled .written)) (placesOf (lowerSettled .written)),
-        written-places P a (upperOf B (suc i) c),
-        written-places P (upperSettled .allocation) (lowerOf B bottom c),
+        changed-newly P a (inUse (levelsAfter P B bottom a c ls j)) (takenBy P B bottom a c) merge-changed,
+        length-append (placesOf (x .written)) (placesOf (y .written)),
+        written-places P a (upperOf B 1 c),
+        written-places P (x .allocation) (lowerOf B bottom c),
       )
