@@ -19,3 +19,5 @@ pub mod FirstFree
 pub mod Settling
 pub mod Places
 pub mod Written
+pub mod Chosen
+pub mod Room

@@ -13,7 +13,7 @@ use Rattle.levels.specs.Waste.{compact}
 use Rattle.levels.specs.Choose.{Cut, cutAt}
 use Rattle.levels.specs.Place.{Allocation, Settled, settle, placesOf, inUse, newlyUsed}
 use Rattle.levels.proofs.Fresh.{fresh, weights, count-all}
-use Rattle.levels.proofs.Merged.{Mergeable, upperOf, lowerOf, pair-places, lower-places}
+use Rattle.levels.proofs.Merged.{Mergeable, upperOf, lowerOf, pair-places, lower-places, upper-writes, lower-writes}
 use Rattle.levels.proofs.Compaction.{compact-fresh}
 use Rattle.levels.proofs.Settling.{afterTaking, Takes, takes-append, settle-takes, settle-cursor, settle-allocation, settle-used, settle-places, written-places}
 use Rattle.levels.proofs.Places.{total-append, weights-places, in-use-set, in-use-at, Changed, changed-newly}
@@ -153,3 +153,9 @@ module _ (P B w first cursor : ℕ) (bottom : Bool) (ls : List Level) (j : ℕ) 
         written-places P a (upperOf B 1 c),
         written-places P (x .allocation) (lowerOf B bottom c),
       )
+
+  -- demand 3: "blocks written" are at most w + q + 1, where all blocks had places
+  pub merge-bound : fresh (getD ls j []) ≡ 0 → fresh (getD ls (suc j) []) ≡ 0 → let a : Allocation = record { used = inUse ls; cursor = cursor } in
+      let c = cutIn w first ls j in newlyUsed (inUse ls) (inUse (levelsAfter P B bottom a c ls j)) ≤ w + length (c .over) + 1
+  merge-bound fa fu =
+      omega (arith, merge-newly, upper-writes B w first (getD ls j []) (getD ls (suc j) []) h 0 fa, lower-writes B w first (getD ls j []) (getD ls (suc j) []) h bottom fu)
