@@ -13,18 +13,11 @@ use Rattle.levels.specs.Record.{Level, records}
 use Rattle.levels.specs.Choose.{choose, cutAt}
 use Rattle.levels.proofs.Rising.{Rising}
 use Rattle.levels.proofs.Levels.{Well, Ordered, sized-filled, rising-ordered}
+use Rattle.levels.proofs.Capacity.{window-half, window-capacity-half}
 use Rattle.levels.proofs.Choice.{choose-is}
 use Rattle.levels.proofs.Overlap.{window-fits, choose-window}
 use Rattle.levels.proofs.Cut.{over-length}
 use Rattle.levels.proofs.Merged.{Mergeable, lowerOf, lower-double}
-
--- "G growth" is 2 or more: a window is at most half the window below it
-pub window-half : (g : Geometry) → Ranged g → (i : ℕ) → 2 * windowOf g i ≤ windowOf g (suc i)
-window-half g k i = rw window-grows (mul-le-mul-right (windowOf g i) (k .g-low))
-
--- "d windows a level" is 2 or more: a window is at most half its level
-pub window-capacity-half : (g : Geometry) → Ranged g → (i : ℕ) → 2 * windowOf g i ≤ capacityOf g i
-window-capacity-half g k i = rw capacity-windows (mul-le-mul-right (windowOf g i) (k .d-low))
 
 pub chosen-mergeable : (B w : ℕ) (above under : Level) → 1 ≤ B → 1 ≤ w → w ≤ length above → Well B above → Well B under → Rising 0 (records above) → Rising 0 (records under)
     → Mergeable B w (choose w above under .at) above under

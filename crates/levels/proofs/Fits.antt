@@ -9,12 +9,16 @@ use native.Mathlib.Nat.{div-mul-le-self, mul-le-mul-left, mul-le-mul-right}
 use lib.Dec.{ltb}
 use lib.ListN.{length, getD, take}
 use borrow.Author.Tests.{ltb-false}
+use Rattle.geometry.specs.declared.Geometry.{Geometry}
+use Rattle.geometry.specs.Geometry.{Valid, capacityOf, capacitySum, keyLimitOf}
 use Rattle.levels.specs.Basics.{if_then_else_, total, ceilDiv}
-use Rattle.levels.specs.Record.{Rec, hasTombstone}
+use Rattle.levels.specs.Record.{Rec, Level, records, hasTombstone}
 use Rattle.levels.specs.Map.{into, overlay, view, unmarked, mapOf, liveCount}
 use Rattle.levels.specs.Waste.{wasteful}
 use Rattle.levels.proofs.Overlay.{into-below, into-same, into-above, Way, less, same, more, way}
 use Rattle.levels.proofs.View.{unmarked-drop, unmarked-keep, clean-unmarked}
+use Rattle.levels.proofs.Levels.{Sized, sized-most}
+use Rattle.levels.proofs.Capacity.{capacity-sum-front}
 
 -- 1 for a tombstone; 1 for a record that is none
 abbrev dead : Rec → ℕ
@@ -108,3 +112,26 @@ rule-fits B a R K p e h = go (decLt K a)
             let c : a ≤ ceilDiv R B = ltb-false (ceilDiv R B) a ds in
             let m = div-mul-le-self (R + (B - 1)) B in
             absurd (omega (arith, big, m, mul-le-mul-right B c))
+
+-- "Key limit N = (4 × B × K(h) divided by 5, rounded down) − B × (K(0) + .. + K(h−1))": live keys up to N, and full levels above h, are at most 4BK(h)/5
+pub limit-fits : (g : Geometry) (live above : ℕ) → Valid g → live ≤ keyLimitOf g → above ≤ g .b * capacitySum g 0 (g .h) → 5 * (live + above) ≤ 4 * (g .b * capacityOf g (g .h))
+unfolding keyLimitOf
+limit-fits g live above v h k = omega (arith, v .limit-low, div-mul-le-self (4 * g .b * capacityOf g (g .h)) 5)
+
+-- Level h holds at most K(h) blocks when it needs no compacting: R are its records, at most the live keys and the records above.
+pub bottom-fits : (g : Geometry) (a R live above : ℕ) → Valid g → wasteful (g .b) a R ≡ false → R ≤ live + above → live ≤ keyLimitOf g → above ≤ g .b * capacitySum g 0 (g .h) → a ≤ capacityOf g (g .h)
+bottom-fits g a R live above v e r h k =
+    let b = v .ranged .b-low in
+    rule-fits (g .b) a R (capacityOf g (g .h)) (omega arith) e (omega (arith, limit-fits g live above v h k))
+
+-- each level from level i on has at most K(i) blocks of 1 to B records
+abbrev pub Within : Geometry → ℕ → List Level → Type 0
+Within g i [] = Unit {0}
+Within g i (l ∷ ls) = (length l ≤ capacityOf g i) × Sized (g .b) l × Within g (suc i) ls
+
+-- so together they hold at most B × (K(i) + ..) records
+pub within-records : (g : Geometry) (i : ℕ) (ls : List Level) → Within g i ls → total (λ (l : Level). length (records l)) ls ≤ g .b * capacitySum g i (length ls)
+unfolding capacitySum
+within-records g i [] h = omega arith
+within-records g i (l ∷ ls) h =
+    omega (arith, sized-most (g .b) l (h .1), mul-le-mul-right (g .b) (h .0), within-records g (suc i) ls (h .2), ap (λ (n : ℕ). g .b * n) (capacity-sum-front g i (length ls)))

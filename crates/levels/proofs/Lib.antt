@@ -3,6 +3,7 @@ pub mod Rising
 pub mod Overlay
 pub mod View
 pub mod Levels
+pub mod Capacity
 pub mod Choice
 pub mod Overlap
 pub mod Cut

@@ -14,7 +14,7 @@ use Rattle.levels.specs.Merge.{merge, close}
 use Rattle.levels.proofs.Rising.{Rising, Below, rising-from, rising-left, rising-right, rising-swap}
 use Rattle.levels.proofs.Overlay.{find-append, find-overlay, overlay-rising, same-find}
 use Rattle.levels.proofs.View.{unmarked-rising, unmarked-clean, find-unmarked, present-or, present-clean}
-use Rattle.levels.proofs.Levels.{Filled, Sized, Well, records-three, records-three-length, sized-filled}
+use Rattle.levels.proofs.Levels.{Well, records-three, records-three-length, sized-filled, sized-least}
 use Rattle.levels.proofs.Cut.{cut-above, cut-under, cut-lengths, run-length, WellCut, cut-well, Lies, cut-lies}
 use Rattle.levels.proofs.Fresh.{fresh, olds, weights, fresh-append, weights-append, olds-most}
 use Rattle.levels.proofs.MergeRecords.{kept, merge-records, close-records}
@@ -166,6 +166,10 @@ module _ (B w first : ℕ) (above under : Level) (h : Mergeable B w first above 
   upper-count i =
       let c = cutAt w first above under in
       omega (arith, ap length (upper-records i), length-append (records (c .left)) (records (c .right)), records-three-length (c .left) (c .run) (c .right), ap (λ (l : Level). length (records l)) (cut-above w first above under))
+
+  -- at least one record leaves level i
+  pub upper-fewer : (i : ℕ) → length (records (upperOf B i (cutAt w first above under))) < length (records above)
+  upper-fewer i = let c = cutAt w first above under in let s = run-some in omega (arith, upper-count i, sized-least B (c .run) (wells .run .sized))
 
   pub lower-count : (bottom : Bool) → let c = cutAt w first above under in length (records (lowerOf B bottom c)) ≤ length (records under) + length (records (c .run))
   lower-count bottom =

@@ -17,7 +17,8 @@ use Rattle.levels.specs.Place.{placesOf, inUse}
 use Rattle.levels.proofs.Fresh.{fresh, olds, olds-most, places-olds}
 use Rattle.levels.proofs.Merged.{upperOf, lowerOf, upper-writes, lower-writes}
 use Rattle.levels.proofs.Compaction.{compact-fresh, compact-shorter}
-use Rattle.levels.proofs.Chosen.{window-half, window-capacity-half, Due, due-mergeable, due-over}
+use Rattle.levels.proofs.Capacity.{window-half, window-capacity-half, capacity-sum-front, level-in-flash}
+use Rattle.levels.proofs.Chosen.{Due, due-mergeable, due-over}
 
 -- the level at index j, which is level i + j + 1, has at most twice its capacity
 abbrev pub Doubled : Geometry → ℕ → List Level → Type 0
@@ -29,33 +30,11 @@ doubled-at g i [] j d = omega arith
 doubled-at g i (l ∷ ls) zero d = rw add-zero (d .0)
 doubled-at g i (l ∷ ls) (suc j) d = let e : i + suc j ≡ suc i + j = omega arith in rw e (doubled-at g (suc i) ls j (d .1))
 
--- the sum of capacities from its front
-sum-front : (g : Geometry) (i n : ℕ) → capacitySum g i (suc n) ≡ capacityOf g i + capacitySum g (suc i) n
-unfolding capacitySum
-sum-front g i zero = rw (add-zero i) (omega arith)
-sum-front g i (suc n) =
-    let e : i + suc n ≡ suc i + n = omega arith in
-    omega (arith, sum-front g i n, ap (capacityOf g) e)
-
-sum-at : (g : Geometry) (i n j : ℕ) → j < n → capacityOf g (i + j) ≤ capacitySum g i n
-unfolding capacitySum
-sum-at g i zero j h = absurd (omega arith)
-sum-at g i (suc n) j h = go (ℕ-discrete j n) (λ k. sum-at g i n j k)
-  where
-    go : Dec (j ≡ n) → (j < n → capacityOf g (i + j) ≤ capacitySum g i n) → capacityOf g (i + j) ≤ capacitySum g i n + capacityOf g (i + n)
-    go (yes e) ih = rw e (omega arith)
-    go (no e) ih = omega (arith, ih (omega arith))
-
--- "S = K(1) + .. + K(h)": no level's capacity is above it
-pub level-in-flash : (g : Geometry) (j : ℕ) → j < g .h → capacityOf g (suc j) ≤ flashCapacityOf g
-unfolding flashCapacityOf
-level-in-flash g j h = let e : 1 + j ≡ suc j = omega arith in omega (arith, sum-at g 1 (g .h) j h, ap (capacityOf g) e)
-
 used-from : (g : Geometry) (i : ℕ) (ls : List Level) → Doubled g i ls → length (inUse ls) ≤ 2 * capacitySum g (suc i) (length ls)
 unfolding capacitySum
 used-from g i [] d = omega arith
 used-from g i (l ∷ ls) d =
-    omega (arith, d .0, places-olds l, olds-most l, used-from g (suc i) ls (d .1), length-append (placesOf l) (inUse ls), sum-front g (suc i) (length ls))
+    omega (arith, d .0, places-olds l, olds-most l, used-from g (suc i) ls (d .1), length-append (placesOf l) (inUse ls), capacity-sum-front g (suc i) (length ls))
 
 -- at most 2S places are in use
 pub used-most : (g : Geometry) (ls : List Level) → length ls ≡ g .h → Doubled g 0 ls → length (inUse ls) ≤ 2 * flashCapacityOf g

@@ -10,10 +10,11 @@ use native.Mathlib.Decide.{ℕ-discrete}
 use lib.Dec.{leb}
 use lib.ListN.{length}
 use borrow.Author.Tests.{leb-true, leb-false}
-use Rattle.levels.specs.Basics.{if_then_else_, orElse, isSome}
-use Rattle.levels.specs.Record.{Rec, hasTombstone}
+use Rattle.levels.specs.Basics.{if_then_else_, orElse, isSome, all}
+use Rattle.levels.specs.Record.{Rec, hasTombstone, rising}
 use Rattle.levels.specs.Map.{find, overlay, view, unmarked, mapOf, liveCount, decides, present, lookUp, isLive, firstFrom, next}
-use Rattle.levels.proofs.Rising.{Rising, rising-from}
+use Rattle.levels.proofs.Basics.{and-left, and-right, and-both}
+use Rattle.levels.proofs.Rising.{Rising, rising-from, test-rising, rising-test}
 use Rattle.levels.proofs.Overlay.{find-here, find-past, find-below, find-overlay, overlay-rising, same-find}
 
 -- the clauses of unmarked, as laws
@@ -29,6 +30,15 @@ unmarked-keep r rs e = ap (λ (t : Bool). elim t [ true ↦ unmarked rs | false 
 abbrev pub Risings : List (List Rec) → Type 0
 Risings [] = Unit {0}
 Risings (l ∷ ls) = Rising 0 l × Risings ls
+
+-- "keys rise strictly in each level": the test says it
+pub test-risings : (ls : List (List Rec)) → all (rising 0) ls ≡ true → Risings ls
+test-risings [] e = tt
+test-risings (l ∷ ls) e = (test-rising 0 l (and-left (rising 0 l) _ e), test-risings ls (and-right (rising 0 l) _ e))
+
+pub risings-test : (ls : List (List Rec)) → Risings ls → all (rising 0) ls ≡ true
+risings-test [] h = refl
+risings-test (l ∷ ls) h = and-both (rising 0 l) _ (rising-test 0 l (h .0)) (risings-test ls (h .1))
 
 pub view-rising : (ls : List (List Rec)) → Risings ls → Rising 0 (view ls)
 unfolding view
