@@ -1,5 +1,4 @@
 -- Laws of the small helpers: tests joined by `&&`, `if`, the first that is there.
-use Prim.Native.Nat.{ℕ, zero, suc}
 use mathlib.Core.Path.{_≡_, refl}
 use mathlib.Core.Bool.{Bool, true, false, _&&_}
 use mathlib.Core.Option.{Option, none, some}

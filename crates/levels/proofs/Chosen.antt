@@ -1,14 +1,12 @@
 -- The chosen run: it can be merged, q is the length of Y and at most W(i + 1), and the level below at most doubles.
-use Prim.Native.Nat.{ℕ, zero, suc, _+_, _*_, _<_, _≤_}
-use mathlib.Core.Path.{_≡_, refl, sym, _∙_, ap}
+use Prim.Native.Nat.{ℕ, suc, _*_, _≤_}
+use mathlib.Core.Path.{_≡_, _∙_}
 use mathlib.Core.Bool.{Bool}
-use mathlib.Core.List.{List, [], _∷_}
 use native.Mathlib.Omega.{arith}
-use native.Mathlib.Nat.{mul-le-mul-right}
-use lib.ListN.{length, take, drop}
+use lib.ListN.{length}
 use Rattle.geometry.specs.declared.Geometry.{Geometry}
 use Rattle.geometry.specs.Geometry.{Ranged, capacityOf, windowOf}
-use Rattle.geometry.proofs.Laws.{capacity-windows, window-grows, window-low}
+use Rattle.geometry.proofs.Laws.{window-low}
 use Rattle.levels.specs.Record.{Level, records}
 use Rattle.levels.specs.Choose.{choose, cutAt}
 use Rattle.levels.proofs.Rising.{Rising}

@@ -1,8 +1,8 @@
 -- Step 5, compaction: the same records, B to a block, the last with the rest; both waste rules hold afterwards. And the pages of level 0, which are cut alike.
-use Prim.Native.Nat.{ℕ, zero, suc, _+_, _-_, _*_, _/_, _<_, _≤_}
-use mathlib.Core.Path.{_≡_, refl, sym, _∙_, ap}
-use mathlib.Core.Bool.{Bool, true, false, _&&_}
-use mathlib.Core.List.{List, [], _∷_, _++_, append-assoc, append-nil}
+use Prim.Native.Nat.{ℕ, suc, _+_, _-_, _*_, _<_, _≤_}
+use mathlib.Core.Path.{_≡_, refl, _∙_, ap}
+use mathlib.Core.Bool.{Bool, true, false}
+use mathlib.Core.List.{List, [], _∷_, _++_, append-assoc}
 use native.Mathlib.Omega.{arith}
 use native.Mathlib.Decide.{decLt}
 use native.Mathlib.Nat.{le-div-iff-mul-le, div-mul-le-self, mul-le-mul-right}
@@ -12,7 +12,7 @@ use borrow.Author.Tests.{leb-true, leb-false, ltb-true, le-ltb}
 use Rattle.levels.specs.Basics.{ceilDiv}
 use Rattle.levels.specs.Record.{Rec, Block, Level, size, new, records, pack, pages}
 use Rattle.levels.specs.Waste.{wasteful, needsCompact, compact}
-use Rattle.levels.proofs.Basics.{and-left, and-right}
+use Rattle.levels.proofs.Basics.{and-left}
 use Rattle.levels.proofs.Levels.{Well, well-nil, sized-most}
 use Rattle.levels.proofs.Fresh.{fresh}
 

@@ -1,5 +1,5 @@
 -- The cut of the two levels of a merge, for any run of w blocks: its parts make up the levels, Y is the blocks that X overlaps, and how the parts lie.
-use Prim.Native.Nat.{ℕ, zero, suc, _+_, _-_, _*_, _<_, _≤_}
+use Prim.Native.Nat.{ℕ, zero, suc, _+_, _<_, _≤_}
 use mathlib.Core.Path.{_≡_, refl, sym, _∙_, ap}
 use mathlib.Core.Bool.{Bool, true, false, _&&_}
 use mathlib.Core.List.{List, [], _∷_, _++_, append-assoc, append-nil}
@@ -7,12 +7,12 @@ use native.Mathlib.Omega.{arith}
 use lib.Dec.{leb, ltb}
 use lib.Seq.{drop-drop}
 use lib.ListN.{length, length-append, take, drop, length-take, length-drop}
-use borrow.Author.Tests.{leb-true, leb-false, ltb-true, ltb-false, le-leb, lt-leb}
+use borrow.Author.Tests.{leb-false, ltb-true, ltb-false, le-leb, lt-leb}
 use Rattle.levels.specs.Basics.{if_then_else_}
-use Rattle.levels.specs.Record.{Rec, Block, Level, size, records, firstKey, lastKey}
+use Rattle.levels.specs.Record.{Rec, Block, Level, records, firstKey, lastKey}
 use Rattle.levels.specs.Choose.{loOf, hiOf, meets, countMeets, overlap, Cut, below, notAbove, cutAt}
 use Rattle.levels.proofs.Rising.{Rising, Below, rising-from, rising-left, rising-right, below-more, below-append}
-use Rattle.levels.proofs.Levels.{Filled, Sized, Well, Ordered, records-three, sized-filled, well-drop, well-prefix, take-prefix, Prefix, empty, more, drop-rising, block-ends, first-rising}
+use Rattle.levels.proofs.Levels.{Sized, Well, Ordered, records-three, well-drop, well-prefix, take-prefix, Prefix, empty, more, drop-rising, block-ends, first-rising}
 
 -- X and what is left and right of it make up the upper level
 take-drop : (n : ℕ) (l : Level) → take n l ++ drop n l ≡ l

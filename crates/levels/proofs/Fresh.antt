@@ -1,11 +1,11 @@
 -- How many blocks of a level are new, which have no place yet and are to be written, and how many are old.
-use Prim.Native.Nat.{ℕ, zero, suc, _+_, _≤_}
-use mathlib.Core.Path.{_≡_, refl, sym, _∙_, ap}
-use mathlib.Core.List.{List, [], _∷_, _++_, reverseAux}
+use Prim.Native.Nat.{ℕ, suc, _+_, _≤_}
+use mathlib.Core.Path.{_≡_, refl}
+use mathlib.Core.List.{[], _∷_, _++_, reverseAux}
 use mathlib.Core.Option.{Option, none, some}
 use native.Mathlib.Omega.{arith}
 use lib.ListN.{length}
-use Rattle.levels.specs.Record.{Rec, Block, Level, new}
+use Rattle.levels.specs.Record.{Block, Level}
 use Rattle.levels.specs.Place.{placesOf}
 
 -- 1 for a new block

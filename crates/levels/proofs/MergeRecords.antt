@@ -1,5 +1,5 @@
 -- Steps 3 and 4: the records of the level that a merge of given X and Y makes. Nothing here knows how X was chosen.
-use Prim.Native.Nat.{ℕ, zero, suc, _+_, _-_, _*_, _<_, _≤_}
+use Prim.Native.Nat.{ℕ, zero, suc, _+_, _<_, _≤_}
 use mathlib.Core.Path.{_≡_, refl, sym, _∙_, ap}
 use mathlib.Core.Bool.{Bool, true, false, _&&_, _||_, not}
 use mathlib.Core.List.{List, [], _∷_, _++_, append-assoc, append-nil, reverse, reverseAux, tail}
@@ -14,7 +14,7 @@ use Rattle.levels.specs.Merge.{Out, State, endsBelow, mayFollow, reusabl
 use Rattle.levels.proofs.Basics.{and-left, and-right, if-either}
 use Rattle.levels.proofs.Rising.{Rising, rising-from, rising-left, rising-right}
 use Rattle.levels.proofs.Overlay.{into-below, into-same, into-above}
-use Rattle.levels.proofs.View.{unmarked-drop, unmarked-keep}
+use Rattle.levels.proofs.View.{unmarked-keep}
 use Rattle.levels.proofs.Levels.{Filled, records-append}
 
 -- the records of what has been made, which is kept last block first

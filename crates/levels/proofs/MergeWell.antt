@@ -1,6 +1,6 @@
 -- Steps 2 to 4 keep the waste rule "Pair", and every block holds 1 to B records.
 use Prim.Native.Nat.{ℕ, zero, suc, _+_, _<_, _≤_}
-use mathlib.Core.Path.{_≡_, refl, sym, _∙_, ap}
+use mathlib.Core.Path.{_≡_, refl}
 use mathlib.Core.Bool.{Bool, true, false, _&&_}
 use mathlib.Core.List.{List, [], _∷_, _++_, reverse, reverseAux, tail}
 use native.Mathlib.Omega.{arith}
@@ -9,7 +9,7 @@ use lib.ListN.{length, length-append}
 use borrow.Author.Tests.{leb-true, leb-false, ltb-true}
 use Rattle.levels.specs.Basics.{if_then_else_, iterate}
 use Rattle.levels.specs.Record.{Rec, Block, Level, size, new, records, firstKey}
-use Rattle.levels.specs.Merge.{Out, State, apart, mayFollow, reusable, flush, rest, headRec, reuse, gather, keep, fromUpper, fromLower, fromBoth, stepOn, step, joinLeft, join, stream, merge, close}
+use Rattle.levels.specs.Merge.{Out, State, apart, mayFollow, reusable, flush, rest, headRec, reuse, gather, fromUpper, fromLower, fromBoth, stepOn, step, joinLeft, join, stream, merge, close}
 use Rattle.levels.proofs.Basics.{and-left, and-right, if-either}
 use Rattle.levels.proofs.Levels.{Sized, Apart, Pairs, Well, well-tail, well-nil}
 use Rattle.levels.proofs.MergeRecords.{reusable-says}

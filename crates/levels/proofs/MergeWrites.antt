@@ -1,24 +1,24 @@
 -- The write bound of steps 2 to 4, and how long the level gets: at most one new block for each block of X and Y, and one for step 2.
 -- It goes by a potential: B × (new blocks) + buffer + (what the input blocks can still pay) stays at most B × (w + q).
-use Prim.Native.Nat.{ℕ, zero, suc, _+_, _-_, _*_, _<_, _≤_}
-use mathlib.Core.Path.{_≡_, refl, sym, _∙_, ap}
+use Prim.Native.Nat.{ℕ, zero, suc, _+_, _*_, _<_, _≤_}
+use mathlib.Core.Path.{_≡_, refl, sym, ap}
 use mathlib.Core.Bool.{Bool, true, false, _&&_, true≢false}
-use mathlib.Core.List.{List, [], _∷_, _++_, reverse, reverseAux, tail}
+use mathlib.Core.List.{List, [], _∷_, _++_, reverse, reverseAux}
 use mathlib.Core.Option.{Option, none, some}
 use native.Mathlib.Omega.{arith}
 use native.Mathlib.Decide.{decLt}
 use native.Mathlib.Nat.{mul-le-mul-left}
 use lib.Dec.{leb, ltb, eqb}
-use lib.ListN.{length, length-append}
-use borrow.Author.Tests.{leb-true, leb-false}
+use lib.ListN.{length}
+use borrow.Author.Tests.{leb-true}
 use Rattle.levels.specs.Basics.{if_then_else_, iterate}
 use Rattle.levels.specs.Record.{Rec, Block, Level, size, new, placed, records, firstKey}
-use Rattle.levels.specs.Merge.{Out, State, reusable, flush, rest, headRec, reuse, gather, keep, fromUpper, fromLower, fromBoth, stepOn, step, joinLeft, join, stream, merge, close}
+use Rattle.levels.specs.Merge.{Out, State, reusable, flush, rest, headRec, reuse, gather, fromUpper, fromLower, fromBoth, stepOn, step, joinLeft, join, stream, merge, close}
 use Rattle.levels.proofs.Basics.{if-either}
 use Rattle.levels.proofs.Levels.{Sized, Well, well-nil}
-use Rattle.levels.proofs.Fresh.{one, weight, weights, fresh, olds, count-all, reverse-fresh, reverse-weights, reverse-length}
+use Rattle.levels.proofs.Fresh.{weight, weights, fresh, olds, count-all, reverse-fresh, reverse-weights, reverse-length}
 use Rattle.levels.proofs.MergeRecords.{reusable-says}
-use Rattle.levels.proofs.MergeWell.{Good, Keeps, step-keeps, iterate-keeps, reverse-before, length-snoc}
+use Rattle.levels.proofs.MergeWell.{Keeps, step-keeps, reverse-before, length-snoc}
 
 -- what an input block can still pay: B as long as it has a place, else its records
 abbrev pub cap : ℕ → Block → ℕ

@@ -1,22 +1,21 @@
 -- A merge of any run of w blocks, steps 2 to 4: what holds of the two levels it leaves. Nothing here knows how the run was chosen.
-use Prim.Native.Nat.{ℕ, zero, suc, _+_, _-_, _*_, _<_, _≤_}
+use Prim.Native.Nat.{ℕ, suc, _+_, _*_, _<_, _≤_}
 use mathlib.Core.Path.{_≡_, refl, sym, _∙_, ap}
 use mathlib.Core.Bool.{Bool, true, false, _||_}
-use mathlib.Core.List.{List, [], _∷_, _++_, append-assoc}
-use mathlib.Core.Option.{Option, none, some}
+use mathlib.Core.List.{List, _++_}
 use native.Mathlib.Omega.{arith}
-use lib.ListN.{length, length-append, take, drop}
+use lib.ListN.{length, length-append}
 use Rattle.levels.specs.Basics.{orElse, all}
-use Rattle.levels.specs.Record.{Rec, Block, Level, records, hasTombstone}
+use Rattle.levels.specs.Record.{Rec, Level, records, hasTombstone}
 use Rattle.levels.specs.Map.{find, overlay, unmarked, present}
 use Rattle.levels.specs.Choose.{loOf, hiOf, Cut, cutAt}
 use Rattle.levels.specs.Merge.{merge, close}
-use Rattle.levels.proofs.Rising.{Rising, Below, rising-from, rising-left, rising-right, rising-swap}
+use Rattle.levels.proofs.Rising.{Rising, rising-from, rising-left, rising-right, rising-swap}
 use Rattle.levels.proofs.Overlay.{find-append, find-overlay, overlay-rising, same-find}
 use Rattle.levels.proofs.View.{unmarked-rising, unmarked-clean, find-unmarked, present-or, present-clean}
 use Rattle.levels.proofs.Levels.{Well, records-three, records-three-length, sized-filled, sized-least}
 use Rattle.levels.proofs.Cut.{cut-above, cut-under, cut-lengths, run-length, WellCut, cut-well, Lies, cut-lies}
-use Rattle.levels.proofs.Fresh.{fresh, olds, weights, fresh-append, weights-append, olds-most}
+use Rattle.levels.proofs.Fresh.{fresh, weights, fresh-append, weights-append, olds-most}
 use Rattle.levels.proofs.MergeRecords.{kept, merge-records, close-records}
 use Rattle.levels.proofs.MergeWell.{merge-well, close-well}
 use Rattle.levels.proofs.MergeWrites.{merge-writes, merge-places, merge-length, close-writes, close-places, close-length}

@@ -3,17 +3,17 @@
 use Prim.Native.Nat.{ℕ, zero, suc, _+_, _-_, _*_, _/_, _<_, _≤_}
 use mathlib.Core.Path.{_≡_, refl, sym, _∙_}
 use mathlib.Core.Bool.{Bool, true, false, _&&_}
-use mathlib.Core.List.{List, [], _∷_}
+use mathlib.Core.List.{[], _∷_}
 use native.Mathlib.Omega.{arith}
 use native.Mathlib.Decide.{decLt}
 use native.Mathlib.Nat.{le-div-iff-mul-le, div-mul-le-self, mul-le-mul-right}
-use lib.Dec.{leb, ltb, eqb}
+use lib.Dec.{leb}
 use lib.ListN.{length, take, drop, length-drop}
 use lib.Seq.{drop-drop}
 use borrow.Author.Tests.{leb-true, leb-false, lt-leb}
 use Rattle.geometry.specs.declared.Geometry.{Geometry}
 use Rattle.geometry.specs.Geometry.{Ranged, capacityOf, windowOf}
-use Rattle.geometry.proofs.Laws.{capacity-windows, window-grows, window-low}
+use Rattle.geometry.proofs.Laws.{capacity-windows, window-low}
 use Rattle.levels.specs.Basics.{if_then_else_, ceilDiv}
 use Rattle.levels.specs.Record.{Block, Level, firstKey, lastKey}
 use Rattle.levels.specs.Choose.{meets, countMeets, loOf, hiOf, overlap, choose, overlapBound}

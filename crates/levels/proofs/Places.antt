@@ -1,21 +1,19 @@
 -- The places in use before and after a merge or a compaction: none twice, all below P, and the newly used are the blocks written.
 -- Lists of places are compared by sums: `total f` of a list, for any weight f of a place.
-use Prim.Native.Nat.{ℕ, zero, suc, _+_, _-_, _<_, _≤_}
+use Prim.Native.Nat.{ℕ, zero, suc, _+_, _<_, _≤_}
 use mathlib.Core.Path.{_≡_, refl, sym, _∙_, ap}
 use mathlib.Core.Bool.{Bool, true, false, not, _&&_, _||_, true≢false}
 use mathlib.Core.List.{List, [], _∷_, _++_}
 use mathlib.Core.Option.{Option, none, some}
 use native.Mathlib.Omega.{arith}
-use native.Mathlib.Decide.{ℕ-discrete}
 use lib.Dec.{ltb, eqb}
 use lib.ListN.{length, getD, set}
-use borrow.Author.Tests.{eqb-true, eqb-false, eq-eqb, ltb-true, ltb-false, lt-ltb, not-true}
+use borrow.Author.Tests.{eqb-true, eq-eqb, lt-ltb, not-true}
 use Rattle.levels.specs.Basics.{if_then_else_, all, total, member}
-use Rattle.levels.specs.Record.{Rec, Block, Level}
+use Rattle.levels.specs.Record.{Level}
 use Rattle.levels.specs.Place.{Allocation, placesOf, inUse, newlyUsed, distinct}
 use Rattle.levels.proofs.Basics.{and-left, and-right, and-both}
-use Rattle.levels.proofs.Fresh.{weight, weights}
-use Rattle.levels.proofs.FirstFree.{FirstFree}
+use Rattle.levels.proofs.Fresh.{weights}
 use Rattle.levels.proofs.Settling.{Takes}
 
 -- weights of a place: is it p; is it not in a list; is it not below P

@@ -1,20 +1,19 @@
 -- "P is at least 4S + 8. That this always leaves a free place is to be shown": what is in use and what a merge or a compaction takes stay below P together,
 -- as long as no level is longer than twice its capacity.
-use Prim.Native.Nat.{ℕ, zero, suc, _+_, _-_, _*_, _<_, _≤_}
-use mathlib.Core.Path.{_≡_, refl, sym, _∙_, ap}
+use Prim.Native.Nat.{ℕ, zero, suc, _+_, _*_, _<_, _≤_}
+use mathlib.Core.Path.{_≡_, ap}
 use mathlib.Core.Bool.{Bool, true}
-use mathlib.Core.List.{List, [], _∷_, _++_}
+use mathlib.Core.List.{List, [], _∷_}
 use native.Mathlib.Omega.{arith}
-use native.Mathlib.Decide.{ℕ-discrete}
-use native.Mathlib.Nat.{add-zero, zero-add, add-suc, suc-add}
+use native.Mathlib.Nat.{add-zero}
 use lib.ListN.{length, length-append, getD}
 use Rattle.geometry.specs.declared.Geometry.{Geometry}
-use Rattle.geometry.specs.Geometry.{Ranged, Valid, capacityOf, windowOf, capacitySum, flashCapacityOf}
+use Rattle.geometry.specs.Geometry.{Valid, capacityOf, windowOf, capacitySum, flashCapacityOf}
 use Rattle.levels.specs.Record.{Level}
 use Rattle.levels.specs.Waste.{needsCompact, compact}
 use Rattle.levels.specs.Choose.{choose, cutAt}
 use Rattle.levels.specs.Place.{placesOf, inUse}
-use Rattle.levels.proofs.Fresh.{fresh, olds, olds-most, places-olds}
+use Rattle.levels.proofs.Fresh.{fresh, olds-most, places-olds}
 use Rattle.levels.proofs.Merged.{upperOf, lowerOf, upper-writes, lower-writes}
 use Rattle.levels.proofs.Compaction.{compact-fresh, compact-shorter}
 use Rattle.levels.proofs.Capacity.{window-half, window-capacity-half, capacity-sum-front, level-in-flash}

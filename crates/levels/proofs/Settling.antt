@@ -1,7 +1,6 @@
 -- The new blocks of a level take places (document 01: "A new block goes to the first free place after hand, going round, and hand moves there", "in key order").
-use Prim.Native.Nat.{ℕ, zero, suc, _+_, _-_, _<_, _≤_}
-use mathlib.Core.Path.{_≡_, refl, sym, _∙_, ap}
-use mathlib.Core.Bool.{Bool, true, false}
+use Prim.Native.Nat.{ℕ, suc, _+_, _<_, _≤_}
+use mathlib.Core.Path.{_≡_, refl, ap}
 use mathlib.Core.List.{List, [], _∷_, _++_, map}
 use mathlib.Core.Option.{Option, none, some}
 use native.Mathlib.Omega.{arith}
@@ -9,8 +8,8 @@ use lib.ListN.{length}
 use Rattle.levels.specs.Basics.{total}
 use Rattle.levels.specs.Record.{Rec, Block, Level, size, records}
 use Rattle.levels.specs.Waste.{needsCompact}
-use Rattle.levels.specs.Place.{Allocation, firstFree, Settled, settleOne, settle, placesOf}
-use Rattle.levels.proofs.Levels.{Sized, Apart, Pairs, Well, well-nil, well-tail}
+use Rattle.levels.specs.Place.{Allocation, firstFree, settle, placesOf}
+use Rattle.levels.proofs.Levels.{Apart, Well, well-nil, well-tail}
 use Rattle.levels.proofs.Fresh.{fresh}
 use Rattle.levels.proofs.FirstFree.{FirstFree, first-free}
 

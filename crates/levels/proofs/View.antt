@@ -1,18 +1,18 @@
 -- Laws of the view and of the map (document 01, "Calls"): the levels from 0 down, one laid over the other, and the map without tombstones.
-use Prim.Native.Nat.{ℕ, zero, suc, _+_, _<_, _≤_}
+use Prim.Native.Nat.{ℕ, suc, _<_, _≤_}
 use mathlib.Core.Path.{_≡_, refl, sym, _∙_, ap}
 use mathlib.Core.Bool.{Bool, true, false, _||_, true≢false}
-use mathlib.Core.List.{List, [], _∷_, _++_}
-use mathlib.Core.Option.{Option, none, some, Option·some-injective, Option·none-ne-some}
+use mathlib.Core.List.{List, [], _∷_}
+use mathlib.Core.Option.{Option, none, some}
 use mathlib.Core.Logic.{_≢_}
 use native.Mathlib.Omega.{arith}
 use native.Mathlib.Decide.{ℕ-discrete}
 use lib.Dec.{leb}
 use lib.ListN.{length}
 use borrow.Author.Tests.{leb-true, leb-false}
-use Rattle.levels.specs.Basics.{if_then_else_, orElse, isSome, all}
+use Rattle.levels.specs.Basics.{orElse, isSome, all}
 use Rattle.levels.specs.Record.{Rec, hasTombstone, rising}
-use Rattle.levels.specs.Map.{find, overlay, view, unmarked, mapOf, liveCount, decides, present, lookUp, isLive, firstFrom, next}
+use Rattle.levels.specs.Map.{find, view, unmarked, mapOf, liveCount, decides, present, lookUp, isLive, firstFrom, next}
 use Rattle.levels.proofs.Basics.{and-left, and-right, and-both}
 use Rattle.levels.proofs.Rising.{Rising, rising-from, test-rising, rising-test}
 use Rattle.levels.proofs.Overlay.{find-here, find-past, find-below, find-overlay, overlay-rising, same-find}

@@ -1,14 +1,14 @@
 -- Blocks written by a merge or a compaction: its new blocks, each at the first free place after the cursor, and they are the places newly in use.
 -- The levels are given as a list; level i + 1 is at index i.
-use Prim.Native.Nat.{ℕ, zero, suc, _+_, _-_, _<_, _≤_}
+use Prim.Native.Nat.{ℕ, zero, suc, _+_, _<_, _≤_}
 use mathlib.Core.Path.{_≡_, refl, sym, _∙_, ap}
-use mathlib.Core.Bool.{Bool, true, false}
+use mathlib.Core.Bool.{Bool}
 use mathlib.Core.List.{List, [], _∷_, _++_}
 use mathlib.Core.Option.{Option, none, some}
 use native.Mathlib.Omega.{arith}
 use lib.ListN.{length, length-append, getD, set, length-set}
 use Rattle.levels.specs.Basics.{total}
-use Rattle.levels.specs.Record.{Rec, Block, Level}
+use Rattle.levels.specs.Record.{Level}
 use Rattle.levels.specs.Waste.{compact}
 use Rattle.levels.specs.Choose.{Cut, cutAt}
 use Rattle.levels.specs.Place.{Allocation, Settled, settle, placesOf, inUse, newlyUsed}
