@@ -1,9 +1,14 @@
 -- Laws of the small helpers: tests joined by `&&`, `if`, the first that is there.
+use Prim.Native.Nat.{suc}
 use mathlib.Core.Path.{_≡_, refl}
 use mathlib.Core.Bool.{Bool, true, false, _&&_}
+use mathlib.Core.List.{List, [], _∷_, _++_}
 use mathlib.Core.Option.{Option, none, some}
+use native.Mathlib.Omega.{arith}
+use lib.ListN.{length, length-append}
 use Rattle.levels.specs.Basics.{if_then_else_, orElse}
 
+-- both tests of a joined test hold
 pub and-left : (a b : Bool) → (a && b) ≡ true → a ≡ true
 and-left true b e = refl
 and-left false b e = e
@@ -21,6 +26,7 @@ pub if-either : {A : Type 0} (P : A → Type 0) (t : Bool) (a b : A) → P a →
 if-either P true a b p q = p
 if-either P false a b p q = q
 
+-- the first of three that is there
 pub or-assoc : {A : Type 0} (a b c : Option A) → orElse (orElse a b) c ≡ orElse a (orElse b c)
 or-assoc none b c = refl
 or-assoc (some x) b c = refl
@@ -28,3 +34,7 @@ or-assoc (some x) b c = refl
 pub or-none : {A : Type 0} (a : Option A) → orElse a none ≡ a
 or-none none = refl
 or-none (some x) = refl
+
+-- one element more at the end
+pub length-snoc : {A : Type 0} (xs : List A) (x : A) → length (xs ++ (x ∷ [])) ≡ suc (length xs)
+length-snoc xs x = simp length-append (omega arith)

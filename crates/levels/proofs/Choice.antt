@@ -75,6 +75,7 @@ pub record IsChoice (w : ℕ) (above under : Level) (r : Least) : Type 0 where
   pub fewest : (i : ℕ) → i + w ≤ length above → r .value ≤ overlap under (take w (drop i above))
   pub lowest : (i : ℕ) → i < r .at → r .value < overlap under (take w (drop i above))
 
+-- the choice of the definition is that run
 pub choose-is : (w : ℕ) (above under : Level) → 1 ≤ w → w ≤ length above → IsChoice w above under (choose w above under)
 choose-is w above under p f = record { whole = run; overlaps = at (choose w above under .at) run ∙ c .stands; fewest = few; lowest = low }
   where

@@ -35,6 +35,7 @@ pub record Due (g : Geometry) (i : ℕ) (above under : Level) : Type 0 where
   pub full : capacityOf g i ≤ length above
   pub roomy : length under ≤ capacityOf g (suc i)
 
+-- then the chosen run can be merged
 pub due-mergeable : (g : Geometry) (i : ℕ) (above under : Level) → Ranged g → Due g i above under → Mergeable (g .b) (windowOf g i) (choose (windowOf g i) above under .at) above under
 due-mergeable g i above under k d =
     let b = k .b-low in

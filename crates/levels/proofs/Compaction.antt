@@ -12,7 +12,7 @@ use borrow.Author.Tests.{leb-true, leb-false, ltb-true, le-ltb}
 use Rattle.levels.specs.Basics.{ceilDiv}
 use Rattle.levels.specs.Record.{Rec, Block, Level, size, new, records, pack, pages}
 use Rattle.levels.specs.Waste.{wasteful, needsCompact, compact}
-use Rattle.levels.proofs.Basics.{and-left}
+use Rattle.levels.proofs.Basics.{length-snoc, and-left}
 use Rattle.levels.proofs.Levels.{Well, well-nil, sized-most}
 use Rattle.levels.proofs.Fresh.{fresh}
 
@@ -25,9 +25,6 @@ Packed B (b ∷ c ∷ bs) = (size b ≡ B) × Packed B (c ∷ bs)
 packed-cons : (B : ℕ) (b : Block) (l : Level) → 1 ≤ B → size b ≡ B → Packed B l → Packed B (b ∷ l)
 packed-cons B b [] p e h = (omega arith, omega arith)
 packed-cons B b (c ∷ cs) p e h = (e, h)
-
-length-snoc : (buffer : List Rec) (r : Rec) → length (buffer ++ (r ∷ [])) ≡ suc (length buffer)
-length-snoc buffer r = simp length-append (omega arith)
 
 pack-packed : (B : ℕ) (buffer rs : List Rec) → length buffer < B → Packed B (pack B buffer rs)
 pack-packed B [] [] h = tt
@@ -89,9 +86,11 @@ pages-packed B top p = pack-packed B [] top (omega arith)
 pub pages-records : (B : ℕ) (top : List Rec) → records (pages B top) ≡ top
 pages-records B top = pack-records B [] top
 
+-- pages keep the pair rule and the sizes
 pub pages-well : (B : ℕ) (top : List Rec) → 1 ≤ B → Well B (pages B top)
 pages-well B top p = packed-well B (pages B top) p (pages-packed B top p)
 
+-- there are c/B pages, rounded up
 pub pages-length : (B : ℕ) (top : List Rec) → 1 ≤ B → length (pages B top) ≡ ceilDiv (length top) B
 pages-length B top p =
     let e = ap length (pages-records B top) in

@@ -64,6 +64,7 @@ pub cut-run : (w first : ℕ) (above under : Level) → cutAt w first above unde
 unfolding cutAt
 cut-run w first above under = refl
 
+-- and so has w blocks, if so many are there
 pub run-length : (w first : ℕ) (above under : Level) → first + w ≤ length above → length (cutAt w first above under .run) ≡ w
 unfolding cutAt
 run-length w first above under h = length-take w (drop first above) ∙ omega (arith, length-drop first above)
@@ -73,6 +74,7 @@ abbrev pub overlapped : ℕ → ℕ → Level → Level
 overlapped lo hi [] = []
 overlapped lo hi (b ∷ bs) = if meets lo hi b then b ∷ overlapped lo hi bs else overlapped lo hi bs
 
+-- their number is the overlap
 pub overlapped-length : (lo hi : ℕ) (l : Level) → length (overlapped lo hi l) ≡ countMeets lo hi l
 overlapped-length lo hi [] = refl
 overlapped-length lo hi (b ∷ bs) = go (meets lo hi b) (overlapped-length lo hi bs)
@@ -160,6 +162,7 @@ not-above-prefix hi (b ∷ bs) = go (leb (firstKey (b .recs)) hi) (not-above-pre
     go true p = more p
     go false p = empty
 
+-- they are well filled too
 pub cut-well : (B w first : ℕ) (above under : Level) → Well B above → Well B under → WellCut B (cutAt w first above under)
 unfolding cutAt
 cut-well B w first above under wa wu = record {

@@ -66,6 +66,7 @@ module _ (x : Rec) (m : ℕ) (f : List Rec → List Rec) (hf : (zs : List Rec) �
       go (same h) ih = rw (into-same x f y ys h) (omega (arith, hf ys, unmarked-count y ys, unmarked-count x (f ys), dead-alive x, dead-alive y))
       go (more h) ih = rw (into-above x f y ys h) (omega (arith, hf (y ∷ ys), unmarked-count x (f (y ∷ ys))))
 
+-- so a list laid over another hides at most as many records as it has tombstones
 pub overlay-unmarked : (us ls : List Rec) → length (unmarked ls) ≤ length (unmarked (overlay us ls)) + tombstones us
 unfolding overlay
 overlay-unmarked [] ls = omega arith

@@ -30,6 +30,7 @@ weights f (b ∷ bs) = weight f b + weights f bs
 abbrev pub olds : Level → ℕ
 olds l = weights (λ p. 1) l
 
+-- each block is new or old
 pub count-all : (l : Level) → fresh l + olds l ≡ length l
 count-all [] = refl
 count-all (b ∷ bs) = go (b .place) (count-all bs)
@@ -38,9 +39,11 @@ count-all (b ∷ bs) = go (b .place) (count-all bs)
     go none ih = omega arith
     go (some p) ih = omega arith
 
+-- the old blocks are part of the level
 pub olds-most : (l : Level) → olds l ≤ length l
 olds-most l = omega (arith, count-all l)
 
+-- levels end to end
 pub fresh-append : (k l : Level) → fresh (k ++ l) ≡ fresh k + fresh l
 fresh-append [] l = omega arith
 fresh-append (b ∷ bs) l = omega (arith, fresh-append bs l)

@@ -93,11 +93,13 @@ module _ (x : Rec) (n : ℕ) (f : List Rec → List Rec) (hf : (zs : List Rec) �
       go (same l) ih = rw (into-same x f y ys l) (omega (arith, hf ys))
       go (more l) ih = rw (into-above x f y ys l) (omega (arith, hf (y ∷ ys)))
 
+-- so it has at most the records of both
 pub overlay-length : (xs ys : List Rec) → length (overlay xs ys) ≤ length xs + length ys
 unfolding overlay
 overlay-length [] ys = omega arith
 overlay-length (x ∷ xs) ys = into-length x (length xs) (λ zs. overlay xs zs) (λ zs. overlay-length xs zs) ys
 
+-- dropping tombstones makes no record
 pub kept-length : (bottom : Bool) (rs : List Rec) → length (kept bottom rs) ≤ length rs
 unfolding unmarked
 kept-length false rs = omega arith
@@ -120,11 +122,13 @@ module _ (p : Rec → Bool) (x : Rec) (f : List Rec → List Rec) (hx : p x ≡ 
       go (same l) ih = rw (into-same x f y ys l) (and-both (p x) _ hx (hf ys (and-right (p y) _ h)))
       go (more l) ih = rw (into-above x f y ys l) (and-both (p x) _ hx (hf (y ∷ ys) h))
 
+-- so it is of an overlay
 pub overlay-all : (p : Rec → Bool) (xs ys : List Rec) → all p xs ≡ true → all p ys ≡ true → all p (overlay xs ys) ≡ true
 unfolding overlay
 overlay-all p [] ys a b = b
 overlay-all p (x ∷ xs) ys a b = into-all p x (λ zs. overlay xs zs) (and-left (p x) _ a) (λ zs h. overlay-all p xs zs (and-right (p x) _ a) h) ys b
 
+-- and of what is kept of a list
 pub kept-all : (p : Rec → Bool) (bottom : Bool) (rs : List Rec) → all p rs ≡ true → all p (kept bottom rs) ≡ true
 unfolding unmarked
 kept-all p false rs h = h
@@ -135,6 +139,7 @@ kept-all p true (r ∷ rs) h = go (r .tombstone) refl (kept-all p true rs (and-r
     go true e i = rw (unmarked-drop r rs e) i
     go false e i = rw (unmarked-keep r rs e) (and-both (p r) _ (and-left (p r) _ h) i)
 
+-- of all records of two lists end to end, and of each list
 pub all-append : (p : Rec → Bool) (xs ys : List Rec) → all p xs ≡ true → all p ys ≡ true → all p (xs ++ ys) ≡ true
 all-append p [] ys a b = b
 all-append p (x ∷ xs) ys a b = and-both (p x) _ (and-left (p x) _ a) (all-append p xs ys (and-right (p x) _ a) b)

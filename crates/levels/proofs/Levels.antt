@@ -49,11 +49,13 @@ test-pairs B (b ∷ c ∷ bs) e =
     let m = ltb-true B (size b + size c) (and-left _ (pairRule B (c ∷ bs)) e) in
     (omega arith, test-pairs B (c ∷ bs) (search (and-left, and-right)))
 
+-- and is passed by a level that keeps it
 pub pairs-test : (B : ℕ) (l : Level) → Pairs B l → pairRule B l ≡ true
 pairs-test B [] p = refl
 pairs-test B (b ∷ []) p = refl
 pairs-test B (b ∷ c ∷ bs) p = and-both _ _ (lt-ltb B (size b + size c) (omega (arith, p .0))) (pairs-test B (c ∷ bs) (p .1))
 
+-- a block of 1 to B records holds a record
 pub sized-filled : (B : ℕ) (l : Level) → Sized B l → Filled l
 sized-filled B [] s = tt
 sized-filled B (b ∷ bs) s = (s .0, sized-filled B bs (s .2))
@@ -92,14 +94,17 @@ records-three-length a b c =
 pub well-tail : (B : ℕ) (b : Block) (bs : Level) → Well B (b ∷ bs) → Well B bs
 well-tail B b bs w = record { pairs = w .pairs .1; sized = w .sized .2 }
 
+-- a level without blocks
 pub well-nil : (B : ℕ) → Well B []
 well-nil B = record { pairs = tt; sized = tt }
 
+-- what is left of a level without its first blocks
 pub well-drop : (B n : ℕ) (l : Level) → Well B l → Well B (drop n l)
 well-drop B zero l w = w
 well-drop B (suc n) [] w = w
 well-drop B (suc n) (b ∷ bs) w = well-drop B n bs (well-tail B b bs w)
 
+-- and it stays sorted
 pub drop-rising : (k n : ℕ) (l : Level) → Rising k (records l) → Rising k (records (drop n l))
 drop-rising k zero l s = s
 drop-rising k (suc n) [] s = s
@@ -114,12 +119,14 @@ apart-prefix : (B n : ℕ) {k l : Level} → Prefix k l → Apart B n l → Apar
 apart-prefix B n empty a = tt
 apart-prefix B n (more p) a = a
 
+-- a beginning of a level is well filled
 pub well-prefix : (B : ℕ) {k l : Level} → Prefix k l → Well B l → Well B k
 well-prefix B empty w = well-nil B
 well-prefix B (more {b = b} {k = k} {l = l} p) w =
     let r = well-prefix B p (well-tail B b l w) in
     record { pairs = (apart-prefix B (size b) p (w .pairs .0), r .pairs); sized = (w .sized .0, w .sized .1, r .sized) }
 
+-- the first n blocks are a beginning
 pub take-prefix : (n : ℕ) (l : Level) → Prefix (take n l) l
 take-prefix zero l = empty
 take-prefix (suc n) [] = empty

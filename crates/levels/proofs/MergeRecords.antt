@@ -22,6 +22,7 @@ abbrev pub doneRecs : Level → List Rec
 doneRecs [] = []
 doneRecs (b ∷ bs) = doneRecs bs ++ b .recs
 
+-- and of the buffer behind it
 abbrev pub outRecs : Out → List Rec
 outRecs o = doneRecs (o .done) ++ o .buffer
 
@@ -34,6 +35,7 @@ flush-recs : (buffer : List Rec) (done : Level) → doneRecs (flush buffer done)
 flush-recs [] done = sym (append-nil (doneRecs done))
 flush-recs (r ∷ rs) done = refl
 
+-- a reused block comes behind all that is made
 pub reuse-recs : (b : Block) (o : Out) → outRecs (reuse b o) ≡ outRecs o ++ b .recs
 reuse-recs b o = simp (append-nil, flush-recs)
 
@@ -44,6 +46,7 @@ keep-recs B r o = go (leb B (suc (length (o .buffer))))
     go true = simp (append-nil, append-assoc)
     go false = simp append-assoc
 
+-- a record read comes behind all that is made, unless it is dropped
 pub gather-recs : (B : ℕ) (bottom : Bool) (r : Rec) (o : Out) → outRecs (gather B bottom r o) ≡ outRecs o ++ kept bottom (r ∷ [])
 unfolding unmarked
 gather-recs B false r o = keep-recs B r o

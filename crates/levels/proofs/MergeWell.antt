@@ -10,7 +10,7 @@ use borrow.Author.Tests.{leb-true, leb-false, ltb-true}
 use Rattle.levels.specs.Basics.{if_then_else_, iterate}
 use Rattle.levels.specs.Record.{Rec, Block, Level, size, new, records, firstKey}
 use Rattle.levels.specs.Merge.{Out, State, apart, mayFollow, reusable, flush, rest, headRec, reuse, gather, fromUpper, fromLower, fromBoth, stepOn, step, joinLeft, join, stream, merge, close}
-use Rattle.levels.proofs.Basics.{and-left, and-right, if-either}
+use Rattle.levels.proofs.Basics.{length-snoc, and-left, and-right, if-either}
 use Rattle.levels.proofs.Levels.{Sized, Apart, Pairs, Well, well-tail, well-nil}
 use Rattle.levels.proofs.MergeRecords.{reusable-says}
 
@@ -33,9 +33,7 @@ pub record Good (B : ℕ) (o : Out) : Type 0 where
   pub sized : Sized B (o .done)
   pub room : length (o .buffer) < B
 
-pub length-snoc : (buffer : List Rec) (r : Rec) → length (buffer ++ (r ∷ [])) ≡ suc (length buffer)
-length-snoc buffer r = simp length-append (omega arith)
-
+-- a record read keeps this: a full buffer makes a block of B
 pub gather-good : (B : ℕ) (bottom : Bool) (r : Rec) (o : Out) → Good B o → Good B (gather B bottom r o)
 gather-good B bottom r o g = go (bottom && r .tombstone) (leb B (suc (length (o .buffer)))) refl
   where
@@ -50,6 +48,7 @@ gather-good B bottom r o g = go (bottom && r .tombstone) (leb B (suc (length (o 
         let n = length-snoc (o .buffer) r in
         record { pairs = g .pairs; sized = g .sized; room = omega (arith, leb-false B (suc (length (o .buffer))) e) }
 
+-- a reused block keeps this, by the two tests
 pub reuse-good : (B : ℕ) (b : Block) (o : Out) → 1 ≤ size b → size b ≤ B → mayFollow B b (o .buffer) (o .done) ≡ true → Good B o → Good B (reuse b o)
 reuse-good B b o p q m g = go (o .buffer) m (g .room)
   where
@@ -61,6 +60,7 @@ reuse-good B b o p q m g = go (o .buffer) m (g .room)
       room = omega arith;
     }
 
+-- what is left of a begun block has 1 to B records, or there is none
 pub rest-sized : (B : ℕ) (l : Level) → Sized B l → Sized B (rest l)
 rest-sized B [] s = tt
 rest-sized B (b ∷ bs) s = go (b .recs) (s .1)
@@ -94,6 +94,7 @@ module _ (B : ℕ) (bottom : Bool) (o : Out) (g : Good B o) where
   both-keeps : (x : Block) (xs : Level) (l : Level) → Sized B (x ∷ xs) → Sized B l → Keeps B (fromBoth B bottom x xs l o)
   both-keeps x xs l su sl = record { sizedU = rest-sized B (x ∷ xs) su; sizedL = rest-sized B l sl; good = gather-good B bottom (headRec x) o g }
 
+  -- a step keeps this
   pub step-keeps : (u l : Level) → Sized B u → Sized B l → Keeps B (stepOn B bottom u l o)
   step-keeps [] [] su sl = record { sizedU = tt; sizedL = tt; good = g }
   step-keeps (x ∷ xs) [] su sl = upper-keeps x xs [] su sl
@@ -101,6 +102,7 @@ module _ (B : ℕ) (bottom : Bool) (o : Out) (g : Good B o) where
   step-keeps (x ∷ xs) (y ∷ ys) su sl = if-either (Keeps B) (ltb (firstKey (y .recs)) (firstKey (x .recs))) _ _ (lower-keeps y ys (x ∷ xs) su sl)
       (if-either (Keeps B) (eqb (firstKey (y .recs)) (firstKey (x .recs))) _ _ (both-keeps x xs (y ∷ ys) su sl) (upper-keeps x xs (y ∷ ys) su sl))
 
+-- and so do any number of steps
 pub iterate-keeps : (B : ℕ) (bottom : Bool) (n : ℕ) (s : State) → Keeps B s → Keeps B (iterate n (step B bottom) s)
 iterate-keeps B bottom zero s k = k
 iterate-keeps B bottom (suc n) s k = iterate-keeps B bottom n (step B bottom s) (step-keeps B bottom (s .out) (k .good) (s .upper) (s .lower) (k .sizedU) (k .sizedL))
@@ -109,6 +111,7 @@ iterate-keeps B bottom (suc n) s k = iterate-keeps B bottom n (step B bottom s) 
 pub well-grow : (B : ℕ) (e f : Block) (es : Level) → size e ≤ size f → size f ≤ B → Well B (e ∷ es) → Well B (f ∷ es)
 well-grow B e f es p q w = record { pairs = (apart-more B (size e) (size f) es p (w .pairs .0), w .pairs .1); sized = (omega (arith, w .sized .0), q, w .sized .2) }
 
+-- step 4: the leftover, alone or with e
 pub left-well : (B : ℕ) (buffer : List Rec) (done : Level) → length buffer < B → Well B done → Well B (joinLeft B buffer done)
 left-well B [] done h w = w
 left-well B (r ∷ rs) [] h w = record { pairs = (tt, tt); sized = (omega arith, omega arith, tt) }
@@ -125,6 +128,7 @@ reverse-well B e [] l w v = v
 reverse-well B e (f ∷ fs) l w v = reverse-well B f fs (e ∷ l) (well-tail B e (f ∷ fs) w)
     (record { pairs = (omega (arith, w .pairs .0), v .pairs); sized = (w .sized .2 .0, w .sized .2 .1, v .sized) })
 
+-- step 4: the last block, alone or with the block after Y
 pub join-well : (B : ℕ) (done behind : Level) → Well B done → Well B behind → Well B (join B done behind)
 join-well B [] behind w v = v
 join-well B (e ∷ es) [] w v = reverse-well B e es [] w (record { pairs = (tt, tt); sized = (w .sized .0, w .sized .1, tt) })

@@ -14,16 +14,17 @@ use borrow.Author.Tests.{leb-true}
 use Rattle.levels.specs.Basics.{if_then_else_, iterate}
 use Rattle.levels.specs.Record.{Rec, Block, Level, size, new, placed, records, firstKey}
 use Rattle.levels.specs.Merge.{Out, State, reusable, flush, rest, headRec, reuse, gather, fromUpper, fromLower, fromBoth, stepOn, step, joinLeft, join, stream, merge, close}
-use Rattle.levels.proofs.Basics.{if-either}
+use Rattle.levels.proofs.Basics.{if-either, length-snoc}
 use Rattle.levels.proofs.Levels.{Sized, Well, well-nil}
 use Rattle.levels.proofs.Fresh.{weight, weights, fresh, olds, count-all, reverse-fresh, reverse-weights, reverse-length}
 use Rattle.levels.proofs.MergeRecords.{reusable-says}
-use Rattle.levels.proofs.MergeWell.{Keeps, step-keeps, reverse-before, length-snoc}
+use Rattle.levels.proofs.MergeWell.{Keeps, step-keeps, reverse-before}
 
 -- what an input block can still pay: B as long as it has a place, else its records
 abbrev pub cap : ℕ → Block → ℕ
 cap B b = elim (b .place) [ none ↦ size b | some p ↦ B ]
 
+-- and a level
 abbrev pub caps : ℕ → Level → ℕ
 caps B [] = 0
 caps B (b ∷ bs) = cap B b + caps B bs

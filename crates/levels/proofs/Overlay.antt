@@ -83,6 +83,7 @@ pub data Way (a b : ℕ) : Type 0 where
   same : a ≡ b → Way a b
   more : b < a → Way a b
 
+-- one of them holds
 pub way : (a b : ℕ) → Way a b
 way a b = go (ltb a b) (eqb a b) refl refl
   where

@@ -26,6 +26,7 @@ outside ps q = if member q ps then 0 else 1
 abbrev pub beyond : ℕ → ℕ → ℕ
 beyond P q = if ltb q P then 0 else 1
 
+-- a sum over two lists end to end
 pub total-append : (f : ℕ → ℕ) (ps qs : List ℕ) → total f (ps ++ qs) ≡ total f ps + total f qs
 total-append f [] qs = omega arith
 total-append f (p ∷ ps) qs = omega (arith, total-append f ps qs)
@@ -39,6 +40,7 @@ weights-places f (b ∷ bs) = go (b .place) (weights-places f bs)
     go none ih = omega arith
     go (some p) ih = omega arith
 
+-- the places of levels end to end
 pub places-append : (k l : Level) → placesOf (k ++ l) ≡ placesOf k ++ placesOf l
 places-append [] l = refl
 places-append (b ∷ bs) l = go (b .place) (places-append bs l)
@@ -64,6 +66,7 @@ in-use-at f (a ∷ ls) (suc j) = omega (arith, total-append f (placesOf a) (inUs
 hit-same : (p : ℕ) → hit p p ≡ 1
 hit-same p = rw (eq-eqb p p refl)
 
+-- a place that does not stand in a list, and one that does
 pub times-none : (p : ℕ) (qs : List ℕ) → member p qs ≡ false → total (hit p) qs ≡ 0
 times-none p [] e = refl
 times-none p (q ∷ qs) e = go (eqb p q) e (times-none p qs)
@@ -152,6 +155,7 @@ outside-self (r ∷ rs) qs h = go (member r qs) (h r (member-head r rs)) (outsid
     go true d ih = omega arith
     go false d ih = absurd (true≢false (sym d))
 
+-- so none of a list is outside it
 pub outside-none : (qs : List ℕ) → total (outside qs) qs ≡ 0
 outside-none qs = outside-self qs qs (λ p e. e)
 

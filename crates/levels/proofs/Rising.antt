@@ -23,6 +23,7 @@ pub test-rising : (low : ℕ) (rs : List Rec) → rising low rs ≡ true → Ris
 test-rising low [] e = tt
 test-rising low (r ∷ rs) e = (leb-true low (r .key) (search and-left), test-rising (suc (r .key)) rs (search (and-left, and-right)))
 
+-- and is passed by a sorted list
 pub rising-test : (low : ℕ) (rs : List Rec) → Rising low rs → rising low rs ≡ true
 rising-test low [] h = refl
 rising-test low (r ∷ rs) h = and-both _ _ (le-leb low (r .key) (h .0)) (rising-test (suc (r .key)) rs (h .1))
@@ -56,6 +57,7 @@ pub below-more : (low high : ℕ) (xs : List Rec) → low ≤ high → Below low
 below-more low high [] h b = tt
 below-more low high (x ∷ xs) h b = (omega (arith, b .0), below-more low high xs h (b .1))
 
+-- a bound of two lists is a bound of both end to end
 pub below-append : (high : ℕ) (xs ys : List Rec) → Below high xs → Below high ys → Below high (xs ++ ys)
 below-append high [] ys a b = b
 below-append high (x ∷ xs) ys a b = (a .0, below-append high xs ys (a .1) b)

@@ -24,6 +24,7 @@ abbrev pub Doubled : Geometry → ℕ → List Level → Type 0
 Doubled g i [] = Unit {0}
 Doubled g i (l ∷ ls) = (length l ≤ 2 * capacityOf g (suc i)) × Doubled g (suc i) ls
 
+-- so each level
 pub doubled-at : (g : Geometry) (i : ℕ) (ls : List Level) (j : ℕ) → Doubled g i ls → length (getD ls j []) ≤ 2 * capacityOf g (suc (i + j))
 doubled-at g i [] j d = omega arith
 doubled-at g i (l ∷ ls) zero d = rw add-zero (d .0)

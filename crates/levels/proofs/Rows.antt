@@ -12,6 +12,7 @@ use Rattle.levels.proofs.Basics.{or-assoc, or-none}
 use Rattle.levels.proofs.Rising.{Rising}
 use Rattle.levels.proofs.View.{Risings, present-or}
 
+-- a row of sorted rows is sorted, and a sorted row may replace it
 pub risings-at : (ls : List (List Rec)) (j : ℕ) → Risings ls → Rising 0 (getD ls j [])
 risings-at [] j r = tt
 risings-at (l ∷ ls) zero r = r .0

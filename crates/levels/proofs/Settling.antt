@@ -32,6 +32,7 @@ settle-records P a (b ∷ bs) = go (b .place) (λ c. settle-records P c bs)
     go none ih = ap (λ (m : List Rec). b .recs ++ m) (ih (next P a))
     go (some p) ih = ap (λ (m : List Rec). b .recs ++ m) (ih a)
 
+-- nor the number of blocks
 pub settle-length : (P : ℕ) (a : Allocation) (l : Level) → length (settle P a l .level) ≡ length l
 unfolding settle
 settle-length P a [] = refl
@@ -167,6 +168,7 @@ abbrev pub Takes : ℕ → Allocation → List ℕ → Type 0
 Takes P a [] = Unit {0}
 Takes P a (p ∷ ps) = FirstFree P (a .used) (a .cursor) p × Takes P (record { used = p ∷ a .used; cursor = p }) ps
 
+-- some places, and then some more
 pub takes-append : (P : ℕ) (a : Allocation) (ps qs : List ℕ) → Takes P a ps → Takes P (afterTaking a ps) qs → Takes P a (ps ++ qs)
 takes-append P a [] qs s t = t
 takes-append P a (p ∷ ps) qs s t = (s .0, takes-append P (record { used = p ∷ a .used; cursor = p }) ps qs (s .1) t)

@@ -40,6 +40,7 @@ pub risings-test : (ls : List (List Rec)) → Risings ls → all (rising 0) ls �
 risings-test [] h = refl
 risings-test (l ∷ ls) h = and-both (rising 0 l) _ (rising-test 0 l (h .0)) (risings-test ls (h .1))
 
+-- the view of sorted rows is sorted
 pub view-rising : (ls : List (List Rec)) → Risings ls → Rising 0 (view ls)
 unfolding view
 view-rising [] h = tt
@@ -51,6 +52,7 @@ unfolding view decides find
 find-view k [] h = refl
 find-view k (l ∷ ls) h = find-overlay k 0 l (view ls) (h .0) ∙ ap (λ (o : Option Rec). orElse (find k l) o) (find-view k ls (h .1))
 
+-- a sorted list without its tombstones is sorted
 pub unmarked-rising : (low : ℕ) (rs : List Rec) → Rising low rs → Rising low (unmarked rs)
 unfolding unmarked
 unmarked-rising low [] h = tt
@@ -60,6 +62,7 @@ unmarked-rising low (r ∷ rs) h = go (r .tombstone) refl (unmarked-rising (suc 
     go true e i = rw (unmarked-drop r rs e) (rising-from low (suc (r .key)) (unmarked rs) (omega (arith, h .0)) i)
     go false e i = rw (unmarked-keep r rs e) (h .0, i)
 
+-- a tombstone is absent, any other record present
 pub present-tombstone : (r : Rec) → r .tombstone ≡ true → present (some r) ≡ none
 present-tombstone r e = rw e
 
@@ -85,6 +88,7 @@ find-unmarked k low (r ∷ rs) h = go (r .tombstone) refl (ℕ-discrete (r .key)
     go false e (yes d) ih = ap (find k) (unmarked-keep r rs e) ∙ find-here k r (unmarked rs) d ∙ sym (ap present (find-here k r rs d) ∙ present-record r e)
     go false e (no d) ih = ap (find k) (unmarked-keep r rs e) ∙ find-past k r (unmarked rs) d ∙ ih ∙ sym (ap present (find-past k r rs d))
 
+-- no tombstone is left
 pub unmarked-clean : (rs : List Rec) → hasTombstone (unmarked rs) ≡ false
 unfolding unmarked
 unmarked-clean [] = refl
@@ -110,6 +114,7 @@ clean-unmarked (r ∷ rs) e = let c = clean-tail r rs e in unmarked-keep r rs (c
 pub present-clean : (k low : ℕ) (rs : List Rec) → Rising low rs → hasTombstone rs ≡ false → present (find k rs) ≡ find k rs
 present-clean k low rs h e = sym (find-unmarked k low rs h) ∙ ap (find k) (clean-unmarked rs e)
 
+-- the map is sorted
 pub map-rising : (ls : List (List Rec)) → Risings ls → Rising 0 (mapOf ls)
 unfolding mapOf
 map-rising ls h = unmarked-rising 0 (view ls) (view-rising ls h)
