@@ -27,11 +27,11 @@ pub record FirstFree (P : ℕ) (used : List ℕ) (cursor r : ℕ) : Type 0 where
   pub first : (i : ℕ) → i < steps → member (round P (suc i) cursor) used ≡ true
 
 -- the clauses of freeAfter, as laws
-free-here : (n P : ℕ) (used : List ℕ) (p : ℕ) → member (after P p) used ≡ false → freeAfter (suc n) P used p ≡ after P p
+pub free-here : (n P : ℕ) (used : List ℕ) (p : ℕ) → member (after P p) used ≡ false → freeAfter (suc n) P used p ≡ after P p
 unfolding freeAfter
 free-here n P used p e = rw (e, freeAfter)
 
-free-on : (n P : ℕ) (used : List ℕ) (p : ℕ) → member (after P p) used ≡ true → freeAfter (suc n) P used p ≡ freeAfter n P used (after P p)
+pub free-on : (n P : ℕ) (used : List ℕ) (p : ℕ) → member (after P p) used ≡ true → freeAfter (suc n) P used p ≡ freeAfter n P used (after P p)
 unfolding freeAfter
 free-on n P used p e = rw (e, freeAfter)
 

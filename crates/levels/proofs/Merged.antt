@@ -10,6 +10,7 @@ use Rattle.levels.specs.Record.{Rec, Level, records, hasTombstone}
 use Rattle.levels.specs.Map.{find, overlay, unmarked, present}
 use Rattle.levels.specs.Choose.{loOf, hiOf, Cut, cutAt}
 use Rattle.levels.specs.Merge.{merge, close}
+use Rattle.levels.proofs.Basics.{or-false}
 use Rattle.levels.proofs.Rising.{Rising, rising-from, rising-left, rising-right, rising-swap}
 use Rattle.levels.proofs.Overlay.{find-append, find-overlay, overlay-rising, same-find}
 use Rattle.levels.proofs.View.{unmarked-rising, unmarked-clean, find-unmarked, present-or, present-clean}
@@ -132,17 +133,13 @@ module _ (B w first : ℕ) (above under : Level) (h : Mergeable B w first above 
       let m = find-moved k (loOf (c .run)) (suc (hiOf (c .run))) U₁ (records (c .run)) U₂ V₁ (records (c .over)) V₂ (lies .run-low) (lies .run-high) (lies .right-above) (lies .before-under) in
       rw (upper-records i, lower-records bottom, above-records, under-records) (present-or (find k (U₁ ++ U₂)) _ _ e ∙ ap present m)
 
-  or-false-both : (a b : Bool) → (a || b) ≡ false → (a ≡ false) × (b ≡ false)
-  or-false-both true b e = absurd (mathlib.Core.Bool.true≢false e)
-  or-false-both false b e = (refl, e)
-
   -- "level h has no marks": nor has it any after the merge
   pub lower-clean : hasTombstone (records under) ≡ false → hasTombstone (records (lowerOf B true (cutAt w first above under))) ≡ false
   lower-clean e =
       let c = cutAt w first above under in
       let M : List Rec = unmarked (overlay (records (c .run)) (records (c .over))) in
-      let u = or-false-both (hasTombstone (records (c .before))) _ (sym (has-append (records (c .before)) (records (c .over) ++ records (c .behind))) ∙ ap hasTombstone (sym under-records) ∙ e) in
-      let v = or-false-both (hasTombstone (records (c .over))) _ (sym (has-append (records (c .over)) (records (c .behind))) ∙ u .1) in
+      let u = or-false (hasTombstone (records (c .before))) _ (sym (has-append (records (c .before)) (records (c .over) ++ records (c .behind))) ∙ ap hasTombstone (sym under-records) ∙ e) in
+      let v = or-false (hasTombstone (records (c .over))) _ (sym (has-append (records (c .over)) (records (c .behind))) ∙ u .1) in
       ap hasTombstone (lower-records true) ∙ has-append (records (c .before)) (M ++ records (c .behind)) ∙ ap (λ (t : Bool). t || hasTombstone (M ++ records (c .behind))) (u .0)
       ∙ has-append M (records (c .behind)) ∙ ap (λ (t : Bool). t || hasTombstone (records (c .behind))) (unmarked-clean (overlay (records (c .run)) (records (c .over)))) ∙ v .1
 

@@ -147,12 +147,12 @@ find-tail k x xs y ys e rx ry f = go (ℕ-discrete (x .key) k)
         sym (find-past k x xs n) ∙ f ∙ find-past k y ys m
 
 -- two sorted lists in which the same is found for every key are the same list
-pub same-find : (low mow : ℕ) (xs ys : List Rec) → Rising low xs → Rising mow ys → ((k : ℕ) → find k xs ≡ find k ys) → xs ≡ ys
+pub same-find : (low low′ : ℕ) (xs ys : List Rec) → Rising low xs → Rising low′ ys → ((k : ℕ) → find k xs ≡ find k ys) → xs ≡ ys
 unfolding find
-same-find low mow [] [] rx ry f = refl
-same-find low mow [] (y ∷ ys) rx ry f = absurd (Option·none-ne-some y (f (y .key) ∙ find-here (y .key) y ys refl))
-same-find low mow (x ∷ xs) [] rx ry f = absurd (Option·none-ne-some x (sym (f (x .key)) ∙ find-here (x .key) x xs refl))
-same-find low mow (x ∷ xs) (y ∷ ys) rx ry f = go (way (x .key) (y .key)) (λ g. same-find (suc (x .key)) (suc (y .key)) xs ys (rx .1) (ry .1) g)
+same-find low low′ [] [] rx ry f = refl
+same-find low low′ [] (y ∷ ys) rx ry f = absurd (Option·none-ne-some y (f (y .key) ∙ find-here (y .key) y ys refl))
+same-find low low′ (x ∷ xs) [] rx ry f = absurd (Option·none-ne-some x (sym (f (x .key)) ∙ find-here (x .key) x xs refl))
+same-find low low′ (x ∷ xs) (y ∷ ys) rx ry f = go (way (x .key) (y .key)) (λ g. same-find (suc (x .key)) (suc (y .key)) xs ys (rx .1) (ry .1) g)
   where
     go : Way (x .key) (y .key) → (((k : ℕ) → find k xs ≡ find k ys) → xs ≡ ys) → (x ∷ xs) ≡ (y ∷ ys)
     go (less h) ih = absurd (Option·none-ne-some x (sym (find-below (x .key) (y .key) (y ∷ ys) (omega arith, ry .1) h) ∙ sym (f (x .key)) ∙ find-here (x .key) x xs refl))

@@ -6,9 +6,9 @@ use mathlib.Core.Option.{Option, none, some}
 use native.Mathlib.Omega.{arith}
 use lib.ListN.{length}
 use Rattle.levels.specs.Basics.{total}
-use Rattle.levels.specs.Record.{Rec, Block, Level, size, records}
+use Rattle.levels.specs.Record.{Rec, Block, Level, size, new, records}
 use Rattle.levels.specs.Waste.{needsCompact}
-use Rattle.levels.specs.Place.{Allocation, firstFree, settle, placesOf}
+use Rattle.levels.specs.Place.{Allocation, firstFree, Settled, settle, placesOf}
 use Rattle.levels.proofs.Levels.{Apart, Well, well-nil, well-tail}
 use Rattle.levels.proofs.Fresh.{fresh}
 use Rattle.levels.proofs.FirstFree.{FirstFree, first-free}
@@ -19,8 +19,39 @@ afterTaking a [] = a
 afterTaking a (p ∷ ps) = afterTaking (record { used = p ∷ a .used; cursor = p }) ps
 
 -- the allocation after one place
-abbrev pub next : ℕ → Allocation → Allocation
-next P a = record { used = firstFree P a ∷ a .used; cursor = firstFree P a }
+abbrev pub taking : ℕ → Allocation → Allocation
+taking P a = record { used = firstFree P a ∷ a .used; cursor = firstFree P a }
+
+-- the clauses of settle, as laws: an old block stays, a new one takes the first free place
+pub settle-old : (P : ℕ) (a : Allocation) (p : ℕ) (rs : List Rec) (bs : Level) → let b : Block = record { place = some p; recs = rs } in
+    let r = settle P a bs in settle P a (b ∷ bs) ≡ record { level = b ∷ r .level; written = r .written; allocation = r .allocation }
+unfolding settle
+settle-old P a p rs bs = refl
+
+pub settle-new : (P : ℕ) (a : Allocation) (rs : List Rec) (bs : Level) → let b : Block = record { place = some (firstFree P a); recs = rs } in
+    let r = settle P (taking P a) bs in settle P a (new rs ∷ bs) ≡ record { level = b ∷ r .level; written = b ∷ r .written; allocation = r .allocation }
+unfolding settle
+settle-new P a rs bs = refl
+
+-- "in key order": first the blocks of one list, then those of the next
+pub settle-append : (P : ℕ) (a : Allocation) (k l : Level) → let s = settle P a k in
+    let r = settle P (s .allocation) l in settle P a (k ++ l) ≡ record { level = s .level ++ r .level; written = s .written ++ r .written; allocation = r .allocation }
+unfolding settle
+settle-append P a [] l = refl
+settle-append P a (b ∷ bs) l = go (b .place) (λ c. settle-append P c bs l)
+  where
+    goal : Level → Type 0
+    goal k = let s = settle P a k in
+        let r = settle P (s .allocation) l in settle P a (k ++ l) ≡ record { level = s .level ++ r .level; written = s .written ++ r .written; allocation = r .allocation }
+
+    go : (p : Option ℕ) → ((c : Allocation) → let s = settle P c bs in
+        let r = settle P (s .allocation) l in settle P c (bs ++ l) ≡ record { level = s .level ++ r .level; written = s .written ++ r .written; allocation = r .allocation }) → goal (record { place = p; recs = b .recs } ∷ bs)
+    go none ih =
+        let d : Block = record { place = some (firstFree P a); recs = b .recs } in
+        ap (λ (r : Settled). record { level = d ∷ r .level; written = d ∷ r .written; allocation = r .allocation }) (ih (taking P a))
+    go (some p) ih =
+        let d : Block = record { place = some p; recs = b .recs } in
+        ap (λ (r : Settled). record { level = d ∷ r .level; written = r .written; allocation = r .allocation }) (ih a)
 
 -- places change no record
 pub settle-records : (P : ℕ) (a : Allocation) (l : Level) → records (settle P a l .level) ≡ records l
@@ -29,7 +60,7 @@ settle-records P a [] = refl
 settle-records P a (b ∷ bs) = go (b .place) (λ c. settle-records P c bs)
   where
     go : (p : Option ℕ) → ((c : Allocation) → records (settle P c bs .level) ≡ records bs) → records (settle P a (record { place = p; recs = b .recs } ∷ bs) .level) ≡ b .recs ++ records bs
-    go none ih = ap (λ (m : List Rec). b .recs ++ m) (ih (next P a))
+    go none ih = ap (λ (m : List Rec). b .recs ++ m) (ih (taking P a))
     go (some p) ih = ap (λ (m : List Rec). b .recs ++ m) (ih a)
 
 -- nor the number of blocks
@@ -39,7 +70,7 @@ settle-length P a [] = refl
 settle-length P a (b ∷ bs) = go (b .place) (λ c. settle-length P c bs)
   where
     go : (p : Option ℕ) → ((c : Allocation) → length (settle P c bs .level) ≡ length bs) → length (settle P a (record { place = p; recs = b .recs } ∷ bs) .level) ≡ suc (length bs)
-    go none ih = ap suc (ih (next P a))
+    go none ih = ap suc (ih (taking P a))
     go (some p) ih = ap suc (ih a)
 
 -- every block then has a place
@@ -49,7 +80,7 @@ settle-placed P a [] = refl
 settle-placed P a (b ∷ bs) = go (b .place) (λ c. settle-placed P c bs)
   where
     go : (p : Option ℕ) → ((c : Allocation) → fresh (settle P c bs .level) ≡ 0) → fresh (settle P a (record { place = p; recs = b .recs } ∷ bs) .level) ≡ 0
-    go none ih = omega (arith, ih (next P a))
+    go none ih = omega (arith, ih (taking P a))
     go (some p) ih = omega (arith, ih a)
 
 -- the sizes and the pair rule stay
@@ -68,7 +99,7 @@ settle-well P B a [] w = well-nil B
 settle-well P B a (b ∷ bs) w = go (b .place) (λ c. settle-well P B c bs (well-tail B b bs w)) (λ c. settle-apart P B (size b) c bs (w .pairs .0))
   where
     go : (p : Option ℕ) → ((c : Allocation) → Well B (settle P c bs .level)) → ((c : Allocation) → Apart B (size b) (settle P c bs .level)) → Well B (settle P a (record { place = p; recs = b .recs } ∷ bs) .level)
-    go none ih ap = record { pairs = (ap (next P a), ih (next P a) .pairs); sized = (w .sized .0, w .sized .1, ih (next P a) .sized) }
+    go none ih ap = record { pairs = (ap (taking P a), ih (taking P a) .pairs); sized = (w .sized .0, w .sized .1, ih (taking P a) .sized) }
     go (some p) ih ap = record { pairs = (ap a, ih a .pairs); sized = (w .sized .0, w .sized .1, ih a .sized) }
 
 -- and so does the level rule
@@ -96,7 +127,7 @@ settle-written P a (b ∷ bs) = go (b .place) (λ c. settle-written P c bs)
   where
     go : (p : Option ℕ) → ((c : Allocation) → map recsOf (settle P c bs .written) ≡ map recsOf (newOf bs))
         → map recsOf (settle P a (record { place = p; recs = b .recs } ∷ bs) .written) ≡ map recsOf (newOf (record { place = p; recs = b .recs } ∷ bs))
-    go none ih = ap (λ (m : List (List Rec)). b .recs ∷ m) (ih (next P a))
+    go none ih = ap (λ (m : List (List Rec)). b .recs ∷ m) (ih (taking P a))
     go (some p) ih = ih a
 
 -- the level is as it was, with the written blocks for the new ones: a block that had a place stays
@@ -107,7 +138,7 @@ settle-level P a (b ∷ bs) = go (b .place) (λ c. settle-level P c bs)
   where
     go : (p : Option ℕ) → ((c : Allocation) → settle P c bs .level ≡ filled bs (settle P c bs .written))
         → settle P a (record { place = p; recs = b .recs } ∷ bs) .level ≡ filled (record { place = p; recs = b .recs } ∷ bs) (settle P a (record { place = p; recs = b .recs } ∷ bs) .written)
-    go none ih = ap (λ (m : Level). record { place = some (firstFree P a); recs = b .recs } ∷ m) (ih (next P a))
+    go none ih = ap (λ (m : Level). record { place = some (firstFree P a); recs = b .recs } ∷ m) (ih (taking P a))
     go (some p) ih = ap (λ (m : Level). record { place = some p; recs = b .recs } ∷ m) (ih a)
 
 -- as many blocks are written as there are new ones
@@ -117,7 +148,7 @@ written-length P a [] = refl
 written-length P a (b ∷ bs) = go (b .place) (λ c. written-length P c bs)
   where
     go : (p : Option ℕ) → ((c : Allocation) → length (settle P c bs .written) ≡ fresh bs) → length (settle P a (record { place = p; recs = b .recs } ∷ bs) .written) ≡ fresh (record { place = p; recs = b .recs } ∷ bs)
-    go none ih = omega (arith, ih (next P a))
+    go none ih = omega (arith, ih (taking P a))
     go (some p) ih = omega (arith, ih a)
 
 -- and each takes a place
@@ -128,7 +159,7 @@ written-places P a (b ∷ bs) = go (b .place) (λ c. written-places P c bs)
   where
     go : (p : Option ℕ) → ((c : Allocation) → length (placesOf (settle P c bs .written)) ≡ fresh bs)
         → length (placesOf (settle P a (record { place = p; recs = b .recs } ∷ bs) .written)) ≡ fresh (record { place = p; recs = b .recs } ∷ bs)
-    go none ih = omega (arith, ih (next P a))
+    go none ih = omega (arith, ih (taking P a))
     go (some p) ih = omega (arith, ih a)
 
 -- "hand moves there": the allocation afterwards is the one before, with the written places taken in order
@@ -139,7 +170,7 @@ settle-allocation P a (b ∷ bs) = go (b .place) (λ c. settle-allocation P c bs
   where
     go : (p : Option ℕ) → ((c : Allocation) → settle P c bs .allocation ≡ afterTaking c (placesOf (settle P c bs .written)))
         → settle P a (record { place = p; recs = b .recs } ∷ bs) .allocation ≡ afterTaking a (placesOf (settle P a (record { place = p; recs = b .recs } ∷ bs) .written))
-    go none ih = ih (next P a)
+    go none ih = ih (taking P a)
     go (some p) ih = ih a
 
 after-taking-length : (a : Allocation) (ps : List ℕ) → length (afterTaking a ps .used) ≡ length (a .used) + length ps
@@ -160,7 +191,7 @@ settle-places f P a (b ∷ bs) = go (b .place) (λ c. settle-places f P c bs)
     go : (p : Option ℕ) → ((c : Allocation) → total f (placesOf (settle P c bs .level)) ≡ total f (placesOf bs) + total f (placesOf (settle P c bs .written)))
         → total f (placesOf (settle P a (record { place = p; recs = b .recs } ∷ bs) .level))
         ≡ total f (placesOf (record { place = p; recs = b .recs } ∷ bs)) + total f (placesOf (settle P a (record { place = p; recs = b .recs } ∷ bs) .written))
-    go none ih = omega (arith, ih (next P a))
+    go none ih = omega (arith, ih (taking P a))
     go (some p) ih = omega (arith, ih a)
 
 -- each place is the first free one after the cursor when it is taken
@@ -183,7 +214,7 @@ settle-takes P a (b ∷ bs) h r = go (b .place) r (λ c i s. settle-takes P c bs
         → Takes P a (placesOf (settle P a (record { place = p; recs = b .recs } ∷ bs) .written))
     go none r ih =
         let f = first-free P a h (omega arith) in
-        (f, ih (next P a) (f .inside) (omega arith))
+        (f, ih (taking P a) (f .inside) (omega arith))
     go (some p) r ih = ih a h (omega arith)
 
 -- the cursor stays below P

@@ -13,7 +13,7 @@ use borrow.Author.Tests.{leb-true, leb-false}
 use Rattle.levels.specs.Basics.{orElse, isSome, all}
 use Rattle.levels.specs.Record.{Rec, hasTombstone, rising}
 use Rattle.levels.specs.Map.{find, view, unmarked, mapOf, liveCount, decides, present, lookUp, isLive, firstFrom, next}
-use Rattle.levels.proofs.Basics.{and-left, and-right, and-both}
+use Rattle.levels.proofs.Basics.{and-left, and-right, and-both, or-false}
 use Rattle.levels.proofs.Rising.{Rising, rising-from, test-rising, rising-test}
 use Rattle.levels.proofs.Overlay.{find-here, find-past, find-below, find-overlay, overlay-rising, same-find}
 
@@ -100,11 +100,7 @@ unmarked-clean (r ∷ rs) = go (r .tombstone) refl (unmarked-clean rs)
 
 -- a list without tombstones is its own unmarked list, and all that is found in it is present
 pub clean-tail : (r : Rec) (rs : List Rec) → hasTombstone (r ∷ rs) ≡ false → (r .tombstone ≡ false) × (hasTombstone rs ≡ false)
-clean-tail r rs = go (r .tombstone)
-  where
-    go : (t : Bool) → (t || hasTombstone rs) ≡ false → (t ≡ false) × (hasTombstone rs ≡ false)
-    go true e = absurd (true≢false e)
-    go false e = (refl, e)
+clean-tail r rs e = or-false (r .tombstone) (hasTombstone rs) e
 
 pub clean-unmarked : (rs : List Rec) → hasTombstone rs ≡ false → unmarked rs ≡ rs
 unfolding unmarked
