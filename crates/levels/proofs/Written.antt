@@ -159,3 +159,18 @@ module _ (P B w first cursor : ℕ) (bottom : Bool) (ls : List Level) (j : ℕ) 
       let c = cutIn w first ls j in newlyUsed (inUse ls) (inUse (levelsAfter P B bottom a c ls j)) ≤ w + length (c .over) + 1
   merge-bound fa fu =
       omega (arith, merge-newly, upper-writes B w first (getD ls j []) (getD ls (suc j) []) h 0 fa, lower-writes B w first (getD ls j []) (getD ls (suc j) []) h bottom fu)
+
+-- A merge out of level 0, whose pages `above` have no places, into level 1, at index 0: step 2 writes nothing, steps 3 and 4 at most w + q.
+module _ (P B w first cursor : ℕ) (bottom : Bool) (above : Level) (ls : List Level) (pages : fresh above ≡ length above) (h : Mergeable B w first above (getD ls 0 [])) (inside : 0 < length ls) (low : cursor < P)
+    (room : length (inUse ls) + fresh (lowerOf B bottom (cutAt w first above (getD ls 0 []))) ≤ P) where
+  pub top-changed : let a : Allocation = record { used = inUse ls; cursor = cursor } in
+      let r = settle P a (lowerOf B bottom (cutAt w first above (getD ls 0 []))) in Changed P a (inUse (set ls 0 (r .level))) (placesOf (r .written))
+  top-changed = replaced-changed P cursor ls 0 (lowerOf B bottom (cutAt w first above (getD ls 0 []))) (λ f. lower-old B w first above (getD ls 0 []) h bottom pages f) inside low room
+
+  pub top-newly : let a : Allocation = record { used = inUse ls; cursor = cursor } in
+      let m = lowerOf B bottom (cutAt w first above (getD ls 0 [])) in newlyUsed (inUse ls) (inUse (set ls 0 (settle P a m .level))) ≡ fresh m
+  top-newly = replaced-newly P cursor ls 0 (lowerOf B bottom (cutAt w first above (getD ls 0 []))) (λ f. lower-old B w first above (getD ls 0 []) h bottom pages f) inside low room
+
+  pub top-bound : fresh (getD ls 0 []) ≡ 0 → let a : Allocation = record { used = inUse ls; cursor = cursor } in
+      let c = cutAt w first above (getD ls 0 []) in newlyUsed (inUse ls) (inUse (set ls 0 (settle P a (lowerOf B bottom c) .level))) ≤ w + length (c .over)
+  top-bound fu = omega (arith, top-newly, lower-writes B w first above (getD ls 0 []) h bottom fu)
