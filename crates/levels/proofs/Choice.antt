@@ -1,0 +1,112 @@
+-- Step 1 of a merge: the chosen run overlaps no more blocks than any other, and of equals it has the lowest keys.
+use Prim.Native.Nat.{ℕ, zero, suc, _+_, _-_, _<_, _≤_}
+use mathlib.Core.Path.{_≡_, refl, sym, _∙_, ap}
+use mathlib.Core.Bool.{Bool, true, false}
+use mathlib.Core.List.{List, [], _∷_, map}
+use native.Mathlib.Omega.{arith}
+use lib.Dec.{leb}
+use lib.ListN.{length, getD, take, drop, length-map}
+use borrow.Author.Tests.{leb-true, leb-false, le-leb}
+use Rattle.levels.specs.Basics.{if_then_else_}
+use Rattle.levels.specs.Record.{Level}
+use Rattle.levels.specs.Choose.{Least, least, leastOf, runs, overlap, choose}
+
+-- r is the least of the numbers qs, and the first index where it stands
+pub record IsLeast (qs : List ℕ) (r : Least) : Type 0 where
+  pub inside : r .at < length qs
+  pub stands : getD qs (r .at) 0 ≡ r .value
+  pub lowest : (i : ℕ) → i < length qs → r .value ≤ getD qs i 0
+  pub first : (i : ℕ) → i < r .at → r .value < getD qs i 0
+
+pub least-is : (q : ℕ) (qs : List ℕ) → IsLeast (q ∷ qs) (least q qs)
+least-is q [] = record { inside = omega arith; stands = refl; lowest = one; first = λ i h. omega arith }
+  where
+    one : (i : ℕ) → i < 1 → q ≤ getD (q ∷ []) i 0
+    one zero h = omega arith
+    one (suc i) h = omega arith
+least-is q (p ∷ ps) = go (leb q (least p ps .value)) refl (least-is p ps)
+  where
+    go : (t : Bool) → leb q (least p ps .value) ≡ t → IsLeast (p ∷ ps) (least p ps) → IsLeast (q ∷ p ∷ ps) (least q (p ∷ ps))
+    go true e ih = rw e (record { inside = omega arith; stands = refl; lowest = low; first = λ i h. omega arith })
+      where
+        low : (i : ℕ) → i < length (q ∷ p ∷ ps) → q ≤ getD (q ∷ p ∷ ps) i 0
+        low zero h = omega arith
+        low (suc i) h = omega (arith, leb-true q (least p ps .value) e, ih .lowest i (omega arith))
+    go false e ih = rw e (record { inside = omega (arith, ih .inside); stands = ih .stands; lowest = low; first = fst })
+      where
+        low : (i : ℕ) → i < length (q ∷ p ∷ ps) → least p ps .value ≤ getD (q ∷ p ∷ ps) i 0
+        low zero h = omega (arith, leb-false q (least p ps .value) e)
+        low (suc i) h = ih .lowest i (omega arith)
+
+        fst : (i : ℕ) → i < suc (least p ps .at) → least p ps .value < getD (q ∷ p ∷ ps) i 0
+        fst zero h = leb-false q (least p ps .value) e
+        fst (suc i) h = ih .first i (omega arith)
+
+least-of-is : (qs : List ℕ) → 0 < length qs → IsLeast qs (leastOf qs)
+least-of-is [] h = absurd (omega arith)
+least-of-is (q ∷ qs) h = least-is q qs
+
+-- "A run is W(i) neighbours of level i": the i-th run begins with block i, and there are as many as fit
+pub run-at : (w : ℕ) (l : Level) (i : ℕ) → 1 ≤ w → i + w ≤ length l → getD (runs w l) i [] ≡ take w (drop i l)
+run-at w [] i p h = absurd (omega arith)
+run-at w (b ∷ bs) zero p h = rw (le-leb w (suc (length bs)) (omega arith))
+run-at w (b ∷ bs) (suc i) p h = rw (le-leb w (suc (length bs)) (omega arith)) (run-at w bs i p (omega arith))
+
+pub run-count : (w : ℕ) (l : Level) → 1 ≤ w → length (runs w l) ≡ suc (length l) - w
+run-count w [] p = omega arith
+run-count w (b ∷ bs) p = go (leb w (suc (length bs))) refl (run-count w bs p)
+  where
+    go : (t : Bool) → leb w (suc (length bs)) ≡ t → length (runs w bs) ≡ suc (length bs) - w
+        → length (if t then take w (b ∷ bs) ∷ runs w bs else []) ≡ suc (length (b ∷ bs)) - w
+    go true e ih = omega (arith, leb-true w (suc (length bs)) e)
+    go false e ih = omega (arith, leb-false w (suc (length bs)) e)
+
+-- an element of a mapped list, whatever the two lists have beyond their ends
+getD-map-in : {A B : Type 0} (f : A → B) (l : List A) (i : ℕ) (d : A) (e : B) → i < length l → getD (map f l) i e ≡ f (getD l i d)
+getD-map-in f [] i d e h = absurd (omega arith)
+getD-map-in f (x ∷ xs) zero d e h = refl
+getD-map-in f (x ∷ xs) (suc i) d e h = getD-map-in f xs i d e (omega arith)
+
+-- "X is the run of W(i) neighbours whose key range overlaps the fewest blocks below; of equals, the one with the lowest keys."
+-- r tells the index of X's first block and X's overlap.
+pub record IsChoice (w : ℕ) (above under : Level) (r : Least) : Type 0 where
+  pub whole : r .at + w ≤ length above
+  pub overlaps : overlap under (take w (drop (r .at) above)) ≡ r .value
+  pub fewest : (i : ℕ) → i + w ≤ length above → r .value ≤ overlap under (take w (drop i above))
+  pub lowest : (i : ℕ) → i < r .at → r .value < overlap under (take w (drop i above))
+
+-- the choice of the definition is that run
+pub choose-is : (w : ℕ) (above under : Level) → 1 ≤ w → w ≤ length above → IsChoice w above under (choose w above under)
+choose-is w above under p f = record { whole = run; overlaps = at (choose w above under .at) run ∙ c .stands; fewest = few; lowest = low }
+  where
+    qs : List ℕ
+    qs = map (overlap under) (runs w above)
+
+    len : length qs ≡ suc (length above) - w
+    len = length-map (runs w above) (overlap under) ∙ run-count w above p
+
+    at : (i : ℕ) → i + w ≤ length above → overlap under (take w (drop i above)) ≡ getD qs i 0
+    at i h = sym (getD-map-in (overlap under) (runs w above) i [] 0 (omega (arith, run-count w above p)) ∙ ap (overlap under) (run-at w above i p h))
+
+    c : IsLeast qs (choose w above under)
+    c = least-of-is qs (omega (arith, len))
+
+    run : choose w above under .at + w ≤ length above
+    run = omega (arith, c .inside, len)
+
+    few : (i : ℕ) → i + w ≤ length above → choose w above under .value ≤ overlap under (take w (drop i above))
+    few i h = rw (at i h) (c .lowest i (omega (arith, len)))
+
+    low : (i : ℕ) → i < choose w above under .at → choose w above under .value < overlap under (take w (drop i above))
+    low i h = rw (at i (omega (arith, run))) (c .first i h)
+
+-- the chosen run is the only one of which this can be said
+pub choice-unique : (w : ℕ) (above under : Level) (r s : Least) → IsChoice w above under r → IsChoice w above under s → r .at ≡ s .at
+choice-unique w above under r s c d = omega (arith, not-less r s c d, not-less s r d c)
+  where
+    not-less : (r s : Least) → IsChoice w above under r → IsChoice w above under s → s .at ≤ r .at
+    not-less r s c d = go (native.Mathlib.Decide.decLt (r .at) (s .at))
+      where
+        go : Dec (r .at < s .at) → s .at ≤ r .at
+        go (no n) = omega arith
+        go (yes l) = absurd (omega (arith, d .lowest (r .at) l, c .overlaps, c .fewest (s .at) (d .whole), d .overlaps))

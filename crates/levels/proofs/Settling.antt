@@ -1,0 +1,226 @@
+-- The new blocks of a level take places (document 01: "A new block goes to the first free place after hand, going round, and hand moves there", "in key order").
+use Prim.Native.Nat.{ℕ, suc, _+_, _<_, _≤_}
+use mathlib.Core.Path.{_≡_, refl, ap}
+use mathlib.Core.List.{List, [], _∷_, _++_, map}
+use mathlib.Core.Option.{Option, none, some}
+use native.Mathlib.Omega.{arith}
+use lib.ListN.{length}
+use Rattle.levels.specs.Basics.{total}
+use Rattle.levels.specs.Record.{Rec, Block, Level, size, new, records}
+use Rattle.levels.specs.Waste.{needsCompact}
+use Rattle.levels.specs.Place.{Allocation, firstFree, Settled, settle, placesOf}
+use Rattle.levels.proofs.Levels.{Apart, Well, well-nil, well-tail}
+use Rattle.levels.proofs.Fresh.{fresh}
+use Rattle.levels.proofs.FirstFree.{FirstFree, first-free}
+
+-- the allocation after places were taken, one after the other
+abbrev pub afterTaking : Allocation → List ℕ → Allocation
+afterTaking a [] = a
+afterTaking a (p ∷ ps) = afterTaking (record { used = p ∷ a .used; cursor = p }) ps
+
+-- the allocation after one place
+abbrev pub taking : ℕ → Allocation → Allocation
+taking P a = record { used = firstFree P a ∷ a .used; cursor = firstFree P a }
+
+-- the clauses of settle, as laws: an old block stays, a new one takes the first free place
+pub settle-old : (P : ℕ) (a : Allocation) (p : ℕ) (rs : List Rec) (bs : Level) → let b : Block = record { place = some p; recs = rs } in
+    let r = settle P a bs in settle P a (b ∷ bs) ≡ record { level = b ∷ r .level; written = r .written; allocation = r .allocation }
+unfolding settle
+settle-old P a p rs bs = refl
+
+pub settle-new : (P : ℕ) (a : Allocation) (rs : List Rec) (bs : Level) → let b : Block = record { place = some (firstFree P a); recs = rs } in
+    let r = settle P (taking P a) bs in settle P a (new rs ∷ bs) ≡ record { level = b ∷ r .level; written = b ∷ r .written; allocation = r .allocation }
+unfolding settle
+settle-new P a rs bs = refl
+
+-- "in key order": first the blocks of one list, then those of the next
+pub settle-append : (P : ℕ) (a : Allocation) (k l : Level) → let s = settle P a k in
+    let r = settle P (s .allocation) l in settle P a (k ++ l) ≡ record { level = s .level ++ r .level; written = s .written ++ r .written; allocation = r .allocation }
+unfolding settle
+settle-append P a [] l = refl
+settle-append P a (b ∷ bs) l = go (b .place) (λ c. settle-append P c bs l)
+  where
+    goal : Level → Type 0
+    goal k = let s = settle P a k in
+        let r = settle P (s .allocation) l in settle P a (k ++ l) ≡ record { level = s .level ++ r .level; written = s .written ++ r .written; allocation = r .allocation }
+
+    go : (p : Option ℕ) → ((c : Allocation) → let s = settle P c bs in
+        let r = settle P (s .allocation) l in settle P c (bs ++ l) ≡ record { level = s .level ++ r .level; written = s .written ++ r .written; allocation = r .allocation }) → goal (record { place = p; recs = b .recs } ∷ bs)
+    go none ih =
+        let d : Block = record { place = some (firstFree P a); recs = b .recs } in
+        ap (λ (r : Settled). record { level = d ∷ r .level; written = d ∷ r .written; allocation = r .allocation }) (ih (taking P a))
+    go (some p) ih =
+        let d : Block = record { place = some p; recs = b .recs } in
+        ap (λ (r : Settled). record { level = d ∷ r .level; written = r .written; allocation = r .allocation }) (ih a)
+
+-- places change no record
+pub settle-records : (P : ℕ) (a : Allocation) (l : Level) → records (settle P a l .level) ≡ records l
+unfolding settle
+settle-records P a [] = refl
+settle-records P a (b ∷ bs) = go (b .place) (λ c. settle-records P c bs)
+  where
+    go : (p : Option ℕ) → ((c : Allocation) → records (settle P c bs .level) ≡ records bs) → records (settle P a (record { place = p; recs = b .recs } ∷ bs) .level) ≡ b .recs ++ records bs
+    go none ih = ap (λ (m : List Rec). b .recs ++ m) (ih (taking P a))
+    go (some p) ih = ap (λ (m : List Rec). b .recs ++ m) (ih a)
+
+-- nor the number of blocks
+pub settle-length : (P : ℕ) (a : Allocation) (l : Level) → length (settle P a l .level) ≡ length l
+unfolding settle
+settle-length P a [] = refl
+settle-length P a (b ∷ bs) = go (b .place) (λ c. settle-length P c bs)
+  where
+    go : (p : Option ℕ) → ((c : Allocation) → length (settle P c bs .level) ≡ length bs) → length (settle P a (record { place = p; recs = b .recs } ∷ bs) .level) ≡ suc (length bs)
+    go none ih = ap suc (ih (taking P a))
+    go (some p) ih = ap suc (ih a)
+
+-- every block then has a place
+pub settle-placed : (P : ℕ) (a : Allocation) (l : Level) → fresh (settle P a l .level) ≡ 0
+unfolding settle
+settle-placed P a [] = refl
+settle-placed P a (b ∷ bs) = go (b .place) (λ c. settle-placed P c bs)
+  where
+    go : (p : Option ℕ) → ((c : Allocation) → fresh (settle P c bs .level) ≡ 0) → fresh (settle P a (record { place = p; recs = b .recs } ∷ bs) .level) ≡ 0
+    go none ih = omega (arith, ih (taking P a))
+    go (some p) ih = omega (arith, ih a)
+
+-- the sizes and the pair rule stay
+settle-apart : (P B n : ℕ) (a : Allocation) (l : Level) → Apart B n l → Apart B n (settle P a l .level)
+unfolding settle
+settle-apart P B n a [] h = tt
+settle-apart P B n a (b ∷ bs) h = go (b .place)
+  where
+    go : (p : Option ℕ) → Apart B n (settle P a (record { place = p; recs = b .recs } ∷ bs) .level)
+    go none = h
+    go (some p) = h
+
+pub settle-well : (P B : ℕ) (a : Allocation) (l : Level) → Well B l → Well B (settle P a l .level)
+unfolding settle
+settle-well P B a [] w = well-nil B
+settle-well P B a (b ∷ bs) w = go (b .place) (λ c. settle-well P B c bs (well-tail B b bs w)) (λ c. settle-apart P B (size b) c bs (w .pairs .0))
+  where
+    go : (p : Option ℕ) → ((c : Allocation) → Well B (settle P c bs .level)) → ((c : Allocation) → Apart B (size b) (settle P c bs .level)) → Well B (settle P a (record { place = p; recs = b .recs } ∷ bs) .level)
+    go none ih ap = record { pairs = (ap (taking P a), ih (taking P a) .pairs); sized = (w .sized .0, w .sized .1, ih (taking P a) .sized) }
+    go (some p) ih ap = record { pairs = (ap a, ih a .pairs); sized = (w .sized .0, w .sized .1, ih a .sized) }
+
+-- and so does the level rule
+pub settle-rule : (P B : ℕ) (a : Allocation) (l : Level) → needsCompact B (settle P a l .level) ≡ needsCompact B l
+settle-rule P B a l = rw (settle-length P a l, settle-records P a l)
+
+-- the new blocks of a level
+abbrev pub newOf : Level → Level
+newOf [] = []
+newOf (b ∷ bs) = elim (b .place) [ none ↦ b ∷ newOf bs | some p ↦ newOf bs ]
+
+-- a level with the blocks `ws`, in turn, for its new ones
+abbrev pub filled : Level → Level → Level
+filled [] ws = []
+filled (b ∷ bs) ws = elim (b .place) [ some p ↦ b ∷ filled bs ws | none ↦ elim ws [ [] ↦ b ∷ filled bs [] | v ∷ vs ↦ v ∷ filled bs vs ] ]
+
+abbrev pub recsOf : Block → List Rec
+recsOf b = b .recs
+
+-- the blocks written are the new ones, in order: their records
+pub settle-written : (P : ℕ) (a : Allocation) (l : Level) → map recsOf (settle P a l .written) ≡ map recsOf (newOf l)
+unfolding settle
+settle-written P a [] = refl
+settle-written P a (b ∷ bs) = go (b .place) (λ c. settle-written P c bs)
+  where
+    go : (p : Option ℕ) → ((c : Allocation) → map recsOf (settle P c bs .written) ≡ map recsOf (newOf bs))
+        → map recsOf (settle P a (record { place = p; recs = b .recs } ∷ bs) .written) ≡ map recsOf (newOf (record { place = p; recs = b .recs } ∷ bs))
+    go none ih = ap (λ (m : List (List Rec)). b .recs ∷ m) (ih (taking P a))
+    go (some p) ih = ih a
+
+-- the level is as it was, with the written blocks for the new ones: a block that had a place stays
+pub settle-level : (P : ℕ) (a : Allocation) (l : Level) → settle P a l .level ≡ filled l (settle P a l .written)
+unfolding settle
+settle-level P a [] = refl
+settle-level P a (b ∷ bs) = go (b .place) (λ c. settle-level P c bs)
+  where
+    go : (p : Option ℕ) → ((c : Allocation) → settle P c bs .level ≡ filled bs (settle P c bs .written))
+        → settle P a (record { place = p; recs = b .recs } ∷ bs) .level ≡ filled (record { place = p; recs = b .recs } ∷ bs) (settle P a (record { place = p; recs = b .recs } ∷ bs) .written)
+    go none ih = ap (λ (m : Level). record { place = some (firstFree P a); recs = b .recs } ∷ m) (ih (taking P a))
+    go (some p) ih = ap (λ (m : Level). record { place = some p; recs = b .recs } ∷ m) (ih a)
+
+-- as many blocks are written as there are new ones
+pub written-length : (P : ℕ) (a : Allocation) (l : Level) → length (settle P a l .written) ≡ fresh l
+unfolding settle
+written-length P a [] = refl
+written-length P a (b ∷ bs) = go (b .place) (λ c. written-length P c bs)
+  where
+    go : (p : Option ℕ) → ((c : Allocation) → length (settle P c bs .written) ≡ fresh bs) → length (settle P a (record { place = p; recs = b .recs } ∷ bs) .written) ≡ fresh (record { place = p; recs = b .recs } ∷ bs)
+    go none ih = omega (arith, ih (taking P a))
+    go (some p) ih = omega (arith, ih a)
+
+-- and each takes a place
+pub written-places : (P : ℕ) (a : Allocation) (l : Level) → length (placesOf (settle P a l .written)) ≡ fresh l
+unfolding settle
+written-places P a [] = refl
+written-places P a (b ∷ bs) = go (b .place) (λ c. written-places P c bs)
+  where
+    go : (p : Option ℕ) → ((c : Allocation) → length (placesOf (settle P c bs .written)) ≡ fresh bs)
+        → length (placesOf (settle P a (record { place = p; recs = b .recs } ∷ bs) .written)) ≡ fresh (record { place = p; recs = b .recs } ∷ bs)
+    go none ih = omega (arith, ih (taking P a))
+    go (some p) ih = omega (arith, ih a)
+
+-- "hand moves there": the allocation afterwards is the one before, with the written places taken in order
+pub settle-allocation : (P : ℕ) (a : Allocation) (l : Level) → settle P a l .allocation ≡ afterTaking a (placesOf (settle P a l .written))
+unfolding settle
+settle-allocation P a [] = refl
+settle-allocation P a (b ∷ bs) = go (b .place) (λ c. settle-allocation P c bs)
+  where
+    go : (p : Option ℕ) → ((c : Allocation) → settle P c bs .allocation ≡ afterTaking c (placesOf (settle P c bs .written)))
+        → settle P a (record { place = p; recs = b .recs } ∷ bs) .allocation ≡ afterTaking a (placesOf (settle P a (record { place = p; recs = b .recs } ∷ bs) .written))
+    go none ih = ih (taking P a)
+    go (some p) ih = ih a
+
+after-taking-length : (a : Allocation) (ps : List ℕ) → length (afterTaking a ps .used) ≡ length (a .used) + length ps
+after-taking-length a [] = omega arith
+after-taking-length a (p ∷ ps) = omega (arith, after-taking-length (record { used = p ∷ a .used; cursor = p }) ps)
+
+-- the places that are not free grow by those written
+pub settle-used : (P : ℕ) (a : Allocation) (l : Level) → length (settle P a l .allocation .used) ≡ length (a .used) + fresh l
+settle-used P a l =
+    omega (arith, ap (λ (c : Allocation). length (c .used)) (settle-allocation P a l), after-taking-length a (placesOf (settle P a l .written)), written-places P a l)
+
+-- the places of the outcome are those of the old blocks and those written: their sum by any weight
+pub settle-places : (f : ℕ → ℕ) (P : ℕ) (a : Allocation) (l : Level) → total f (placesOf (settle P a l .level)) ≡ total f (placesOf l) + total f (placesOf (settle P a l .written))
+unfolding settle
+settle-places f P a [] = refl
+settle-places f P a (b ∷ bs) = go (b .place) (λ c. settle-places f P c bs)
+  where
+    go : (p : Option ℕ) → ((c : Allocation) → total f (placesOf (settle P c bs .level)) ≡ total f (placesOf bs) + total f (placesOf (settle P c bs .written)))
+        → total f (placesOf (settle P a (record { place = p; recs = b .recs } ∷ bs) .level))
+        ≡ total f (placesOf (record { place = p; recs = b .recs } ∷ bs)) + total f (placesOf (settle P a (record { place = p; recs = b .recs } ∷ bs) .written))
+    go none ih = omega (arith, ih (taking P a))
+    go (some p) ih = omega (arith, ih a)
+
+-- each place is the first free one after the cursor when it is taken
+abbrev pub Takes : ℕ → Allocation → List ℕ → Type 0
+Takes P a [] = Unit {0}
+Takes P a (p ∷ ps) = FirstFree P (a .used) (a .cursor) p × Takes P (record { used = p ∷ a .used; cursor = p }) ps
+
+-- some places, and then some more
+pub takes-append : (P : ℕ) (a : Allocation) (ps qs : List ℕ) → Takes P a ps → Takes P (afterTaking a ps) qs → Takes P a (ps ++ qs)
+takes-append P a [] qs s t = t
+takes-append P a (p ∷ ps) qs s t = (s .0, takes-append P (record { used = p ∷ a .used; cursor = p }) ps qs (s .1) t)
+
+-- with a free place left at each taking, the places taken are each the first free one after the cursor
+pub settle-takes : (P : ℕ) (a : Allocation) (l : Level) → a .cursor < P → length (a .used) + fresh l ≤ P → Takes P a (placesOf (settle P a l .written))
+unfolding settle
+settle-takes P a [] h r = tt
+settle-takes P a (b ∷ bs) h r = go (b .place) r (λ c i s. settle-takes P c bs i s)
+  where
+    go : (p : Option ℕ) → length (a .used) + fresh (record { place = p; recs = b .recs } ∷ bs) ≤ P → ((c : Allocation) → c .cursor < P → length (c .used) + fresh bs ≤ P → Takes P c (placesOf (settle P c bs .written)))
+        → Takes P a (placesOf (settle P a (record { place = p; recs = b .recs } ∷ bs) .written))
+    go none r ih =
+        let f = first-free P a h (omega arith) in
+        (f, ih (taking P a) (f .inside) (omega arith))
+    go (some p) r ih = ih a h (omega arith)
+
+-- the cursor stays below P
+pub takes-cursor : (P : ℕ) (a : Allocation) (ps : List ℕ) → a .cursor < P → Takes P a ps → afterTaking a ps .cursor < P
+takes-cursor P a [] h t = h
+takes-cursor P a (p ∷ ps) h t = takes-cursor P (record { used = p ∷ a .used; cursor = p }) ps (t .0 .inside) (t .1)
+
+pub settle-cursor : (P : ℕ) (a : Allocation) (l : Level) → a .cursor < P → length (a .used) + fresh l ≤ P → settle P a l .allocation .cursor < P
+settle-cursor P a l h r = rw (settle-allocation P a l) (takes-cursor P a (placesOf (settle P a l .written)) h (settle-takes P a l h r))
