@@ -45,7 +45,7 @@ rise-over-requires c κs =
     let p = chunk-room _ _ (a .pre) _ (c .before .before .before .loop-test .taken) in
     let k = kept-count _ _ _ _ (sym (c .before .kept .ensures) ∙ not-false _ (c .if1 .left)) in
     let q = rw (← c .before .before .chunk-at .ensures) at p in
-    record { key-end = omega arith; pay-end = omega arith }
+    record { keys-end = omega arith; pays-end = omega arith }
 
 enum-known-next : tie.Need-enum-known-next Inv-loop μ-loop
 enum-known-next c = search needs
