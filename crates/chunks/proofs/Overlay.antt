@@ -11,7 +11,7 @@ use lib.ListN.{length}
 use borrow.Author.Tests.{eq-eqb, ne-eqb}
 use Rattle.levels.specs.Record.{Rec}
 use Rattle.levels.specs.Map.{overlay, into, unmarked, firstFrom}
-use Rattle.chunks.specs.Peel.{pickRecs, taken, past, orList, Least, Peeled}
+use Rattle.chunks.specs.Peel.{pickRecs, taken, past, orList, Least, Peeled, liveBit}
 use Rattle.chunks.proofs.Find.{into-below, into-same, into-above, Way, way}
 use Rattle.chunks.proofs.Find.Way.{less, same, more}
 
@@ -95,11 +95,6 @@ overlay-cut k a b c d pa pb pc pd =
     let y = peel k b (overlay c d) pb (z .least) in
     let x = peel k a (overlay b (overlay c d)) pa (y .least) in
     taken-past k (overlay a (overlay b (overlay c d))) ∙ rw (x .takens, y .takens, z .takens, x .pasts, y .pasts, z .pasts)
-
--- 1 for a record that is no tombstone
-abbrev pub liveBit : Bool → ℕ
-liveBit true = 0
-liveBit false = 1
 
 -- a record before a list counts if it is no tombstone
 pub live-cons : (r : Rec) (rs : List Rec) → length (unmarked (r ∷ rs)) ≡ liveBit (r .tombstone) + length (unmarked rs)

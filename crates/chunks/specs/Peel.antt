@@ -36,3 +36,8 @@ pub record Peeled (k : ℕ) (xs ys : List Rec) : Type 0 where
   pub least : Least k (overlay xs ys)
   pub takens : taken k (overlay xs ys) ≡ orList (taken k xs) (taken k ys)
   pub pasts : past k (overlay xs ys) ≡ overlay (past k xs) (past k ys)
+
+-- what a record counts among the live ones: a tombstone nothing
+abbrev pub liveBit : Bool → ℕ
+liveBit true = 0
+liveBit false = 1
