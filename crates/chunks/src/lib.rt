@@ -2,7 +2,7 @@
 // written and proved once for both.
 
 ghost use mathlib.Core.Path.{_≡_};
-ghost use Prim.Native.Nat.{_+_, _-_, _*_, _≤_, _<_};
+ghost use Prim.Native.Nat.{_+_, _≤_, _<_};
 ghost use lib.ListN.{length};
 ghost use Rattle.words.specs.Layout.{word};
 ghost use Rattle.chunks.specs.Chunks.{Inside, riseOf, zerosAt};

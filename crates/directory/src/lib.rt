@@ -3,10 +3,10 @@
 
 ghost use mathlib.Core.Path.{_≡_};
 ghost use mathlib.Core.Bool.{not};
-ghost use Prim.Native.Nat.{_+_, _-_, _*_, _^_, _≤_, _<_};
+ghost use Prim.Native.Nat.{_+_, _-_, _*_, _≤_, _<_};
 ghost use lib.ListN.{length};
 ghost use Rattle.levels.specs.Waste.{wasteful};
-ghost use Rattle.directory.specs.Directory.{Within, chunkAt, pageOf, blockOf, keptOf, levelFormed, passOf};
+ghost use Rattle.directory.specs.Directory.{Within, chunkAt, pageOf, blockOf, keptOf, levelFormed};
 use chunks::Chunk;
 use chunks::Rise;
 

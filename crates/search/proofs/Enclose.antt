@@ -1,6 +1,6 @@
 -- Of the chunks of a level, only the one that a search finds can enclose the key.
 use Prim.Native.Nat.{ℕ, zero, suc, _+_, _-_, _/_, _≤_, _<_}
-use mathlib.Core.Path.{_≡_, sym, ap, _∙_, refl}
+use mathlib.Core.Path.{_≡_, ap, _∙_, refl}
 use mathlib.Core.Bool.{Bool, true, false, _&&_}
 use mathlib.Core.List.{List, [], _∷_, _++_}
 use native.Mathlib.Numerals.{add-one}
@@ -16,9 +16,9 @@ use Rattle.directory.specs.declared.Directory.{Directory}
 use Rattle.directory.specs.Directory.{Formed, recordsFrom, chunkAt}
 use Rattle.search.specs.declared.Enclosed.{Enclosed}
 use Rattle.search.specs.declared.Enclosed.the-variants.{At, Nowhere}
-use Rattle.search.specs.Search.{firstAt, Sought, encloses, pickEnclosed, enclosedFrom, enclosedOf}
+use Rattle.search.specs.Search.{Sought, encloses, pickEnclosed, enclosedFrom, enclosedOf}
 use Rattle.search.proofs.Between.{Below, rising-right, below-left, below-right}
-use Rattle.search.proofs.Laws.{span, chunk-first, firstOf, othersOf, span-before, span-after}
+use Rattle.search.proofs.Laws.{chunk-first, firstOf, othersOf, span-before, span-after}
 
 -- the first and the last key of a chunk
 slots-last : (ws : List ℕ) (m k v n : ℕ) → lastKey (slotsAt ws m k v (suc n)) ≡ word ws (k + n)

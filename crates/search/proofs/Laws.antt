@@ -1,6 +1,6 @@
 -- Where a search in a chunk and one in a level end: the only record, and the only chunk, that can have the key.
 use Prim.Native.Nat.{ℕ, zero, suc, _+_, _-_, _/_, _%_, _^_, _≤_, _<_}
-use mathlib.Core.Path.{_≡_, sym, ap, _∙_, refl}
+use mathlib.Core.Path.{_≡_, sym, ap, _∙_}
 use mathlib.Core.Logic.{dite}
 use mathlib.Core.Option.{none, some}
 use mathlib.Core.List.{List, [], _∷_, _++_, append-assoc}
@@ -10,7 +10,6 @@ use native.Mathlib.Numerals.{add-one}
 use native.Mathlib.Omega.{arith}
 use lib.Pow.{pow-add}
 use lib.Dec.{eqb}
-use lib.ListN.{length}
 use Rattle.levels.specs.Record.{Rec}
 use Rattle.levels.specs.Map.{find}
 use Rattle.words.specs.Layout.{word, slotsAt}

@@ -1,8 +1,7 @@
 // Binary searches in one level: the record with a key, and the chunk whose keys enclose a key.
 
 ghost use mathlib.Core.Path.{_≡_};
-ghost use Prim.Native.Nat.{_+_, _-_, _*_, _≤_, _<_};
-ghost use lib.ListN.{length};
+ghost use Prim.Native.Nat.{_+_, _-_, _≤_, _<_};
 ghost use Rattle.levels.specs.Map.{find};
 ghost use Rattle.chunks.specs.Chunks.{Inside, Rising, chunkRecs};
 ghost use Rattle.directory.specs.Directory.{Formed, recordsOf};

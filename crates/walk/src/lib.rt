@@ -2,7 +2,7 @@
 // record with it decides. It counts the live keys, and finds the first one from a key on.
 
 ghost use mathlib.Core.Path.{_≡_};
-ghost use Prim.Native.Nat.{_+_, _-_, _*_, _%_, _^_, _≤_, _<_};
+ghost use Prim.Native.Nat.{_+_, _-_, _%_, _≤_, _<_};
 ghost use lib.ListN.{length};
 ghost use lib.Dec.{eqb};
 ghost use Rattle.levels.specs.Map.{unmarked, firstFrom};
@@ -13,13 +13,13 @@ use chunks::Chunk;
 use directory::Directory;
 
 // Above every key: the next key of a level that is used up.
-pub const END: usize = 4294967296;
+const END: usize = 4294967296;
 
 // What is left of a level: the rest of a chunk, the number of the chunk after it, and the next key.
-pub struct Cursor {
-    pub next: usize,
-    pub chunk: Chunk,
-    pub key: usize,
+struct Cursor {
+    next: usize,
+    chunk: Chunk,
+    key: usize,
 }
 
 // A live key with its payload, or that there is none.
@@ -29,7 +29,7 @@ pub enum Following {
 }
 
 // A level from chunk `next` on.
-pub fn refill(s: &[u32], dir: Directory, next: usize) -> Cursor
+fn refill(s: &[u32], dir: Directory, next: usize) -> Cursor
     requires { ⌜ Formed dir (now s) × (next ≤ dir .chunks) ⌝ }
     ensures { λ r. ⌜ Good (now (s .entry)) dir r × (rest (now (s .entry)) dir r ≡ recordsFrom (now (s .entry)) dir next (dir .chunks - next)) ⌝ }
 {
@@ -58,7 +58,7 @@ pub fn refill(s: &[u32], dir: Directory, next: usize) -> Cursor
 }
 
 // Past the next record, where its key is k.
-pub fn step(s: &[u32], dir: Directory, c: Cursor, k: usize) -> Cursor
+fn step(s: &[u32], dir: Directory, c: Cursor, k: usize) -> Cursor
     requires { ⌜ Good (now s) dir c × (k < 4294967296) ⌝ }
     ensures { λ r. ⌜ Good (now (s .entry)) dir r × (rest (now (s .entry)) dir r ≡ past k (rest (now (s .entry)) dir c)) ⌝ }
 {
@@ -87,21 +87,22 @@ pub fn step(s: &[u32], dir: Directory, c: Cursor, k: usize) -> Cursor
     }
 }
 
-pub fn smaller(a: usize, b: usize) -> usize
+// The smaller of two numbers.
+fn smaller(a: usize, b: usize) -> usize
     ensures { λ r. ⌜ Smaller a b r ⌝ }
 {
     if b < a { b } else { a }
 }
 
 // The smallest of four numbers.
-pub fn least(a: usize, b: usize, c: usize, d: usize) -> usize
+fn least(a: usize, b: usize, c: usize, d: usize) -> usize
     ensures { λ r. ⌜ LeastOf a b c d r ⌝ }
 {
     smaller(smaller(a, b), smaller(c, d))
 }
 
 // Of four cursors, the upper ones first, the chunk of the first whose key is k; the last has it if no other has.
-pub fn upper(c0: Cursor, c1: Cursor, c2: Cursor, c3: Cursor, k: usize) -> Chunk
+fn upper(c0: Cursor, c1: Cursor, c2: Cursor, c3: Cursor, k: usize) -> Chunk
     ensures { λ r. ⌜ r ≡ upperOf c0 c1 c2 c3 k ⌝ }
 {
     if c0.key == k {

@@ -1,10 +1,8 @@
-use Rattle.chunks.proofs.Slots.{rise-start, rise-end, rise-extra}
+use Rattle.chunks.proofs.Slots.{rise-start, rise-end, rise-extra, rise-low, rise-dirty, rise-next}
 use native.Mathlib.Omega.{arith}
-use Prim.Native.Nat.{ℕ, _≤_, _<_, _+_, _-_}
-use mathlib.Core.Path.{_≡_, refl, sym, _∙_, ap}
-use lib.ListN.{length}
+use Prim.Native.Nat.{_≤_, _+_, _-_}
+use mathlib.Core.Path.{_≡_, sym, _∙_}
 use Rattle.chunks.specs.Chunks.{riseOf}
-use Rattle.chunks.proofs.Slots.{rise-low, rise-dirty, rise-next}
 use borrow.Author.Needs.{needs}
 use Rattle.chunks.proofs.rise_over.Statement.{statement}
 use Rattle.chunks.proofs.rise_over.Tie as tie

@@ -1,10 +1,8 @@
-use Rattle.chunks.proofs.Slots.{zeros-start, zeros-end}
+use Rattle.chunks.proofs.Slots.{zeros-start, zeros-end, zeros-next, zeros-stop}
 use native.Mathlib.Omega.{arith}
-use Prim.Native.Nat.{ℕ, _≤_, _<_, _+_, _-_}
-use mathlib.Core.Path.{_≡_, refl, sym, _∙_, ap}
-use lib.ListN.{length}
+use Prim.Native.Nat.{_≤_, _+_, _-_}
+use mathlib.Core.Path.{_≡_, sym, _∙_}
 use Rattle.chunks.specs.Chunks.{zerosAt}
-use Rattle.chunks.proofs.Slots.{zeros-next, zeros-stop}
 use borrow.Author.Needs.{needs}
 use Rattle.chunks.proofs.zeros.Statement.{statement}
 use Rattle.chunks.proofs.zeros.Tie as tie

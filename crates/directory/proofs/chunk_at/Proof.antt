@@ -1,6 +1,5 @@
 use native.Mathlib.Omega.{arith}
 use Prim.Native.Nat.{_+_}
-use mathlib.Core.Path.{_≡_, sym, _∙_}
 use Rattle.directory.specs.Directory.{chunkAt}
 use Rattle.directory.proofs.Laws.{page-in}
 use borrow.Author.Needs.{needs}

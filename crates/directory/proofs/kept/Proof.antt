@@ -1,4 +1,3 @@
-use mathlib.Core.Path.{_≡_, sym, _∙_}
 use borrow.Author.Tests.{lt-leb, le-leb}
 use Rattle.directory.specs.Directory.{keptOf}
 use borrow.Author.Needs.{needs}

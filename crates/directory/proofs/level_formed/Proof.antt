@@ -1,10 +1,10 @@
 use borrow.Author.Tests.{not-true, not-false}
 use native.Mathlib.Omega.{arith}
 use borrow.Author.Needs.{needs}
-use Prim.Native.Nat.{ℕ, _≤_, _<_, _+_, _*_, _-_}
-use mathlib.Core.Path.{_≡_, refl, sym, _∙_, ap}
-use Rattle.directory.specs.Directory.{chunkAt, passOf, levelFormed, keptOf}
-use Rattle.directory.proofs.Laws.{page-in, chunk-room, kept-count, pass-unkept, pass-broken, pass-next, pass-end-top, pass-end-listed, pass-start, room-high}
+use Prim.Native.Nat.{_≤_, _*_, _-_}
+use mathlib.Core.Path.{_≡_, sym, _∙_}
+use Rattle.directory.specs.Directory.{passOf, levelFormed}
+use Rattle.directory.proofs.Laws.{chunk-room, kept-count, pass-unkept, pass-broken, pass-next, pass-end-top, pass-end-listed, pass-start, room-high}
 use Rattle.directory.proofs.level_formed.Statement.{statement}
 use Rattle.directory.proofs.level_formed.Tie as tie
 use Rattle.directory.proofs.level_formed.Reads as reads

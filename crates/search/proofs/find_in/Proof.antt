@@ -1,4 +1,4 @@
-use mathlib.Core.Path.{_≡_, refl, sym, _∙_, ap}
+use mathlib.Core.Path.{_∙_}
 use Rattle.search.proofs.Laws.{empty-level, chunk-ready, sought-find}
 use borrow.Author.Needs.{needs}
 use Rattle.search.proofs.find_in.Statement.{statement}

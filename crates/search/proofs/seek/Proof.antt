@@ -1,7 +1,7 @@
 use borrow.Author.Needs.{needs}
 use native.Mathlib.Omega.{arith}
-use Prim.Native.Nat.{ℕ, _≤_, _<_, _+_, _-_, _/_}
-use mathlib.Core.Path.{_≡_, refl, sym, _∙_, ap}
+use Prim.Native.Nat.{_≤_, _<_, _+_, _-_}
+use mathlib.Core.Path.{sym, _∙_}
 use Rattle.words.specs.Layout.{word}
 use Rattle.search.proofs.Laws.{seek-here, seek-absent}
 use Rattle.search.proofs.seek.Statement.{statement}

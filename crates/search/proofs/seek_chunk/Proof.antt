@@ -1,7 +1,6 @@
 use borrow.Author.Needs.{needs}
 use native.Mathlib.Omega.{arith}
-use Prim.Native.Nat.{ℕ, _≤_, _<_, _+_, _-_, _/_}
-use mathlib.Core.Path.{_≡_, refl, sym, _∙_, ap}
+use Prim.Native.Nat.{_≤_, _<_, _+_, _-_, _/_}
 use Rattle.search.specs.Search.{firstAt}
 use Rattle.search.proofs.Laws.{chunk-ready, first-read, sought-one}
 use Rattle.search.proofs.seek_chunk.Statement.{statement}

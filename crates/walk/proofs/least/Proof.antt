@@ -1,5 +1,3 @@
-use native.Mathlib.Omega.{arith}
-use mathlib.Core.Path.{_≡_, sym, _∙_}
 use Rattle.walk.proofs.Four.{least-join}
 use borrow.Author.Needs.{needs}
 use Rattle.walk.proofs.least.Statement.{statement}

@@ -1,10 +1,6 @@
-use borrow.Author.Needs.{needs}
 use native.Mathlib.Omega.{arith}
-use native.Mathlib.Nat.{zero-add}
-use Prim.Native.Nat.{_+_}
 use mathlib.Core.Path.{_≡_, sym, _∙_, ap}
 use mathlib.Core.List.{List}
-use lib.ListN.{length}
 use Rattle.levels.specs.Record.{Rec}
 use Rattle.levels.specs.Map.{unmarked, firstFrom}
 use Rattle.walk.specs.Walk.{rest, layered}

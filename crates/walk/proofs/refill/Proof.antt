@@ -1,5 +1,5 @@
 use native.Mathlib.Omega.{arith}
-use mathlib.Core.Path.{_≡_, refl, sym, _∙_}
+use mathlib.Core.Path.{refl}
 use Rattle.walk.proofs.Rest.{chunk-alive, refill-chunk, refill-none}
 use borrow.Author.Needs.{needs}
 use Rattle.walk.proofs.refill.Statement.{statement}
