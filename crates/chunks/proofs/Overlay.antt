@@ -9,9 +9,10 @@ use native.Mathlib.Decide.{ℕ-discrete}
 use lib.Dec.{eqb, leb}
 use lib.ListN.{length}
 use borrow.Author.Tests.{eq-eqb, ne-eqb}
+use Rattle.levels.specs.Basics.{if_then_else_}
 use Rattle.levels.specs.Record.{Rec}
 use Rattle.levels.specs.Map.{overlay, into, unmarked, firstFrom}
-use Rattle.chunks.specs.Peel.{pickRecs, taken, past, orList, Least, Peeled, liveBit}
+use Rattle.chunks.specs.Peel.{taken, past, orList, Least, Peeled, liveBit}
 use Rattle.chunks.proofs.Find.{into-below, into-same, into-above, Way, way}
 use Rattle.chunks.proofs.Find.Way.{less, same, more}
 
@@ -82,7 +83,7 @@ unfolding taken past
 taken-past k [] = refl
 taken-past k (x ∷ xs) = go (eqb (x .key) k)
   where
-    go : (t : Bool) → x ∷ xs ≡ pickRecs t (x ∷ []) [] ++ pickRecs t xs (x ∷ xs)
+    go : (t : Bool) → x ∷ xs ≡ (if t then x ∷ [] else []) ++ (if t then xs else (x ∷ xs))
     go true = refl
     go false = refl
 

@@ -9,11 +9,12 @@ use native.Mathlib.Omega.{arith}
 use borrow.Author.Tests.{le-leb, lt-leb, eq-eqb, ne-eqb, leb-true}
 use lib.Dec.{leb, eqb}
 use lib.ListN.{length}
+use Rattle.levels.specs.Basics.{if_then_else_}
 use Rattle.levels.specs.Record.{Rec, rising, cleanTombstones}
 use Rattle.words.specs.Layout.{word, slotsAt}
 use Rattle.chunks.specs.declared.Rise.{Rise}
 use Rattle.chunks.specs.declared.Rise.the-variants.{To, Broken}
-use Rattle.chunks.specs.Chunks.{Rising, zerosAt, nextLow, pickRise, riseOf}
+use Rattle.chunks.specs.Chunks.{Rising, zerosAt, nextLow, riseOf}
 
 -- one word of `zeros`
 module _ (ws : List ℕ) (start n i : ℕ) where
@@ -70,13 +71,13 @@ pub shift-suc : (m n : ℕ) → m / 2 ^ suc n ≡ m / 2 / 2 ^ n
 shift-suc m n = ap (_/_ m) (pow-succ' 2 n) ∙ sym (div-div-eq-div-mul m 2 (2 ^ n))
 
 -- the pass says: keys rise strictly, payloads of tombstones are 0, and no bit is set past the count
-pub rise-is : (ws : List ℕ) (m k v n low : ℕ) → riseOf ws m k v n low ≡ pickRise (rising low (slotsAt ws m k v n) && (cleanTombstones (slotsAt ws m k v n) && eqb (m / 2 ^ n) 0)) (To (nextLow low (slotsAt ws m k v n))) Broken
+pub rise-is : (ws : List ℕ) (m k v n low : ℕ) → riseOf ws m k v n low ≡ (if rising low (slotsAt ws m k v n) && (cleanTombstones (slotsAt ws m k v n) && eqb (m / 2 ^ n) 0) then To (nextLow low (slotsAt ws m k v n)) else Broken)
 unfolding riseOf slotsAt nextLow
 rise-is ws m k v zero low = let e : m / 2 ^ 0 ≡ m = omega arith in rw e
 rise-is ws m k v (suc n) low =
     rw (shift-suc m n, rise-is ws (m / 2) (suc k) (suc v) n (suc (word ws k))) (go (leb low (word ws k)) (eqb (m % 2) 1) (eqb (word ws v) 0) _ _ _ _)
   where
-    go : (a t z c d e : Bool) (x : Rise) → pickRise (a && not (t && not z)) (pickRise (c && (d && e)) x Broken) Broken ≡ pickRise ((a && c) && (((not t || z) && d) && e)) x Broken
+    go : (a t z c d e : Bool) (x : Rise) → (if a && not (t && not z) then (if c && (d && e) then x else Broken) else Broken) ≡ (if (a && c) && (((not t || z) && d) && e) then x else Broken)
     go false t z c d e x = refl
     go true false z c d e x = refl
     go true true true c d e x = refl

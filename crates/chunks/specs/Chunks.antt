@@ -4,6 +4,7 @@ use mathlib.Core.Bool.{Bool, true, false, not, _&&_}
 use mathlib.Core.List.{List, [], _∷_}
 use lib.Dec.{leb, eqb}
 use lib.ListN.{length}
+use Rattle.levels.specs.Basics.{if_then_else_}
 use Rattle.levels.specs.Record.{Rec}
 use Rattle.words.specs.Layout.{word, slotsAt}
 use Rattle.chunks.specs.declared.Chunk.{Chunk}
@@ -34,14 +35,8 @@ unfoldable pub zerosAt : List ℕ → ℕ → ℕ → Bool
 zerosAt ws i zero = true
 zerosAt ws i (suc n) = eqb (word ws i) 0 && zerosAt ws (suc i) n
 
-abbrev pub pickRise : Bool → Rise → Rise → Rise
-pickRise true a b = a
-pickRise false a b = b
-
 -- the code's pass over the n records with mark word m, keys from word k on and payloads from word v on; the law `rise-is` says what it finds
 unfoldable pub riseOf : List ℕ → ℕ → ℕ → ℕ → ℕ → ℕ → Rise
-riseOf ws m k v zero low = pickRise (eqb m 0) (To low) Broken
+riseOf ws m k v zero low = if eqb m 0 then To low else Broken
 riseOf ws m k v (suc n) low =
-    pickRise (leb low (word ws k) && not (eqb (m % 2) 1 && not (eqb (word ws v) 0)))
-    (riseOf ws (m / 2) (suc k) (suc v) n (suc (word ws k)))
-    Broken
+    if leb low (word ws k) && not (eqb (m % 2) 1 && not (eqb (word ws v) 0)) then riseOf ws (m / 2) (suc k) (suc v) n (suc (word ws k)) else Broken

@@ -4,22 +4,19 @@ use mathlib.Core.Path.{_≡_}
 use mathlib.Core.Bool.{Bool, true, false}
 use mathlib.Core.List.{List, [], _∷_}
 use lib.Dec.{eqb}
+use Rattle.levels.specs.Basics.{if_then_else_}
 use Rattle.levels.specs.Record.{Rec}
 use Rattle.levels.specs.Map.{overlay}
-
-abbrev pub pickRecs : Bool → List Rec → List Rec → List Rec
-pickRecs true a b = a
-pickRecs false a b = b
 
 -- the first record, where its key is k
 unfoldable pub taken : ℕ → List Rec → List Rec
 taken k [] = []
-taken k (r ∷ rs) = pickRecs (eqb (r .key) k) (r ∷ []) []
+taken k (r ∷ rs) = if eqb (r .key) k then r ∷ [] else []
 
 -- the list without its first record, where that has key k
 unfoldable pub past : ℕ → List Rec → List Rec
 past k [] = []
-past k (r ∷ rs) = pickRecs (eqb (r .key) k) rs (r ∷ rs)
+past k (r ∷ rs) = if eqb (r .key) k then rs else (r ∷ rs)
 
 -- the first of two lists that has something
 abbrev pub orList : List Rec → List Rec → List Rec

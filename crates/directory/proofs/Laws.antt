@@ -11,16 +11,17 @@ use native.Mathlib.Omega.{arith}
 use borrow.Author.Tests.{leb-true}
 use lib.Dec.{eqb}
 use lib.ListN.{length, length-append}
+use Rattle.levels.specs.Basics.{if_then_else_}
 use Rattle.levels.specs.Record.{rising, cleanTombstones}
 use Rattle.levels.specs.Waste.{wasteful}
 use Rattle.words.specs.Layout.{word}
 use Rattle.chunks.specs.declared.Chunk.{Chunk}
 use Rattle.chunks.specs.declared.Rise.{Rise}
 use Rattle.chunks.specs.declared.Rise.the-variants.{To, Broken}
-use Rattle.chunks.specs.Chunks.{chunkRecs, riseOf, nextLow, pickRise}
+use Rattle.chunks.specs.Chunks.{chunkRecs, riseOf, nextLow}
 use Rattle.chunks.proofs.Slots.{rise-is, slots-length, rising-append, rising-is}
 use Rattle.directory.specs.declared.Directory.{Directory}
-use Rattle.directory.specs.Directory.{pickChunk, pageOf, blockOf, startOf, chunkAt, recordsFrom, recordsOf, Within, keptOf, leanLevel, onRise, passOf, levelFormed, tidyChunk, tidyFrom, levelRules, Formed}
+use Rattle.directory.specs.Directory.{pageOf, blockOf, startOf, chunkAt, recordsFrom, recordsOf, Within, keptOf, leanLevel, onRise, passOf, levelFormed, tidyChunk, tidyFrom, levelRules, Formed}
 
 -- a page ends where the next one starts
 pub page-end : (width i n : ℕ) → i < n → i * width + width ≤ n * width
@@ -45,7 +46,7 @@ module _ (d : Directory) (ws : List ℕ) (w : Within d ws) (i : ℕ) (h : i < d 
   unfolding chunkAt
   chunk-room = go (d .top) refl
     where
-      go : (t : Bool) → d .top ≡ t → (pickChunk t (pageOf (word ws (d .list + i)) d i) (blockOf ws (d .width) (startOf ws d i)) .keys + d .width ≤ length ws) × (pickChunk t (pageOf (word ws (d .list + i)) d i) (blockOf ws (d .width) (startOf ws d i)) .pays + d .width ≤ length ws)
+      go : (t : Bool) → d .top ≡ t → ((if t then pageOf (word ws (d .list + i)) d i else blockOf ws (d .width) (startOf ws d i)) .keys + d .width ≤ length ws) × ((if t then pageOf (word ws (d .list + i)) d i else blockOf ws (d .width) (startOf ws d i)) .pays + d .width ≤ length ws)
       go true t = let p = page-end (d .width) i (d .chunks) h in (omega (arith, w .page-keys t), omega (arith, w .page-pays t))
       go false t = let p = w .blocks t i h in (omega arith, omega arith)
 
@@ -91,7 +92,7 @@ shuffle true true false z t q y = refl
 shuffle true true true false t q y = refl
 shuffle true true true true t q y = refl
 
-on-pick : (b : Bool) (x : ℕ) (f : ℕ → Bool) → onRise (pickRise b (To x) Broken) f ≡ (b && f x)
+on-pick : (b : Bool) (x : ℕ) (f : ℕ → Bool) → onRise (if b then To x else Broken) f ≡ (b && f x)
 on-pick true x f = refl
 on-pick false x f = refl
 

@@ -5,6 +5,7 @@ use mathlib.Core.Bool.{Bool, true, false, not, _&&_, _||_}
 use mathlib.Core.List.{List, [], _++_}
 use lib.Dec.{ltb, leb, eqb}
 use lib.ListN.{length}
+use Rattle.levels.specs.Basics.{if_then_else_}
 use Rattle.levels.specs.Record.{Rec, rising, cleanTombstones}
 use Rattle.levels.specs.Waste.{wasteful}
 use Rattle.words.specs.Layout.{word}
@@ -14,21 +15,13 @@ use Rattle.chunks.specs.declared.Rise.the-variants.{To, Broken}
 use Rattle.chunks.specs.Chunks.{Rising, chunkRecs, zerosAt, riseOf}
 use Rattle.directory.specs.declared.Directory.{Directory}
 
-abbrev pub pickChunk : Bool → Chunk → Chunk → Chunk
-pickChunk true a b = a
-pickChunk false a b = b
-
-abbrev pub pickℕ : Bool → ℕ → ℕ → ℕ
-pickℕ true a b = a
-pickℕ false a b = b
-
 -- page i of level 0, with mark word m
 abbrev pub pageOf : ℕ → Directory → ℕ → Chunk
 pageOf m d i = record {
   marks = m;
   keys = d .base + i * d .width;
   pays = d .pays + i * d .width;
-  count = pickℕ (ltb (d .records - i * d .width) (d .width)) (d .records - i * d .width) (d .width);
+  count = if ltb (d .records - i * d .width) (d .width) then d .records - i * d .width else d .width;
 }
 
 -- the block of `width` slots that starts at a word
@@ -40,7 +33,7 @@ abbrev pub startOf : List ℕ → Directory → ℕ → ℕ
 startOf ws d i = d .base + word ws (d .list + i) * (2 + 2 * d .width)
 
 unfoldable pub chunkAt : List ℕ → Directory → ℕ → Chunk
-chunkAt ws d i = pickChunk (d .top) (pageOf (word ws (d .list + i)) d i) (blockOf ws (d .width) (startOf ws d i))
+chunkAt ws d i = if d .top then pageOf (word ws (d .list + i)) d i else blockOf ws (d .width) (startOf ws d i)
 
 -- the records of the n chunks from chunk i on
 unfoldable pub recordsFrom : List ℕ → Directory → ℕ → ℕ → List Rec

@@ -7,6 +7,7 @@ use native.Mathlib.Numerals.{add-one}
 use native.Mathlib.Omega.{arith}
 use borrow.Author.Tests.{lt-leb}
 use lib.Dec.{leb}
+use Rattle.levels.specs.Basics.{if_then_else_}
 use Rattle.levels.specs.Record.{Rec, firstKey, lastKey}
 use Rattle.words.specs.Layout.{word, slotsAt}
 use Rattle.chunks.specs.declared.Chunk.{Chunk}
@@ -16,7 +17,7 @@ use Rattle.directory.specs.declared.Directory.{Directory}
 use Rattle.directory.specs.Directory.{Formed, recordsFrom, chunkAt}
 use Rattle.search.specs.declared.Enclosed.{Enclosed}
 use Rattle.search.specs.declared.Enclosed.the-variants.{At, Nowhere}
-use Rattle.search.specs.Search.{Sought, encloses, pickEnclosed, enclosedFrom, enclosedOf}
+use Rattle.search.specs.Search.{Sought, encloses, enclosedFrom, enclosedOf}
 use Rattle.search.proofs.Between.{Below, rising-right, below-left, below-right}
 use Rattle.search.proofs.Laws.{chunk-first, firstOf, othersOf, span-before, span-after}
 
@@ -68,13 +69,13 @@ module _ (ws : List ℕ) (d : Directory) (k : ℕ) where
   enclosed-append i (suc m) n =
       let a : suc m + n ≡ suc (m + n) = omega arith in
       let b : i + suc m ≡ suc i + m = omega arith in
-      rw (a, b, enclosed-append (suc i) m n) (go (encloses k (chunkRecs ws (chunkAt ws d i))) (At i) (enclosedFrom ws d k (suc i) m) (enclosedFrom ws d k (suc i + m) n))
+      rw (a, b, enclosed-append (suc i) m n) (go (encloses k (chunkRecs ws (chunkAt ws d i))) (enclosedFrom ws d k (suc i) m) (enclosedFrom ws d k (suc i + m) n))
     where
-      go : (t : Bool) (x y z : Enclosed) → pickEnclosed t (At i) (orEnclosed y z) ≡ orEnclosed (pickEnclosed t (At i) y) z
-      go true x y z = refl
-      go false x y z = refl
+      go : (t : Bool) (y z : Enclosed) → (if t then At i else orEnclosed y z) ≡ orEnclosed (if t then At i else y) z
+      go true y z = refl
+      go false y z = refl
 
-  enclosed-first : (i n : ℕ) → enclosedFrom ws d k i (suc n) ≡ pickEnclosed (encloses k (chunkRecs ws (chunkAt ws d i))) (At i) (enclosedFrom ws d k (i + 1) n)
+  enclosed-first : (i n : ℕ) → enclosedFrom ws d k i (suc n) ≡ (if encloses k (chunkRecs ws (chunkAt ws d i)) then At i else enclosedFrom ws d k (i + 1) n)
   unfolding enclosedFrom
   enclosed-first i n = rw (add-one i)
 
@@ -96,7 +97,7 @@ module _ (ws : List ℕ) (d : Directory) (k : ℕ) where
         (enclosed-above (suc i) n (omega arith) (rising-right (suc k) rs (recordsFrom ws d (suc i) n) b))
 
     -- the chunk that was sought encloses the key, or none does
-    sought-encloses : (r : ℕ) → Sought ws d k r → enclosedOf ws d k ≡ pickEnclosed (encloses k (chunkRecs ws (chunkAt ws d r))) (At r) Nowhere
+    sought-encloses : (r : ℕ) → Sought ws d k r → enclosedOf ws d k ≡ (if encloses k (chunkRecs ws (chunkAt ws d r)) then At r else Nowhere)
     unfolding enclosedOf
     sought-encloses r s =
         let l = s .inside in
@@ -109,7 +110,7 @@ module _ (ws : List ℕ) (d : Directory) (k : ℕ) where
         ∙ rw (b, q, enclosed-first r (d .chunks - (r + 1)), a)
 
     -- the same by the first and the last key of that chunk, as the code reads them
-    pub enclosed-read : (r : ℕ) → Sought ws d k r → (c : Chunk) → c ≡ chunkAt ws d r → (first last : ℕ) → first ≡ word ws (c .keys) → last ≡ word ws (c .keys + (c .count - 1)) → enclosedOf ws d k ≡ pickEnclosed (leb first k && leb k last) (At r) Nowhere
+    pub enclosed-read : (r : ℕ) → Sought ws d k r → (c : Chunk) → c ≡ chunkAt ws d r → (first last : ℕ) → first ≡ word ws (c .keys) → last ≡ word ws (c .keys + (c .count - 1)) → enclosedOf ws d k ≡ (if leb first k && leb k last then At r else Nowhere)
     enclosed-read r s c e first last p q =
         let n : 1 ≤ c .count = rw e (f .counts r (s .inside) .0) in
         let t : encloses k (chunkRecs ws c) ≡ (leb first k && leb k last) = rw (chunk-first-key ws c n, chunk-last-key ws c n, p, q) in

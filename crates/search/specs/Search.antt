@@ -3,6 +3,7 @@ use Prim.Native.Nat.{ℕ, zero, suc, _+_, _≤_, _<_}
 use mathlib.Core.Bool.{Bool, true, false}
 use mathlib.Core.List.{List}
 use mathlib.Core.Option.{Option, none, some}
+use Rattle.levels.specs.Basics.{if_then_else_}
 use Rattle.geometry.specs.Geometry.{within}
 use Rattle.levels.specs.Record.{Rec, firstKey, lastKey}
 use Rattle.words.specs.Layout.{word}
@@ -33,14 +34,10 @@ pub record Sought (ws : List ℕ) (d : Directory) (k r : ℕ) : Type 0 where
 abbrev pub encloses : ℕ → List Rec → Bool
 encloses k rs = within (firstKey rs) (lastKey rs) k
 
-abbrev pub pickEnclosed : Bool → Enclosed → Enclosed → Enclosed
-pickEnclosed true a b = a
-pickEnclosed false a b = b
-
 -- the first of the n chunks from chunk i on that encloses k
 unfoldable pub enclosedFrom : List ℕ → Directory → ℕ → ℕ → ℕ → Enclosed
 enclosedFrom ws d k i zero = Nowhere
-enclosedFrom ws d k i (suc n) = pickEnclosed (encloses k (chunkRecs ws (chunkAt ws d i))) (At i) (enclosedFrom ws d k (suc i) n)
+enclosedFrom ws d k i (suc n) = if encloses k (chunkRecs ws (chunkAt ws d i)) then At i else enclosedFrom ws d k (suc i) n
 
 -- the first chunk of a level that encloses k
 unfoldable pub enclosedOf : List ℕ → Directory → ℕ → Enclosed

@@ -5,13 +5,14 @@ use mathlib.Core.List.{List, _++_}
 use mathlib.Core.Option.{Option, none, some}
 use lib.Dec.{eqb}
 use lib.ListN.{length}
+use Rattle.levels.specs.Basics.{if_then_else_}
 use Rattle.levels.specs.Record.{Rec}
 use Rattle.levels.specs.Map.{overlay}
 use Rattle.words.specs.Layout.{word}
 use Rattle.chunks.specs.declared.Chunk.{Chunk}
 use Rattle.chunks.specs.Chunks.{chunkRecs}
 use Rattle.directory.specs.declared.Directory.{Directory}
-use Rattle.directory.specs.Directory.{Formed, pickChunk, recordsFrom, recordsOf}
+use Rattle.directory.specs.Directory.{Formed, recordsFrom, recordsOf}
 use Rattle.walk.specs.declared.Cursor.{Cursor}
 use Rattle.walk.specs.declared.Following.{Following}
 use Rattle.walk.specs.declared.Following.the-variants.{At, Nothing}
@@ -53,7 +54,7 @@ pub record LeastOf (a b c d r : ℕ) : Type 0 where
 
 -- the chunk of the uppermost cursor with key k
 unfoldable pub upperOf : Cursor → Cursor → Cursor → Cursor → ℕ → Chunk
-upperOf c0 c1 c2 c3 k = pickChunk (eqb (c0 .key) k) (c0 .chunk) (pickChunk (eqb (c1 .key) k) (c1 .chunk) (pickChunk (eqb (c2 .key) k) (c2 .chunk) (c3 .chunk)))
+upperOf c0 c1 c2 c3 k = if eqb (c0 .key) k then c0 .chunk else (if eqb (c1 .key) k then c1 .chunk else (if eqb (c2 .key) k then c2 .chunk else c3 .chunk))
 
 -- the answer for the first live record from a key on
 abbrev pub followingOf : Option Rec → Following
