@@ -1,0 +1,80 @@
+-- Parts of a list of words: n words from word a on. How parts of parts, of joined lists and of padded lists are found.
+use Prim.Native.Nat.{ℕ, zero, suc, _+_, _-_, _≤_, _<_}
+use mathlib.Core.Path.{_≡_, refl, sym, ap, _∙_}
+use mathlib.Core.List.{List, [], _∷_, _++_, append-assoc}
+use native.Mathlib.Nat.{suc-add, zero-add, suc-sub-suc, min-eq-left}
+use native.Mathlib.Omega.{arith}
+use lib.ListN.{length, take, drop, getD, replicate, length-append, length-take, length-drop, length-replicate, take-append-drop}
+use lib.Seq.{take-at, drop-at, drop-append-add, drop-append-le, take-append-le, getD-take, getD-drop, take-nil, drop-nil, take-take, drop-drop, take-add, drop-cons, length-take-le}
+use Rattle.words.specs.Layout.{pad}
+
+-- the n words from word a on
+unfoldable pub part : List ℕ → ℕ → ℕ → List ℕ
+part ws a n = take n (drop a ws)
+
+pub part-length : (ws : List ℕ) (a n : ℕ) → a + n ≤ length ws → length (part ws a n) ≡ n
+unfolding part
+part-length ws a n h = length-take-le n (drop a ws) (rw length-drop (omega arith))
+
+-- a word of a part is a word of the whole
+pub part-word : (ws : List ℕ) (a n j : ℕ) → j < n → getD (part ws a n) j 0 ≡ getD ws (a + j) 0
+unfolding part
+part-word ws a n j h = getD-take n (drop a ws) j 0 h ∙ getD-drop a ws j 0
+
+-- the part that stands between two others
+pub part-mid : (p x q : List ℕ) (a n : ℕ) → length p ≡ a → length x ≡ n → part (p ++ (x ++ q)) a n ≡ x
+unfolding part
+part-mid p x q a n e f = ap (take n) (drop-at p (x ++ q) a e) ∙ take-at x q n f
+
+-- a part that lies in the first of two lists; one that lies in the second
+pub part-left : (x q : List ℕ) (a n : ℕ) → a + n ≤ length x → part (x ++ q) a n ≡ part x a n
+unfolding part
+part-left x q a n h = ap (take n) (drop-append-le a x q (omega arith)) ∙ take-append-le n (drop a x) q (rw length-drop (omega arith))
+
+pub part-right : (p x : List ℕ) (a b n : ℕ) → length p ≡ a → part (p ++ x) (a + b) n ≡ part x b n
+unfolding part
+part-right p x a b n e = rw (← e, drop-append-add p x b)
+
+-- a part after the first a words
+pub part-drop : (ws : List ℕ) (a b n : ℕ) → part (drop a ws) b n ≡ part ws (a + b) n
+unfolding part
+part-drop ws a b n = ap (take n) (drop-drop b a ws)
+
+drop-take : {A : Type 0} (b m : ℕ) (l : List A) → drop b (take (b + m) l) ≡ take m (drop b l)
+drop-take zero m l = rw zero-add
+drop-take (suc b) m [] = rw suc-add (sym (take-nil m))
+drop-take (suc b) m (x ∷ l) = rw suc-add (drop-take b m l)
+
+-- a part of a part
+pub part-part : (ws : List ℕ) (a n b m : ℕ) → b + m ≤ n → part (part ws a n) b m ≡ part ws (a + b) m
+unfolding part
+part-part ws a n b m h =
+    let e : n ≡ b + (n - b) = omega arith in
+    rw e (ap (take m) (drop-take b (n - b) (drop a ws)) ∙ take-take m (n - b) (drop b (drop a ws)) (omega arith) ∙ ap (take m) (drop-drop b a ws))
+
+-- a part in two
+pub part-split : (ws : List ℕ) (a n m : ℕ) → part ws a (n + m) ≡ part ws a n ++ part ws (a + n) m
+unfolding part
+part-split ws a n m = take-add n m (drop a ws) ∙ rw drop-drop
+
+-- one word more in front
+pub part-cons : (ws : List ℕ) (a n : ℕ) → a < length ws → part ws a (suc n) ≡ getD ws a 0 ∷ part ws (suc a) n
+unfolding part
+part-cons ws a n h = rw (drop-cons ws a 0)
+
+-- the words from a on: a part and the words after it
+pub part-rest : (ws : List ℕ) (a n : ℕ) → drop a ws ≡ part ws a n ++ drop (a + n) ws
+unfolding part
+part-rest ws a n = sym (take-append-drop n (drop a ws)) ∙ rw drop-drop
+
+-- the words before a, then those from a on
+pub part-front : (ws : List ℕ) (a : ℕ) → ws ≡ part ws 0 a ++ drop a ws
+unfolding part
+part-front ws a = sym (take-append-drop a ws)
+
+-- a padded list
+pub pad-length : (n : ℕ) (xs : List ℕ) → length xs ≤ n → length (pad n xs) ≡ n
+pad-length n xs h = simp (length-append, length-replicate) (omega arith)
+
+pub pad-cons : (n x : ℕ) (xs : List ℕ) → pad (suc n) (x ∷ xs) ≡ x ∷ pad n xs
+pad-cons n x xs = rw suc-sub-suc
