@@ -5,7 +5,7 @@ use mathlib.Core.List.{List, [], _∷_, _++_, append-assoc}
 use native.Mathlib.Nat.{suc-add, zero-add, suc-sub-suc, min-eq-left}
 use native.Mathlib.Omega.{arith}
 use lib.ListN.{length, take, drop, getD, replicate, length-append, length-take, length-drop, length-replicate, take-append-drop}
-use lib.Seq.{take-at, drop-at, drop-append-add, drop-append-le, take-append-le, getD-take, getD-drop, take-nil, drop-nil, take-take, drop-drop, take-add, drop-cons, length-take-le}
+use lib.Seq.{take-at, drop-at, drop-append-add, drop-append-le, take-append-le, getD-take, getD-drop, take-nil, drop-nil, take-take, drop-drop, take-add, drop-cons, length-take-le, take-all}
 use Rattle.words.specs.Layout.{pad}
 
 -- the n words from word a on
@@ -25,6 +25,10 @@ part-word ws a n j h = getD-take n (drop a ws) j 0 h ∙ getD-drop a ws j 0
 pub part-mid : (p x q : List ℕ) (a n : ℕ) → length p ≡ a → length x ≡ n → part (p ++ (x ++ q)) a n ≡ x
 unfolding part
 part-mid p x q a n e f = ap (take n) (drop-at p (x ++ q) a e) ∙ take-at x q n f
+
+pub part-last : (p x : List ℕ) (a n : ℕ) → length p ≡ a → length x ≡ n → part (p ++ x) a n ≡ x
+unfolding part
+part-last p x a n e f = ap (take n) (drop-at p x a e) ∙ take-all n x (omega arith)
 
 -- a part that lies in the first of two lists; one that lies in the second
 pub part-left : (x q : List ℕ) (a n : ℕ) → a + n ≤ length x → part (x ++ q) a n ≡ part x a n
@@ -51,6 +55,11 @@ unfolding part
 part-part ws a n b m h =
     let e : n ≡ b + (n - b) = omega arith in
     rw e (ap (take m) (drop-take b (n - b) (drop a ws)) ∙ take-take m (n - b) (drop b (drop a ws)) (omega arith) ∙ ap (take m) (drop-drop b a ws))
+
+-- a part of the first n words
+pub part-front-part : (ws : List ℕ) (n b m : ℕ) → b + m ≤ n → part (take n ws) b m ≡ part ws b m
+unfolding part
+part-front-part ws n b m h = part-part ws 0 n b m h ∙ rw zero-add
 
 -- a part in two
 pub part-split : (ws : List ℕ) (a n m : ℕ) → part ws a (n + m) ≡ part ws a n ++ part ws (a + n) m

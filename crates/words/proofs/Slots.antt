@@ -14,7 +14,7 @@ use Rattle.levels.specs.Basics.{all}
 use Rattle.levels.specs.Record.{Rec}
 use Rattle.words.specs.Layout.{word, slotsAt, pad, bit, markWord, keysOf, paysOf}
 use Rattle.words.specs.Form.{blank}
-use Rattle.words.proofs.Parts.{part, part-cons}
+use Rattle.words.proofs.Parts.{part, part-length, part-cons}
 
 -- the first n of B slots are n slots
 pub slots-take : (ws : List ℕ) (m k v : ℕ) (n B : ℕ) → n ≤ B → take n (slotsAt ws m k v B) ≡ slotsAt ws m k v n
@@ -172,11 +172,31 @@ blanks-pass zero = refl
 blanks-pass (suc n) = blanks-pass n
 
 -- slots that are blank from n on are their first n and padding
-pub unpad : (n : ℕ) (rs : List Rec) → n ≤ length rs → all blank (drop n rs) ≡ true → padRecs (length rs) (take n rs) ≡ rs
-unpad n rs h e =
-    let a : length (take n rs) ≡ n = length-take-le n rs h in
-    rw (a, ← length-drop n rs, ← blanks-are (drop n rs) e) (take-append-drop n rs)
+pub unpad : (B n : ℕ) (rs : List Rec) → length rs ≡ B → n ≤ B → all blank (drop n rs) ≡ true → padRecs B (take n rs) ≡ rs
+unpad B n rs l h e =
+    let a : length (take n rs) ≡ n = length-take-le n rs (omega arith) in
+    rw (a, ← l, ← length-drop n rs, ← blanks-are (drop n rs) e) (take-append-drop n rs)
 
 -- after the records, padding is blank
 pub pad-blank : (n : ℕ) (rs : List Rec) → all blank (drop (length rs) (padRecs n rs)) ≡ true
 pad-blank n rs = rw (drop-append-seam rs (replicate (n - length rs) blankRec)) (blanks-pass (n - length rs))
+
+-- Words of B slots that are blank from n on, with no bit from B on, are the words of their first n records.
+module _ (ws : List ℕ) (m k v n B : ℕ) (h : n ≤ B) (hk : k + B ≤ length ws) (hv : v + B ≤ length ws) (z : all blank (drop n (slotsAt ws m k v B)) ≡ true) where
+  padded : padRecs B (take n (slotsAt ws m k v B)) ≡ slotsOf m (part ws k B) (part ws v B)
+  padded = unpad B n (slotsAt ws m k v B) (slots-length ws m k v B) h z ∙ slots-part ws m k v B hk hv
+
+  same-length : length (part ws k B) ≡ length (part ws v B)
+  same-length = part-length ws k B hk ∙ sym (part-length ws v B hv)
+
+  pub used-length : length (take n (slotsAt ws m k v B)) ≡ n
+  used-length = length-take-le n (slotsAt ws m k v B) (rw slots-length h)
+
+  pub used-mark : m < 2 ^ B → markWord (take n (slotsAt ws m k v B)) ≡ m
+  used-mark l = sym (mark-pad B (take n (slotsAt ws m k v B))) ∙ ap markWord padded ∙ mark-of m (part ws k B) (part ws v B) same-length (rw (part-length ws k B hk) l)
+
+  pub used-keys : pad B (keysOf (take n (slotsAt ws m k v B))) ≡ part ws k B
+  used-keys = sym (keys-pad B (take n (slotsAt ws m k v B))) ∙ ap keysOf padded ∙ keys-of m (part ws k B) (part ws v B) same-length
+
+  pub used-pays : pad B (paysOf (take n (slotsAt ws m k v B))) ≡ part ws v B
+  used-pays = sym (pays-pad B (take n (slotsAt ws m k v B))) ∙ ap paysOf padded ∙ pays-of m (part ws k B) (part ws v B) same-length
