@@ -1,3 +1,4 @@
 pub mod Parts
 pub mod Slots
 pub mod Blocks
+pub mod Laid
