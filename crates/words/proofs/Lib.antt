@@ -2,3 +2,4 @@ pub mod Parts
 pub mod Slots
 pub mod Blocks
 pub mod Laid
+pub mod Top

@@ -1,0 +1,134 @@
+-- Level 0 against its words: K(0) mark words, K(0)×B keys, K(0)×B payloads.
+use Prim.Native.Nat.{ℕ, zero, suc, _+_, _-_, _*_, _^_, _≤_, _<_}
+use mathlib.Core.Path.{_≡_, refl, sym, ap, _∙_}
+use mathlib.Core.Bool.{Bool, true, false}
+use mathlib.Core.List.{List, [], _∷_, _++_, map, map-append, append-assoc}
+use mathlib.Core.Logic.{dite}
+use native.Mathlib.Decide.{decLt}
+use native.Mathlib.Nat.{add-zero, add-suc, suc-mul, zero-add, sub-zero, suc-sub-suc, suc-add}
+use native.Mathlib.Omega.{arith}
+use lib.ListN.{length, take, drop, getD, replicate, length-append, length-map, length-drop, length-replicate, replicate-append-replicate, take-append-drop, drop-of-length-le}
+use lib.Seq.{take-append-seam, length-take-le, take-at, drop-at, drop-nil, take-nil, take-append-le, drop-append-le, take-all}
+use Rattle.geometry.specs.declared.Geometry.{Geometry}
+use Rattle.geometry.specs.Geometry.{capacityOf, topCapacityOf, marksStart, keysStart, paysStart}
+use Rattle.levels.specs.Record.{Rec, Block, Level, pages}
+use Rattle.levels.proofs.Every.{Every}
+use Rattle.levels.proofs.Pages.{pages-cons}
+use Rattle.words.specs.Layout.{word, slotsAt, pageSlots, topSlots, pad, markWord, keysOf, paysOf, topWords}
+use Rattle.words.proofs.Parts.{part, part-length, part-split, part-cons, pad-cons}
+use Rattle.words.proofs.Slots.{slots-part, slotsOf, slots-of, keys-of, pays-of, mark-of, keys-pad, pays-pad, mark-pad, blankRec, padRecs}
+
+map-take : {A B : Type 0} (f : A → B) (n : ℕ) (xs : List A) → take n (map f xs) ≡ map f (take n xs)
+map-take f zero xs = refl
+map-take f (suc n) [] = refl
+map-take f (suc n) (x ∷ xs) = rw (map-take f n xs)
+
+map-drop : {A B : Type 0} (f : A → B) (n : ℕ) (xs : List A) → drop n (map f xs) ≡ map f (drop n xs)
+map-drop f zero xs = refl
+map-drop f (suc n) [] = refl
+map-drop f (suc n) (x ∷ xs) = map-drop f n xs
+
+-- the mark words of n pages of B records
+unfoldable pub marksOf : ℕ → ℕ → List Rec → List ℕ
+marksOf B zero rs = []
+marksOf B (suc n) rs = markWord (take B rs) ∷ marksOf B n (drop B rs)
+
+-- the slots of pages: a mark word for each, B keys and B payloads for each
+unfoldable pub pageSlotsOf : ℕ → List ℕ → List ℕ → List ℕ → List Rec
+pageSlotsOf B [] ks vs = []
+pageSlotsOf B (m ∷ ms) ks vs = slotsOf m (take B ks) (take B vs) ++ pageSlotsOf B ms (drop B ks) (drop B vs)
+
+-- the parts of the first page and of the pages after it
+part-page : (ws : List ℕ) (a B n : ℕ) → a + suc n * B ≤ length ws → (take B (part ws a (suc n * B)) ≡ part ws a B) × (drop B (part ws a (suc n * B)) ≡ part ws (a + B) (n * B))
+part-page ws a B n h =
+    let e : suc n * B ≡ B + n * B = omega arith in
+    let l : length (part ws a B) ≡ B = part-length ws a B (omega arith) in
+    rw (e, part-split) (take-at (part ws a B) (part ws (a + B) (n * B)) B l, drop-at (part ws a B) (part ws (a + B) (n * B)) B l)
+
+-- the slots that words hold are those of the parts of the words
+pub page-slots : (g : Geometry) (ws : List ℕ) (n i : ℕ) → marksStart g + i + n ≤ length ws → keysStart g + i * g .b + n * g .b ≤ length ws → paysStart g + i * g .b + n * g .b ≤ length ws
+    → pageSlots g ws i n ≡ pageSlotsOf (g .b) (part ws (marksStart g + i) n) (part ws (keysStart g + i * g .b) (n * g .b)) (part ws (paysStart g + i * g .b) (n * g .b))
+unfolding pageSlots pageSlotsOf part
+page-slots g ws zero i hm hk hv = refl
+page-slots g ws (suc n) i hm hk hv =
+    let B = g .b in
+    let m : marksStart g + suc i ≡ suc (marksStart g + i) = omega arith in
+    let k : keysStart g + suc i * B ≡ keysStart g + i * B + B = omega arith in
+    let v : paysStart g + suc i * B ≡ paysStart g + i * B + B = omega arith in
+    let pk = part-page ws (keysStart g + i * B) B n hk in
+    let pv = part-page ws (paysStart g + i * B) B n hv in
+    ap (λ (s : List Rec). slotsAt ws (word ws (marksStart g + i)) (keysStart g + i * B) (paysStart g + i * B) B ++ s)
+    (page-slots g ws n (suc i) (omega arith) (omega arith) (omega arith))
+    ∙ rw (m, k, v, part-cons ws (marksStart g + i) n (omega arith), pk .0, pk .1, pv .0, pv .1, slots-part ws (word ws (marksStart g + i)) (keysStart g + i * B) (paysStart g + i * B) B (omega arith) (omega arith))
+
+-- Records in pages and words determine each other.
+
+pub pages-of : (B n : ℕ) (rs : List Rec) → length rs ≡ n * B → pageSlotsOf B (marksOf B n rs) (keysOf rs) (paysOf rs) ≡ rs
+unfolding pageSlotsOf marksOf
+pages-of B zero [] e = refl
+pages-of B zero (r ∷ rs) e = absurd (omega arith)
+pages-of B (suc n) rs e =
+    rw (map-take _ B rs, map-drop _ B rs, map-take _ B rs, map-drop _ B rs, slots-of (take B rs), pages-of B n (drop B rs) (rw length-drop (omega arith)))
+    (take-append-drop B rs)
+
+pub page-keys : (B : ℕ) (ms ks vs : List ℕ) → length ks ≡ length ms * B → length vs ≡ length ms * B → keysOf (pageSlotsOf B ms ks vs) ≡ ks
+unfolding pageSlotsOf
+page-keys B [] [] vs e f = refl
+page-keys B [] (k ∷ ks) vs e f = absurd (omega arith)
+page-keys B (m ∷ ms) ks vs e f =
+    let a : length (take B ks) ≡ length (take B vs) = length-take-le B ks (omega arith) ∙ sym (length-take-le B vs (omega arith)) in
+    map-append _ (slotsOf m (take B ks) (take B vs)) (pageSlotsOf B ms (drop B ks) (drop B vs))
+    ∙ rw (keys-of m (take B ks) (take B vs) a, page-keys B ms (drop B ks) (drop B vs) (rw length-drop (omega arith)) (rw length-drop (omega arith))) (take-append-drop B ks)
+
+pub page-pays : (B : ℕ) (ms ks vs : List ℕ) → length ks ≡ length ms * B → length vs ≡ length ms * B → paysOf (pageSlotsOf B ms ks vs) ≡ vs
+unfolding pageSlotsOf
+page-pays B [] ks [] e f = refl
+page-pays B [] ks (v ∷ vs) e f = absurd (omega arith)
+page-pays B (m ∷ ms) ks vs e f =
+    let a : length (take B ks) ≡ length (take B vs) = length-take-le B ks (omega arith) ∙ sym (length-take-le B vs (omega arith)) in
+    map-append _ (slotsOf m (take B ks) (take B vs)) (pageSlotsOf B ms (drop B ks) (drop B vs))
+    ∙ rw (pays-of m (take B ks) (take B vs) a, page-pays B ms (drop B ks) (drop B vs) (rw length-drop (omega arith)) (rw length-drop (omega arith))) (take-append-drop B vs)
+
+pub page-marks : (B : ℕ) (ms ks vs : List ℕ) → length ks ≡ length ms * B → length vs ≡ length ms * B → Every (λ m. m < 2 ^ B) ms → marksOf B (length ms) (pageSlotsOf B ms ks vs) ≡ ms
+unfolding pageSlotsOf marksOf
+page-marks B [] ks vs e f h = refl
+page-marks B (m ∷ ms) ks vs e f h =
+    let b : length (take B ks) ≡ B = length-take-le B ks (omega arith) in
+    let a : length (take B ks) ≡ length (take B vs) = b ∙ sym (length-take-le B vs (omega arith)) in
+    let s = slotsOf m (take B ks) (take B vs) in
+    let l : length s ≡ B = sym (length-map s _) ∙ ap length (keys-of m (take B ks) (take B vs) a) ∙ b in
+    let r = pageSlotsOf B ms (drop B ks) (drop B vs) in
+    rw (take-at s r B l, drop-at s r B l, mark-of m (take B ks) (take B vs) a (rw b (h .0)), page-marks B ms (drop B ks) (drop B vs) (rw length-drop (omega arith)) (rw length-drop (omega arith)) (h .1))
+
+pub page-slots-length : (B : ℕ) (ms ks vs : List ℕ) → length ks ≡ length ms * B → length vs ≡ length ms * B → length (pageSlotsOf B ms ks vs) ≡ length ms * B
+page-slots-length B ms ks vs e f = sym (length-map (pageSlotsOf B ms ks vs) _) ∙ ap length (page-keys B ms ks vs e f) ∙ e
+
+-- Padding: the first page and the others.
+
+take-replicate : {A : Type 0} (n m : ℕ) (a : A) → take n (replicate (n + m) a) ≡ replicate n a
+take-replicate n m a = rw (← replicate-append-replicate n m a) (take-at (replicate n a) (replicate m a) n (length-replicate n a))
+
+drop-replicate : {A : Type 0} (n m : ℕ) (a : A) → drop n (replicate (n + m) a) ≡ replicate m a
+drop-replicate n m a = rw (← replicate-append-replicate n m a) (drop-at (replicate n a) (replicate m a) n (length-replicate n a))
+
+take-pad : (B m : ℕ) (rs : List Rec) → take B (padRecs (B + m) rs) ≡ padRecs B (take B rs)
+take-pad zero m rs = refl
+take-pad (suc B) m [] = simp sub-zero (take-replicate (suc B) m blankRec)
+take-pad (suc B) m (r ∷ rs) = simp (suc-add, suc-sub-suc) (rw (take-pad B m rs))
+
+drop-pad : (B m : ℕ) (rs : List Rec) → drop B (padRecs (B + m) rs) ≡ padRecs m (drop B rs)
+drop-pad zero m rs = rw zero-add
+drop-pad (suc B) m [] = simp sub-zero (drop-replicate (suc B) m blankRec)
+drop-pad (suc B) m (r ∷ rs) = simp (suc-add, suc-sub-suc) (drop-pad B m rs)
+
+-- the mark words of the pages, and zeros up to n, are the mark words of the padded records
+pub marks-pad : (B n : ℕ) (rs : List Rec) → 1 ≤ B → length rs ≤ n * B → pad n (map (λ (b : Block). markWord (b .recs)) (pages B rs)) ≡ marksOf B n (padRecs (n * B) rs)
+unfolding marksOf markWord
+marks-pad B zero [] h l = refl
+marks-pad B zero (r ∷ rs) h l = absurd (omega arith)
+marks-pad B (suc n) [] h l =
+    let e : suc n * B ≡ B + n * B = omega arith in
+    rw (e, take-pad B (n * B) [], drop-pad B (n * B) [], mark-pad B (take B []), take-nil, drop-nil, ← marks-pad B n [] h (omega arith)) (simp sub-zero)
+marks-pad B (suc n) (r ∷ rs) h l =
+    let e : suc n * B ≡ B + n * B = omega arith in
+    rw (e, pages-cons B r rs h, pad-cons, take-pad B (n * B) (r ∷ rs), drop-pad B (n * B) (r ∷ rs), mark-pad B (take B (r ∷ rs)), marks-pad B n (drop B (r ∷ rs)) h (rw length-drop (omega arith)))
