@@ -2,7 +2,7 @@
 use Prim.Native.Nat.{ℕ, zero, suc, _+_, _-_, _≤_, _<_}
 use mathlib.Core.Path.{_≡_, refl, sym, ap, _∙_}
 use mathlib.Core.List.{List, [], _∷_, _++_, append-assoc}
-use native.Mathlib.Nat.{suc-add, zero-add, suc-sub-suc, min-eq-left}
+use native.Mathlib.Nat.{suc-add, zero-add, suc-sub-suc, add-zero, add-assoc}
 use native.Mathlib.Omega.{arith}
 use lib.ListN.{length, take, drop, getD, replicate, length-append, length-take, length-drop, length-replicate, take-append-drop}
 use lib.Seq.{take-at, drop-at, drop-append-add, drop-append-le, take-append-le, getD-take, getD-drop, take-nil, drop-nil, take-take, drop-drop, take-add, drop-cons, length-take-le, take-all}
@@ -65,6 +65,16 @@ part-front-part ws n b m h = part-part ws 0 n b m h ∙ rw zero-add
 pub part-split : (ws : List ℕ) (a n m : ℕ) → part ws a (n + m) ≡ part ws a n ++ part ws (a + n) m
 unfolding part
 part-split ws a n m = take-add n m (drop a ws) ∙ rw drop-drop
+
+pub part-split-three : (ws : List ℕ) (a x y z : ℕ) → part ws a (x + (y + z)) ≡ part ws a x ++ (part ws (a + x) y ++ part ws (a + x + y) z)
+part-split-three ws a x y z = part-split ws a x (y + z) ∙ rw (part-split ws (a + x) y z)
+
+-- a part that is three lists in a row
+pub part-three : (ws xs ys zs : List ℕ) (a x y z : ℕ) → length xs ≡ x → length ys ≡ y → length zs ≡ z → part ws a (x + (y + z)) ≡ xs ++ (ys ++ zs) → (part ws a x ≡ xs) × (part ws (a + x) y ≡ ys) × (part ws (a + x + y) z ≡ zs)
+part-three ws xs ys zs a x y z ex ey ez e =
+    (rw add-zero at (sym (part-part ws a (x + (y + z)) 0 x (omega arith))) ∙ ap (λ (l : List ℕ). part l 0 x) e ∙ part-mid [] xs (ys ++ zs) 0 x refl ex,
+     sym (part-part ws a (x + (y + z)) x y (omega arith)) ∙ ap (λ (l : List ℕ). part l x y) e ∙ part-mid xs ys zs x y ex ey,
+     rw (add-assoc a x y) (sym (part-part ws a (x + (y + z)) (x + y) z (omega arith))) ∙ ap (λ (l : List ℕ). part l (x + y) z) (e ∙ sym (append-assoc xs ys zs)) ∙ part-last (xs ++ ys) zs (x + y) z (rw length-append (omega arith)) ez)
 
 -- one word more in front
 pub part-cons : (ws : List ℕ) (a n : ℕ) → a < length ws → part ws a (suc n) ≡ getD ws a 0 ∷ part ws (suc a) n

@@ -5,18 +5,20 @@ use mathlib.Core.Bool.{Bool, true, false}
 use mathlib.Core.List.{List, [], _∷_, _++_, map, map-append, append-assoc}
 use mathlib.Core.Logic.{dite}
 use native.Mathlib.Decide.{decLt}
-use native.Mathlib.Nat.{add-zero, add-suc, suc-mul, zero-add, sub-zero, suc-sub-suc, suc-add}
+use native.Mathlib.Nat.{add-zero, add-suc, suc-mul, zero-add, zero-mul, sub-zero, suc-sub-suc, suc-add}
 use native.Mathlib.Omega.{arith}
 use lib.ListN.{length, take, drop, getD, replicate, length-append, length-map, length-drop, length-replicate, replicate-append-replicate, take-append-drop, drop-of-length-le}
 use lib.Seq.{take-append-seam, length-take-le, take-at, drop-at, drop-nil, take-nil, take-append-le, drop-append-le, take-all}
 use Rattle.geometry.specs.declared.Geometry.{Geometry}
 use Rattle.geometry.specs.Geometry.{capacityOf, topCapacityOf, marksStart, keysStart, paysStart}
+use Rattle.levels.specs.Basics.{all}
 use Rattle.levels.specs.Record.{Rec, Block, Level, pages}
 use Rattle.levels.proofs.Every.{Every}
 use Rattle.levels.proofs.Pages.{pages-cons}
 use Rattle.words.specs.Layout.{word, slotsAt, pageSlots, topSlots, pad, markWord, keysOf, paysOf, topWords}
-use Rattle.words.proofs.Parts.{part, part-length, part-split, part-cons, pad-cons}
-use Rattle.words.proofs.Slots.{slots-part, slotsOf, slots-of, keys-of, pays-of, mark-of, keys-pad, pays-pad, mark-pad, blankRec, padRecs}
+use Rattle.words.specs.Form.{blank}
+use Rattle.words.proofs.Parts.{part, part-length, part-part, part-mid, part-last, part-split, part-split-three, part-three, part-cons, pad-cons}
+use Rattle.words.proofs.Slots.{slots-part, slotsOf, slots-of, keys-of, pays-of, mark-of, keys-pad, pays-pad, mark-pad, slots-length, pad-recs-length, blankRec, padRecs, unpad}
 
 map-take : {A B : Type 0} (f : A → B) (n : ℕ) (xs : List A) → take n (map f xs) ≡ map f (take n xs)
 map-take f zero xs = refl
@@ -100,8 +102,13 @@ page-marks B (m ∷ ms) ks vs e f h =
     let r = pageSlotsOf B ms (drop B ks) (drop B vs) in
     rw (take-at s r B l, drop-at s r B l, mark-of m (take B ks) (take B vs) a (rw b (h .0)), page-marks B ms (drop B ks) (drop B vs) (rw length-drop (omega arith)) (rw length-drop (omega arith)) (h .1))
 
-pub page-slots-length : (B : ℕ) (ms ks vs : List ℕ) → length ks ≡ length ms * B → length vs ≡ length ms * B → length (pageSlotsOf B ms ks vs) ≡ length ms * B
-page-slots-length B ms ks vs e f = sym (length-map (pageSlotsOf B ms ks vs) _) ∙ ap length (page-keys B ms ks vs e f) ∙ e
+-- pages whose mark words have no bit from B on: their slots have these mark words, keys and payloads
+pub pages-written : (B n : ℕ) (ms ks vs : List ℕ) → length ms ≡ n → length ks ≡ n * B → length vs ≡ n * B → Every (λ m. m < 2 ^ B) ms
+    → marksOf B n (pageSlotsOf B ms ks vs) ++ (keysOf (pageSlotsOf B ms ks vs) ++ paysOf (pageSlotsOf B ms ks vs)) ≡ ms ++ (ks ++ vs)
+pages-written B n ms ks vs e f l h =
+    let f2 : length ks ≡ length ms * B = rw e f in
+    let l2 : length vs ≡ length ms * B = rw e l in
+    rw (← e, page-marks B ms ks vs f2 l2 h, page-keys B ms ks vs f2 l2, page-pays B ms ks vs f2 l2)
 
 -- Padding: the first page and the others.
 
@@ -132,3 +139,75 @@ marks-pad B (suc n) [] h l =
 marks-pad B (suc n) (r ∷ rs) h l =
     let e : suc n * B ≡ B + n * B = omega arith in
     rw (e, pages-cons B r rs h, pad-cons, take-pad B (n * B) (r ∷ rs), drop-pad B (n * B) (r ∷ rs), mark-pad B (take B (r ∷ rs)), marks-pad B n (drop B (r ∷ rs)) h (rw length-drop (omega arith)))
+
+marks-length : (B n : ℕ) (rs : List Rec) → length (marksOf B n rs) ≡ n
+unfolding marksOf
+marks-length B zero rs = refl
+marks-length B (suc n) rs = ap suc (marks-length B n (drop B rs))
+
+-- the words of level 0
+abbrev pub topLength : Geometry → ℕ
+topLength g = capacityOf g 0 + (topCapacityOf g + topCapacityOf g)
+
+-- the words of level 0 are those of the records and blank slots up to K(0)×B
+pub top-words-pad : (g : Geometry) (rs : List Rec) → 1 ≤ g .b → length rs ≤ topCapacityOf g
+    → topWords g rs ≡ marksOf (g .b) (capacityOf g 0) (padRecs (topCapacityOf g) rs) ++ (keysOf (padRecs (topCapacityOf g) rs) ++ paysOf (padRecs (topCapacityOf g) rs))
+unfolding topWords topCapacityOf
+top-words-pad g rs h l =
+    rw (marks-pad (g .b) (capacityOf g 0) rs h l, keys-pad (capacityOf g 0 * g .b) rs, pays-pad (capacityOf g 0 * g .b) rs)
+
+pub top-words-length : (g : Geometry) (rs : List Rec) → 1 ≤ g .b → length rs ≤ topCapacityOf g → length (topWords g rs) ≡ topLength g
+top-words-length g rs h l =
+    rw (top-words-pad g rs h l) (simp (length-append, length-map, marks-length, length-replicate) (omega arith))
+
+-- the slots of level 0 are those of its three parts
+pub top-slots-part : (g : Geometry) (ws : List ℕ) → marksStart g + topLength g ≤ length ws
+    → topSlots g ws ≡ pageSlotsOf (g .b) (part ws (marksStart g) (capacityOf g 0)) (part ws (keysStart g) (topCapacityOf g)) (part ws (paysStart g) (topCapacityOf g))
+unfolding topSlots topCapacityOf keysStart paysStart
+top-slots-part g ws h =
+    simp (zero-mul, add-zero) at (page-slots g ws (capacityOf g 0) 0 (omega arith) (omega arith) (omega arith))
+
+top-capacity : (g : Geometry) → topCapacityOf g ≡ capacityOf g 0 * g .b
+unfolding topCapacityOf
+top-capacity g = refl
+
+page-slots-count : (g : Geometry) (ws : List ℕ) (n i : ℕ) → length (pageSlots g ws i n) ≡ n * g .b
+unfolding pageSlots
+page-slots-count g ws zero i = omega arith
+page-slots-count g ws (suc n) i = rw (length-append, slots-length, page-slots-count g ws n (suc i)) (omega arith)
+
+pub top-slots-length : (g : Geometry) (ws : List ℕ) → length (topSlots g ws) ≡ topCapacityOf g
+unfolding topSlots topCapacityOf
+top-slots-length g ws = page-slots-count g ws (capacityOf g 0) 0
+
+-- Reading: level 0's words are those of the records rs.
+pub top-read : (g : Geometry) (ws : List ℕ) (rs : List Rec) → 1 ≤ g .b → length rs ≤ topCapacityOf g → marksStart g + topLength g ≤ length ws → part ws (marksStart g) (topLength g) ≡ topWords g rs
+    → topSlots g ws ≡ padRecs (topCapacityOf g) rs
+unfolding keysStart paysStart
+top-read g ws rs h l i e =
+    let T = topCapacityOf g in
+    let R = padRecs T rs in
+    let r : length R ≡ T = pad-recs-length T rs l in
+    let p = part-three ws (marksOf (g .b) (capacityOf g 0) R) (keysOf R) (paysOf R) (marksStart g) (capacityOf g 0) T T (marks-length (g .b) (capacityOf g 0) R) (length-map R _ ∙ r) (length-map R _ ∙ r) (e ∙ top-words-pad g rs h l) in
+    top-slots-part g ws i ∙ rw (p .0, p .1, p .2) (pages-of (g .b) (capacityOf g 0) R (r ∙ top-capacity g))
+
+-- Words of level 0 that keep its rules are those of the records that they hold.
+pub top-written : (g : Geometry) (ws : List ℕ) (c : ℕ) → 1 ≤ g .b → c ≤ topCapacityOf g → marksStart g + topLength g ≤ length ws → all blank (drop c (topSlots g ws)) ≡ true → Every (λ m. m < 2 ^ g .b) (part ws (marksStart g) (capacityOf g 0))
+    → topWords g (take c (topSlots g ws)) ≡ part ws (marksStart g) (topLength g)
+unfolding keysStart paysStart
+top-written g ws c h l i z m =
+    let T = topCapacityOf g in
+    let K = capacityOf g 0 in
+    let S = topSlots g ws in
+    let ms = part ws (marksStart g) K in
+    let ks = part ws (keysStart g) T in
+    let vs = part ws (paysStart g) T in
+    let lm : length ms ≡ K = part-length ws (marksStart g) K (omega arith) in
+    let lk : length ks ≡ K * g .b = part-length ws (keysStart g) T (omega arith) ∙ top-capacity g in
+    let lv : length vs ≡ K * g .b = part-length ws (paysStart g) T (omega arith) ∙ top-capacity g in
+    let s : S ≡ pageSlotsOf (g .b) ms ks vs = top-slots-part g ws i in
+    let ls : length S ≡ T = top-slots-length g ws in
+    let n : length (take c S) ≤ T = rw (length-take-le c S (rw ls l)) l in
+    top-words-pad g (take c S) h n
+    ∙ rw (unpad T c S ls l z ∙ s) (pages-written (g .b) K ms ks vs lm lk lv m)
+    ∙ sym (part-split-three ws (marksStart g) K T T)
