@@ -3,3 +3,4 @@ pub mod Slots
 pub mod Blocks
 pub mod Laid
 pub mod Top
+pub mod Lists

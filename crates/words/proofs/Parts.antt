@@ -1,12 +1,16 @@
 -- Parts of a list of words: n words from word a on. How parts of parts, of joined lists and of padded lists are found.
 use Prim.Native.Nat.{ℕ, zero, suc, _+_, _-_, _≤_, _<_}
 use mathlib.Core.Path.{_≡_, refl, sym, ap, _∙_}
+use mathlib.Core.Bool.{true, and-eq-true-iff}
 use mathlib.Core.List.{List, [], _∷_, _++_, append-assoc}
-use native.Mathlib.Nat.{suc-add, zero-add, suc-sub-suc, add-zero, add-assoc}
+use native.Mathlib.Nat.{suc-add, zero-add, suc-sub-suc, add-zero}
 use native.Mathlib.Omega.{arith}
 use lib.ListN.{length, take, drop, getD, replicate, length-append, length-take, length-drop, length-replicate, take-append-drop}
-use lib.Seq.{take-at, drop-at, drop-append-add, drop-append-le, take-append-le, getD-take, getD-drop, take-nil, drop-nil, take-take, drop-drop, take-add, drop-cons, length-take-le, take-all}
+use lib.Seq.{take-at, drop-at, drop-append-add, drop-append-le, take-append-le, getD-take, getD-drop, take-nil, drop-nil, take-take, drop-drop, take-add, drop-cons, length-take-le, take-all, drop-append-seam}
+use borrow.Author.Tests.{eqb-true}
+use Rattle.levels.specs.Basics.{all}
 use Rattle.words.specs.Layout.{pad}
+use Rattle.words.specs.Form.{isZero}
 
 -- the n words from word a on
 unfoldable pub part : List ℕ → ℕ → ℕ → List ℕ
@@ -69,12 +73,17 @@ part-split ws a n m = take-add n m (drop a ws) ∙ rw drop-drop
 pub part-split-three : (ws : List ℕ) (a x y z : ℕ) → part ws a (x + (y + z)) ≡ part ws a x ++ (part ws (a + x) y ++ part ws (a + x + y) z)
 part-split-three ws a x y z = part-split ws a x (y + z) ∙ rw (part-split ws (a + x) y z)
 
--- a part that is three lists in a row
+-- a part that is two lists in a row, or three
+pub part-two : (ws xs ys : List ℕ) (a x y : ℕ) → length xs ≡ x → length ys ≡ y → part ws a (x + y) ≡ xs ++ ys → (part ws a x ≡ xs) × (part ws (a + x) y ≡ ys)
+part-two ws xs ys a x y ex ey e =
+    (rw add-zero at (sym (part-part ws a (x + y) 0 x (omega arith))) ∙ ap (λ (l : List ℕ). part l 0 x) e ∙ part-mid [] xs ys 0 x refl ex,
+     sym (part-part ws a (x + y) x y (omega arith)) ∙ ap (λ (l : List ℕ). part l x y) e ∙ part-last xs ys x y ex ey)
+
 pub part-three : (ws xs ys zs : List ℕ) (a x y z : ℕ) → length xs ≡ x → length ys ≡ y → length zs ≡ z → part ws a (x + (y + z)) ≡ xs ++ (ys ++ zs) → (part ws a x ≡ xs) × (part ws (a + x) y ≡ ys) × (part ws (a + x + y) z ≡ zs)
 part-three ws xs ys zs a x y z ex ey ez e =
-    (rw add-zero at (sym (part-part ws a (x + (y + z)) 0 x (omega arith))) ∙ ap (λ (l : List ℕ). part l 0 x) e ∙ part-mid [] xs (ys ++ zs) 0 x refl ex,
-     sym (part-part ws a (x + (y + z)) x y (omega arith)) ∙ ap (λ (l : List ℕ). part l x y) e ∙ part-mid xs ys zs x y ex ey,
-     rw (add-assoc a x y) (sym (part-part ws a (x + (y + z)) (x + y) z (omega arith))) ∙ ap (λ (l : List ℕ). part l (x + y) z) (e ∙ sym (append-assoc xs ys zs)) ∙ part-last (xs ++ ys) zs (x + y) z (rw length-append (omega arith)) ez)
+    let k = part-two ws xs (ys ++ zs) a x (y + z) ex (rw length-append (omega arith)) e in
+    let l = part-two ws ys zs (a + x) y z ey ez (k .1) in
+    (k .0, l .0, l .1)
 
 -- one word more in front
 pub part-cons : (ws : List ℕ) (a n : ℕ) → a < length ws → part ws a (suc n) ≡ getD ws a 0 ∷ part ws (suc a) n
@@ -97,3 +106,23 @@ pad-length n xs h = simp (length-append, length-replicate) (omega arith)
 
 pub pad-cons : (n x : ℕ) (xs : List ℕ) → pad (suc n) (x ∷ xs) ≡ x ∷ pad n xs
 pad-cons n x xs = rw suc-sub-suc
+
+-- zeros after the first n words are the padding of those n
+pub unpad-zeros : (K n : ℕ) (xs : List ℕ) → length xs ≡ K → n ≤ K → all isZero (drop n xs) ≡ true → pad K (take n xs) ≡ xs
+unpad-zeros K n xs l h e =
+    let a : length (take n xs) ≡ n = length-take-le n xs (omega arith) in
+    rw (a, ← l, ← length-drop n xs, ← zeros-are (drop n xs) e) (take-append-drop n xs)
+  where
+    zeros-are : (ys : List ℕ) → all isZero ys ≡ true → ys ≡ replicate (length ys) 0
+    zeros-are [] e = refl
+    zeros-are (y ∷ ys) e =
+        let k = (and-eq-true-iff (isZero y) (all isZero ys)) .0 e in
+        rw (eqb-true y 0 (k .0), ← zeros-are ys (k .1))
+
+zeros-pass : (n : ℕ) → all isZero (replicate n 0) ≡ true
+zeros-pass zero = refl
+zeros-pass (suc n) = zeros-pass n
+
+-- after the words, padding is zero
+pub pad-zeros : (K : ℕ) (xs : List ℕ) → all isZero (drop (length xs) (pad K xs)) ≡ true
+pad-zeros K xs = rw (drop-append-seam xs (replicate (K - length xs) 0)) (zeros-pass (K - length xs))
