@@ -4,3 +4,4 @@ pub mod Blocks
 pub mod Laid
 pub mod Top
 pub mod Lists
+pub mod State
