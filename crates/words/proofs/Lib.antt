@@ -5,3 +5,4 @@ pub mod Laid
 pub mod Top
 pub mod Lists
 pub mod State
+pub mod Form
