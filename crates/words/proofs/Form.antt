@@ -13,7 +13,7 @@ use lib.Seq.{length-take-le}
 use borrow.Author.Tests.{leb-true, leb-false, ltb-true, eqb-true, not-true, le-leb, lt-ltb, eq-eqb, lt-leb}
 use Rattle.geometry.specs.declared.Geometry.{Geometry}
 use Rattle.geometry.specs.Geometry.{Valid, within, capacityOf, capacitySum, flashCapacityOf, topCapacityOf, keyLimitOf, marksStart, listStart, blockWidth, placesStart, placeStart, storeLength, sizeReason}
-use Rattle.geometry.proofs.Laws.{place-inside, store-length-low}
+use Rattle.geometry.proofs.Laws.{place-inside, list-inside, store-length-low}
 use Rattle.levels.specs.Basics.{if_then_else_, all, member}
 use Rattle.levels.specs.Record.{Rec, Block, Level, records, rising, hasTombstone, cleanTombstones}
 use Rattle.levels.specs.Map.{liveCount}
@@ -25,10 +25,10 @@ use Rattle.levels.proofs.Sound.{BlockFits, Fits, Tight, Sound}
 use Rattle.words.specs.Layout.{word, geometryAt, liveAt, cursorAt, topCountAt, countAt, topSlots, topRecs, listAt, listedAt, recordCount, markWordAt, blockSlots, blockAt, levelAt, each, storeAt, pad, markWord, placeOf, headerWords, topWords, listWords, blockWords, areaOf, storeWords}
 use Rattle.words.specs.Form.{allListed, listedPlaces, blank, isZero, liveExact, liveFits, cursorInside, topFits, countsFit, placesInside, placesOnce, blocksFilled, keysRise, bottomUnmarked, topUnusedZero, listsUnusedZero, blocksUnusedZero, tombstonesClean, pairsKept, levelsKept, clauses, formed, reasonOf}
 use Rattle.words.proofs.Parts.{part, part-length, part-word, part-cons, part-split}
-use Rattle.words.proofs.Slots.{mark-small, padRecs, pad-blank}
+use Rattle.words.proofs.Slots.{slots-length, mark-small, padRecs, pad-blank}
 use Rattle.words.proofs.Blocks.{placeWords, place-words, place-of, place-below, block-read, count-read, mark-read, slots-read, block-written}
 use Rattle.words.proofs.Top.{topLength, top-slots-length, top-written}
-use Rattle.words.proofs.Lists.{Listed, listed-places, listed-zeros, listed-self, listed-words, listed-counts, ListInside, level-length}
+use Rattle.words.proofs.Lists.{Listed, listed-places, listed-zeros, listed-self, listed-words, listed-counts-pad, ListInside, level-length}
 use Rattle.words.proofs.Laid.{Laid, places-are, in-use-are}
 use Rattle.words.proofs.State.{Holds, top-end, lists-length, store-length, live-held, cursor-held, top-count-held, counts-held, listed-held, top-held, levels-held, store-held, words-hold, held-words, geometry-back, words-length}
 
@@ -100,3 +100,177 @@ all-part t ws a zero j h = refl
 all-part t ws a (suc n) j h =
     let e : suc (a + j) ≡ a + suc j = omega arith in
     rw (part-cons ws (a + j) n (omega arith), e, all-part t ws a n (suc j) (omega arith))
+
+-- The blocks of all levels that the words hold are the blocks at the listed places.
+blocks-listed : (g : Geometry) (ws : List ℕ) (n i : ℕ) → allBlocks (each (levelAt g ws) i n) ≡ map (blockAt g ws) (listedPlaces g ws i n)
+unfolding listedPlaces levelAt
+blocks-listed g ws zero i = refl
+blocks-listed g ws (suc n) i = rw (blocks-listed g ws n (suc i)) (sym (map-append (blockAt g ws) (listedAt g ws i) (listedPlaces g ws (suc i) n)))
+
+places-of-blocks : (g : Geometry) (ws ps : List ℕ) → placesOf (map (blockAt g ws) ps) ≡ ps
+unfolding blockAt
+places-of-blocks g ws [] = refl
+places-of-blocks g ws (p ∷ ps) = rw (places-of-blocks g ws ps)
+
+-- "each block count is at most K(i)", "(zero above h)", for every level number
+count-fits : (g : Geometry) (ws : List ℕ) → countsFit g ws ≡ true → (i : ℕ) → 1 ≤ i → i ≤ 3 → countAt ws i ≤ (if leb i (g .h) then capacityOf g i else 0)
+unfolding countsFit
+count-fits g ws e i l h = let k = simp and-eq-true-iff at e in go i l h (leb-true _ _ (k .0)) (leb-true _ _ (k .1 .0)) (leb-true _ _ (k .1 .1 .0))
+  where
+    Fit : ℕ → Type 0
+    Fit i = countAt ws i ≤ (if leb i (g .h) then capacityOf g i else 0)
+    go : (i : ℕ) → 1 ≤ i → i ≤ 3 → Fit 1 → Fit 2 → Fit 3 → Fit i
+    go zero l h a b c = absurd (omega arith)
+    go (suc zero) l h a b c = a
+    go (suc (suc zero)) l h a b c = b
+    go (suc (suc (suc zero))) l h a b c = c
+    go (suc (suc (suc (suc i)))) l h a b c = absurd (omega arith)
+
+-- level h is the last of the levels
+bottom-level : (g : Geometry) (ws : List ℕ) → 1 ≤ g .h → getD (each (levelAt g ws) 1 (g .h)) (g .h - 1) [] ≡ levelAt g ws (g .h)
+bottom-level g ws h =
+    let e : 1 + (g .h - 1) ≡ g .h = omega arith in
+    each-at (levelAt g ws) (g .h) 1 (g .h - 1) [] (omega arith) ∙ ap (levelAt g ws) e
+
+-- What the form check says of words that pass it.
+module _ (g : Geometry) (ws : List ℕ) (v : Valid g) (long : length ws ≡ storeLength g) (c : Clauses g ws) where
+  s : Store
+  s = storeAt g ws
+
+  count-low : (i : ℕ) → 1 ≤ i → i ≤ g .h → countAt ws i ≤ capacityOf g i
+  count-low i l h = let k = count-fits g ws (c .counts-fit) i l (omega (arith, v .ranged .h-high)) in rw (le-leb i (g .h) h) at k
+
+  count-none : (i : ℕ) → g .h < i → i ≤ 3 → countAt ws i ≡ 0
+  count-none i l h = let k = rw (lt-leb i (g .h) l) at (count-fits g ws (c .counts-fit) i (omega arith) h) in omega arith
+
+  lists-inside : listStart g 1 + capacitySum g 1 (g .h) ≤ length ws
+  unfolding flashCapacityOf
+  lists-inside = rw (long, store-length g) (omega (arith, lists-length g))
+
+  top-inside : marksStart g + topLength g ≤ length ws
+  top-inside = omega (arith, lists-inside, top-end g)
+
+  pub formed-listed : Listed g ws 1 (each (levelAt g ws) 1 (g .h))
+  unfolding listsUnusedZero
+  formed-listed =
+      listed-self g ws (g .h) 1 (omega arith) lists-inside (λ j h. count-low (1 + j) (omega arith) (omega arith)) (c .lists-unused)
+
+  places-good : Every (λ p. (p < g .p) × (1 ≤ recordCount g ws p) × (recordCount g ws p ≤ g .b)) (allListed g ws)
+  unfolding placesInside blocksFilled
+  places-good =
+      every-both (λ p. ltb p (g .p) ≡ true) (λ p. within 1 (g .b) (recordCount g ws p) ≡ true) (λ p. (p < g .p) × (1 ≤ recordCount g ws p) × (recordCount g ws p ≤ g .b)) (allListed g ws)
+      (λ p a b. let k = simp and-eq-true-iff at b in (ltb-true _ _ a, leb-true _ _ (k .0), leb-true _ _ (k .1)))
+      (every-of-all (λ p. ltb p (g .p)) (allListed g ws) (c .places-inside))
+      (every-of-all (λ p. within 1 (g .b) (recordCount g ws p)) (allListed g ws) (c .blocks-filled))
+
+  recs-length : (p : ℕ) → recordCount g ws p ≤ g .b → length (blockAt g ws p .recs) ≡ recordCount g ws p
+  unfolding blockAt blockSlots
+  recs-length p h = length-take-le (recordCount g ws p) (blockSlots g ws p) (rw slots-length h)
+
+  block-fits : (p : ℕ) → (p < g .p) × (1 ≤ recordCount g ws p) × (recordCount g ws p ≤ g .b) → BlockFits g (blockAt g ws p)
+  unfolding blockAt
+  block-fits p k =
+      record { at = p; placed-at = refl; inside = k .0; filled = rw (recs-length p (k .2)) (k .1); fits = rw (recs-length p (k .2)) (k .2) }
+
+  top-count-low : topCountAt ws ≤ topCapacityOf g
+  unfolding topFits
+  top-count-low = leb-true _ _ (c .top-fits)
+
+  top-length : length (topRecs g ws) ≡ topCountAt ws
+  unfolding topRecs
+  top-length = length-take-le (topCountAt ws) (topSlots g ws) (rw (top-slots-length g ws) top-count-low)
+
+  level-fits : (i : ℕ) → i < g .h → length (levelAt g ws (suc i)) ≤ capacityOf g (suc i)
+  level-fits i h =
+      let k = count-low (suc i) (omega arith) h in
+      rw (level-length g ws (suc i) (rw (long, store-length g) (omega (arith, list-inside g {i = suc i} (omega arith) h))) k) k
+
+  pub formed-fits : Fits g (storeAt g ws)
+  unfolding storeAt
+  formed-fits =
+      record {
+        level-count = each-length (levelAt g ws) (g .h) 1;
+        top-fits = rw top-length top-count-low;
+        level-fits = λ i h. rw (each-at (levelAt g ws) (g .h) 1 i [] h, one-add) (level-fits i h);
+        blocks-fit = rw (blocks-listed g ws (g .h) 1) (every-map (blockAt g ws) (BlockFits g) (allListed g ws) (every-turn _ (λ p. BlockFits g (blockAt g ws p)) (allListed g ws) block-fits places-good));
+      }
+
+  block-stands : (p : ℕ) → (p < g .p) × (1 ≤ recordCount g ws p) × (recordCount g ws p ≤ g .b) → (all blank (drop (recordCount g ws p) (blockSlots g ws p)) && ltb (markWordAt g ws p) (2 ^ g .b)) ≡ true
+      → placeWords g (areaOf g ws) (placeOf (blockAt g ws p)) ≡ blockWords g (blockAt g ws p .recs)
+  unfolding blockAt
+  block-stands p k e =
+      let z = (and-eq-true-iff (all blank (drop (recordCount g ws p) (blockSlots g ws p))) (ltb (markWordAt g ws p) (2 ^ g .b))) .0 e in
+      place-words g ws p ∙ block-written g ws p (rw long (place-inside g (k .0))) (k .2) (z .0) (ltb-true _ _ (z .1))
+
+  pub formed-laid : Laid g (areaOf g ws) (storeAt g ws)
+  unfolding storeAt blocksUnusedZero
+  formed-laid =
+      record {
+        full = rw (length-drop, long, store-length g) (omega arith);
+        standing = rw (blocks-listed g ws (g .h) 1) (every-map (blockAt g ws) (λ b. placeWords g (areaOf g ws) (placeOf b) ≡ blockWords g (b .recs)) (allListed g ws) (every-both _ _ (λ p. placeWords g (areaOf g ws) (placeOf (blockAt g ws p)) ≡ blockWords g (blockAt g ws p .recs)) (allListed g ws) block-stands places-good (every-of-all (λ p. all blank (drop (recordCount g ws p) (blockSlots g ws p)) && ltb (markWordAt g ws p) (2 ^ g .b)) (allListed g ws) (c .blocks-unused))));
+      }
+
+  pub formed-tight : Every (Tight g) (each (levelAt g ws) 1 (g .h))
+  unfolding pairsKept levelsKept
+  formed-tight =
+      every-both (λ l. pairRule (g .b) l ≡ true) (λ l. not (needsCompact (g .b) l) ≡ true) (Tight g) (each (levelAt g ws) 1 (g .h))
+      (λ l a b. record { pairs = a; compact = not-true _ b })
+      (every-of-all (pairRule (g .b)) (each (levelAt g ws) 1 (g .h)) (sym (all-each (pairRule (g .b)) (levelAt g ws) (g .h) 1) ∙ c .pairs-kept))
+      (every-of-all (λ l. not (needsCompact (g .b) l)) (each (levelAt g ws) 1 (g .h)) (sym (all-each (λ (l : Level). not (needsCompact (g .b) l)) (levelAt g ws) (g .h) 1) ∙ c .levels-kept))
+
+  pub formed-sound : Sound g (storeAt g ws)
+  unfolding storeAt liveExact liveFits cursorInside placesOnce keysRise bottomUnmarked tombstonesClean
+  formed-sound =
+      record {
+        live-exact = sym (eqb-true _ _ (c .live-exact));
+        live-fits = leb-true _ _ (c .live-fits);
+        cursor-inside = ltb-true _ _ (c .cursor-inside);
+        places-once = rw (in-use-are, blocks-listed g ws (g .h) 1, places-of-blocks) (c .places-once);
+        keys-rise = c .keys-rise;
+        bottom-unmarked = rw (bottom-level g ws (v .ranged .h-low)) (not-true _ (c .bottom-unmarked));
+        tombstones-clean = c .tombstones-clean;
+        tight = formed-tight;
+      }
+
+  counts-written : part ws 9 3 ≡ pad 3 (map (λ (l : Level). length l) (each (levelAt g ws) 1 (g .h)))
+  counts-written =
+      let n = each-length (levelAt g ws) (g .h) 1 in
+      listed-counts-pad g ws (each (levelAt g ws) 1 (g .h)) (omega (arith, v .ranged .h-high)) (omega (arith, store-length-low g v)) formed-listed (λ i a b. count-none i (omega arith) b)
+
+  header-written : geometryAt ws ≡ g → part ws 0 12 ≡ headerWords g (storeAt g ws)
+  unfolding storeAt headerWords
+  header-written e =
+      let l : 12 ≤ length ws = omega (arith, store-length-low g v) in
+      part-cons ws 0 11 (omega arith)
+      ∙ rw (part-cons ws 1 10 (omega arith), part-cons ws 2 9 (omega arith), part-cons ws 3 8 (omega arith), part-cons ws 4 7 (omega arith), part-cons ws 5 6 (omega arith), part-cons ws 6 5 (omega arith), part-cons ws 7 4 (omega arith), part-cons ws 8 3 (omega arith), top-length, counts-written)
+      (λ i. e i .b ∷ e i .w ∷ e i .d ∷ e i .g ∷ e i .h ∷ e i .p ∷ word ws 6 ∷ word ws 7 ∷ word ws 8 ∷ pad 3 (map (λ (l : Level). length l) (each (levelAt g ws) 1 (g .h))))
+
+  -- the two halves of the clause about level 0's unused parts
+  top-unused : (all blank (drop (topCountAt ws) (topSlots g ws)) ≡ true) × (all (λ (i : ℕ). ltb (word ws (marksStart g + i)) (2 ^ g .b)) (each (λ (i : ℕ). i) 0 (capacityOf g 0)) ≡ true)
+  unfolding topUnusedZero
+  top-unused = (and-eq-true-iff _ _) .0 (c .top-unused)
+
+  marks-low : Every (λ m. m < 2 ^ g .b) (part ws (marksStart g) (capacityOf g 0))
+  marks-low =
+      let e = all-part (λ (m : ℕ). ltb m (2 ^ g .b)) ws (marksStart g) (capacityOf g 0) 0 (omega (arith, top-inside)) in
+      every-turn (λ m. ltb m (2 ^ g .b) ≡ true) (λ m. m < 2 ^ g .b) (part ws (marksStart g) (capacityOf g 0)) (λ m b. ltb-true _ _ b)
+      (every-of-all (λ (m : ℕ). ltb m (2 ^ g .b)) (part ws (marksStart g) (capacityOf g 0)) (rw add-zero at (sym e ∙ top-unused .1)))
+
+  lists-written : part ws (listStart g 1) (flashCapacityOf g) ≡ listWords g 1 (each (levelAt g ws) 1 (g .h))
+  unfolding flashCapacityOf
+  lists-written = ap (λ (n : ℕ). part ws (listStart g 1) (capacitySum g 1 n)) (sym (each-length (levelAt g ws) (g .h) 1)) ∙ listed-words g ws (each (levelAt g ws) 1 (g .h)) 1 (omega arith) formed-listed
+
+  pub formed-holds : geometryAt ws ≡ g → Holds g ws (storeAt g ws)
+  unfolding storeAt topRecs
+  formed-holds e =
+      record {
+        long = long;
+        header = header-written e;
+        top = sym (top-written g ws (topCountAt ws) (omega (arith, v .ranged .b-low)) top-count-low top-inside (top-unused .0) marks-low);
+        lists = lists-written;
+        laid = formed-laid;
+      }
+
+-- Words that pass are what the store that they hold says.
+pub write-back : (g : Geometry) (ws : List ℕ) → Valid g → length ws ≡ storeLength g → geometryAt ws ≡ g → formed g ws ≡ true → storeWords g (storeAt g ws) (areaOf g ws) ≡ ws
+write-back g ws v l e f = held-words g ws (storeAt g ws) (formed-holds g ws v l (formed-clauses g ws f) e)

@@ -16,7 +16,7 @@ use Rattle.levels.specs.Record.{Rec, Block, Level}
 use Rattle.levels.proofs.Every.{Every, every-split, allBlocks}
 use Rattle.words.specs.Layout.{word, countAt, listAt, listedAt, blockAt, levelAt, each, pad, placeOf, listWords}
 use Rattle.words.specs.Form.{isZero, listedPlaces}
-use Rattle.words.proofs.Parts.{part, part-length, part-two, part-split, part-cons, pad-length, pad-cons, pad-zeros, unpad-zeros}
+use Rattle.words.proofs.Parts.{part, part-length, part-two, part-split, part-cons, part-zeros, pad-length, pad-cons, pad-zeros, unpad-zeros}
 
 -- the levels from i on have room in their lists
 abbrev pub Room : Geometry → ℕ → List Level → Type 0
@@ -76,6 +76,15 @@ listed-counts g ws [] i h k = refl
 listed-counts g ws (l ∷ ls) i h k =
     let a : suc (8 + i) ≡ 8 + suc i = omega arith in
     rw (part-cons ws (8 + i) (length ls) (omega arith), k .0, a, listed-counts g ws ls (suc i) (omega arith) (k .2))
+
+-- with the zeros of the levels that a store has not
+pub listed-counts-pad : (g : Geometry) (ws : List ℕ) (ls : List Level) → length ls ≤ 3 → 12 ≤ length ws → Listed g ws 1 ls → ((i : ℕ) → length ls < i → i ≤ 3 → countAt ws i ≡ 0) → part ws 9 3 ≡ pad 3 (map (λ (l : Level). length l) ls)
+listed-counts-pad g ws ls h l k z =
+    let n = length ls in
+    let e : 3 ≡ n + (3 - n) = omega arith in
+    ap (part ws 9) e ∙ part-split ws 9 n (3 - n)
+    ∙ rw
+    (listed-counts g ws ls 1 (omega arith) k, length-map, part-zeros ws (3 - n) (9 + n) (omega arith) (λ j b. let a : 9 + n + j ≡ 8 + (1 + n + j) = omega arith in rw a (z (1 + n + j) (omega arith) (omega arith))))
 
 -- What the words list then.
 

@@ -90,6 +90,14 @@ pub part-cons : (ws : List ℕ) (a n : ℕ) → a < length ws → part ws a (suc
 unfolding part
 part-cons ws a n h = rw (drop-cons ws a 0)
 
+-- a part of zeros
+pub part-zeros : (ws : List ℕ) (n a : ℕ) → a + n ≤ length ws → ((j : ℕ) → j < n → getD ws (a + j) 0 ≡ 0) → part ws a n ≡ replicate n 0
+unfolding part
+part-zeros ws zero a h f = refl
+part-zeros ws (suc n) a h f =
+    let z : getD ws a 0 ≡ 0 = rw add-zero at (f 0 (omega arith)) in
+    rw (part-cons ws a n (omega arith), z, part-zeros ws n (suc a) (omega arith) (λ j l. let e : a + suc j ≡ suc a + j = omega arith in rw e at (f (suc j) (omega arith))))
+
 -- the words from a on: a part and the words after it
 pub part-rest : (ws : List ℕ) (a n : ℕ) → drop a ws ≡ part ws a n ++ drop (a + n) ws
 unfolding part
