@@ -8,11 +8,11 @@ use native.Mathlib.Nat.{zero-add, add-zero, add-suc, suc-add, pow-le-pow-right}
 use native.Mathlib.Numerals.{one-add}
 use native.Mathlib.Omega.{arith}
 use lib.Dec.{leb, ltb, eqb, lit<}
-use lib.ListN.{length, take, drop, getD, replicate, length-append, length-map, length-drop, List·getD-map, List·getD-eq-default}
+use lib.ListN.{length, take, drop, getD, replicate, length-append, length-map, length-take, length-drop, List·getD-map, List·getD-eq-default}
 use lib.Seq.{length-take-le}
 use borrow.Author.Tests.{leb-true, leb-false, ltb-true, eqb-true, not-true, le-leb, lt-ltb, eq-eqb, lt-leb}
 use Rattle.geometry.specs.declared.Geometry.{Geometry}
-use Rattle.geometry.specs.Geometry.{Valid, within, capacityOf, capacitySum, flashCapacityOf, topCapacityOf, keyLimitOf, marksStart, listStart, blockWidth, placesStart, placeStart, storeLength, sizeReason}
+use Rattle.geometry.specs.Geometry.{Valid, within, capacityOf, capacitySum, flashCapacityOf, topCapacityOf, keyLimitOf, marksStart, listStart, blockWidth, placesStart, placeStart, storeLength}
 use Rattle.geometry.proofs.Laws.{place-inside, list-inside, store-length-low}
 use Rattle.levels.specs.Basics.{if_then_else_, all, member}
 use Rattle.levels.specs.Record.{Rec, Block, Level, records, rising, hasTombstone, cleanTombstones}
@@ -23,14 +23,14 @@ use Rattle.levels.specs.Store.{Store, rows}
 use Rattle.levels.proofs.Every.{Every, every-turn, every-both, every-map, every-of-all, all-of-every, allBlocks}
 use Rattle.levels.proofs.Sound.{BlockFits, Fits, Tight, Sound}
 use Rattle.words.specs.Layout.{word, geometryAt, liveAt, cursorAt, topCountAt, countAt, topSlots, topRecs, listAt, listedAt, recordCount, markWordAt, blockSlots, blockAt, levelAt, each, storeAt, pad, markWord, placeOf, headerWords, topWords, listWords, blockWords, areaOf, storeWords}
-use Rattle.words.specs.Form.{allListed, listedPlaces, blank, isZero, liveExact, liveFits, cursorInside, topFits, countsFit, placesInside, placesOnce, blocksFilled, keysRise, bottomUnmarked, topUnusedZero, listsUnusedZero, blocksUnusedZero, tombstonesClean, pairsKept, levelsKept, clauses, formed, reasonOf}
-use Rattle.words.proofs.Parts.{part, part-length, part-word, part-cons, part-split}
+use Rattle.words.specs.Form.{allListed, listedPlaces, blank, isZero, liveExact, liveFits, cursorInside, topFits, countsFit, placesInside, placesOnce, blocksFilled, keysRise, bottomUnmarked, topUnusedZero, listsUnusedZero, blocksUnusedZero, tombstonesClean, pairsKept, levelsKept, clauses, formed}
+use Rattle.words.proofs.Parts.{part, part-word, pad-word, part-cons, part-split}
 use Rattle.words.proofs.Slots.{slots-length, mark-small, padRecs, pad-blank}
 use Rattle.words.proofs.Blocks.{placeWords, place-words, place-of, place-below, block-read, count-read, mark-read, slots-read, block-written}
-use Rattle.words.proofs.Top.{topLength, top-slots-length, top-written}
+use Rattle.words.proofs.Top.{marksOf, topLength, top-slots-length, top-marks, top-written}
 use Rattle.words.proofs.Lists.{Listed, listed-places, listed-zeros, listed-self, listed-words, listed-counts-pad, ListInside, level-length}
 use Rattle.words.proofs.Laid.{Laid, places-are, in-use-are}
-use Rattle.words.proofs.State.{Holds, top-end, lists-length, store-length, live-held, cursor-held, top-count-held, counts-held, listed-held, top-held, levels-held, store-held, words-hold, held-words, geometry-back, words-length}
+use Rattle.words.proofs.State.{Holds, store-length, lists-inside, top-inside, live-held, cursor-held, top-count-held, counts-held, listed-held, top-inside, top-held, levels-held, store-held, words-hold, held-words}
 
 -- the clauses of the form check, each by its name
 pub record Clauses (g : Geometry) (ws : List ℕ) : Type 0 where
@@ -134,26 +134,16 @@ bottom-level g ws h =
 
 -- What the form check says of words that pass it.
 module _ (g : Geometry) (ws : List ℕ) (v : Valid g) (long : length ws ≡ storeLength g) (c : Clauses g ws) where
-  s : Store
-  s = storeAt g ws
-
   count-low : (i : ℕ) → 1 ≤ i → i ≤ g .h → countAt ws i ≤ capacityOf g i
   count-low i l h = let k = count-fits g ws (c .counts-fit) i l (omega (arith, v .ranged .h-high)) in rw (le-leb i (g .h) h) at k
 
   count-none : (i : ℕ) → g .h < i → i ≤ 3 → countAt ws i ≡ 0
   count-none i l h = let k = rw (lt-leb i (g .h) l) at (count-fits g ws (c .counts-fit) i (omega arith) h) in omega arith
 
-  lists-inside : listStart g 1 + capacitySum g 1 (g .h) ≤ length ws
-  unfolding flashCapacityOf
-  lists-inside = rw (long, store-length g) (omega (arith, lists-length g))
-
-  top-inside : marksStart g + topLength g ≤ length ws
-  top-inside = omega (arith, lists-inside, top-end g)
-
-  pub formed-listed : Listed g ws 1 (each (levelAt g ws) 1 (g .h))
-  unfolding listsUnusedZero
-  formed-listed =
-      listed-self g ws (g .h) 1 (omega arith) lists-inside (λ j h. count-low (1 + j) (omega arith) (omega arith)) (c .lists-unused)
+  pub clauses-listed : Listed g ws 1 (each (levelAt g ws) 1 (g .h))
+  unfolding listsUnusedZero flashCapacityOf
+  clauses-listed =
+      listed-self g ws (g .h) 1 (omega arith) (lists-inside g ws long) (λ j h. count-low (1 + j) (omega arith) (omega arith)) (c .lists-unused)
 
   places-good : Every (λ p. (p < g .p) × (1 ≤ recordCount g ws p) × (recordCount g ws p ≤ g .b)) (allListed g ws)
   unfolding placesInside blocksFilled
@@ -185,9 +175,9 @@ module _ (g : Geometry) (ws : List ℕ) (v : Valid g) (long : length ws ≡ stor
       let k = count-low (suc i) (omega arith) h in
       rw (level-length g ws (suc i) (rw (long, store-length g) (omega (arith, list-inside g {i = suc i} (omega arith) h))) k) k
 
-  pub formed-fits : Fits g (storeAt g ws)
+  pub clauses-fits : Fits g (storeAt g ws)
   unfolding storeAt
-  formed-fits =
+  clauses-fits =
       record {
         level-count = each-length (levelAt g ws) (g .h) 1;
         top-fits = rw top-length top-count-low;
@@ -202,25 +192,25 @@ module _ (g : Geometry) (ws : List ℕ) (v : Valid g) (long : length ws ≡ stor
       let z = (and-eq-true-iff (all blank (drop (recordCount g ws p) (blockSlots g ws p))) (ltb (markWordAt g ws p) (2 ^ g .b))) .0 e in
       place-words g ws p ∙ block-written g ws p (rw long (place-inside g (k .0))) (k .2) (z .0) (ltb-true _ _ (z .1))
 
-  pub formed-laid : Laid g (areaOf g ws) (storeAt g ws)
+  pub clauses-laid : Laid g (areaOf g ws) (storeAt g ws)
   unfolding storeAt blocksUnusedZero
-  formed-laid =
+  clauses-laid =
       record {
         full = rw (length-drop, long, store-length g) (omega arith);
         standing = rw (blocks-listed g ws (g .h) 1) (every-map (blockAt g ws) (λ b. placeWords g (areaOf g ws) (placeOf b) ≡ blockWords g (b .recs)) (allListed g ws) (every-both _ _ (λ p. placeWords g (areaOf g ws) (placeOf (blockAt g ws p)) ≡ blockWords g (blockAt g ws p .recs)) (allListed g ws) block-stands places-good (every-of-all (λ p. all blank (drop (recordCount g ws p) (blockSlots g ws p)) && ltb (markWordAt g ws p) (2 ^ g .b)) (allListed g ws) (c .blocks-unused))));
       }
 
-  pub formed-tight : Every (Tight g) (each (levelAt g ws) 1 (g .h))
+  pub clauses-tight : Every (Tight g) (each (levelAt g ws) 1 (g .h))
   unfolding pairsKept levelsKept
-  formed-tight =
+  clauses-tight =
       every-both (λ l. pairRule (g .b) l ≡ true) (λ l. not (needsCompact (g .b) l) ≡ true) (Tight g) (each (levelAt g ws) 1 (g .h))
       (λ l a b. record { pairs = a; compact = not-true _ b })
       (every-of-all (pairRule (g .b)) (each (levelAt g ws) 1 (g .h)) (sym (all-each (pairRule (g .b)) (levelAt g ws) (g .h) 1) ∙ c .pairs-kept))
       (every-of-all (λ l. not (needsCompact (g .b) l)) (each (levelAt g ws) 1 (g .h)) (sym (all-each (λ (l : Level). not (needsCompact (g .b) l)) (levelAt g ws) (g .h) 1) ∙ c .levels-kept))
 
-  pub formed-sound : Sound g (storeAt g ws)
+  pub clauses-sound : Sound g (storeAt g ws)
   unfolding storeAt liveExact liveFits cursorInside placesOnce keysRise bottomUnmarked tombstonesClean
-  formed-sound =
+  clauses-sound =
       record {
         live-exact = sym (eqb-true _ _ (c .live-exact));
         live-fits = leb-true _ _ (c .live-fits);
@@ -229,13 +219,13 @@ module _ (g : Geometry) (ws : List ℕ) (v : Valid g) (long : length ws ≡ stor
         keys-rise = c .keys-rise;
         bottom-unmarked = rw (bottom-level g ws (v .ranged .h-low)) (not-true _ (c .bottom-unmarked));
         tombstones-clean = c .tombstones-clean;
-        tight = formed-tight;
+        tight = clauses-tight;
       }
 
   counts-written : part ws 9 3 ≡ pad 3 (map (λ (l : Level). length l) (each (levelAt g ws) 1 (g .h)))
   counts-written =
       let n = each-length (levelAt g ws) (g .h) 1 in
-      listed-counts-pad g ws (each (levelAt g ws) 1 (g .h)) (omega (arith, v .ranged .h-high)) (omega (arith, store-length-low g v)) formed-listed (λ i a b. count-none i (omega arith) b)
+      listed-counts-pad g ws (each (levelAt g ws) 1 (g .h)) (omega (arith, v .ranged .h-high)) (omega (arith, store-length-low g v)) clauses-listed (λ i a b. count-none i (omega arith) b)
 
   header-written : geometryAt ws ≡ g → part ws 0 12 ≡ headerWords g (storeAt g ws)
   unfolding storeAt headerWords
@@ -252,25 +242,114 @@ module _ (g : Geometry) (ws : List ℕ) (v : Valid g) (long : length ws ≡ stor
 
   marks-low : Every (λ m. m < 2 ^ g .b) (part ws (marksStart g) (capacityOf g 0))
   marks-low =
-      let e = all-part (λ (m : ℕ). ltb m (2 ^ g .b)) ws (marksStart g) (capacityOf g 0) 0 (omega (arith, top-inside)) in
+      let e = all-part (λ (m : ℕ). ltb m (2 ^ g .b)) ws (marksStart g) (capacityOf g 0) 0 (omega (arith, top-inside g ws long)) in
       every-turn (λ m. ltb m (2 ^ g .b) ≡ true) (λ m. m < 2 ^ g .b) (part ws (marksStart g) (capacityOf g 0)) (λ m b. ltb-true _ _ b)
       (every-of-all (λ (m : ℕ). ltb m (2 ^ g .b)) (part ws (marksStart g) (capacityOf g 0)) (rw add-zero at (sym e ∙ top-unused .1)))
 
   lists-written : part ws (listStart g 1) (flashCapacityOf g) ≡ listWords g 1 (each (levelAt g ws) 1 (g .h))
   unfolding flashCapacityOf
-  lists-written = ap (λ (n : ℕ). part ws (listStart g 1) (capacitySum g 1 n)) (sym (each-length (levelAt g ws) (g .h) 1)) ∙ listed-words g ws (each (levelAt g ws) 1 (g .h)) 1 (omega arith) formed-listed
+  lists-written = ap (λ (n : ℕ). part ws (listStart g 1) (capacitySum g 1 n)) (sym (each-length (levelAt g ws) (g .h) 1)) ∙ listed-words g ws (each (levelAt g ws) 1 (g .h)) 1 (omega arith) clauses-listed
 
-  pub formed-holds : geometryAt ws ≡ g → Holds g ws (storeAt g ws)
+  pub clauses-hold : geometryAt ws ≡ g → Holds g ws (storeAt g ws)
   unfolding storeAt topRecs
-  formed-holds e =
+  clauses-hold e =
       record {
         long = long;
         header = header-written e;
-        top = sym (top-written g ws (topCountAt ws) (omega (arith, v .ranged .b-low)) top-count-low top-inside (top-unused .0) marks-low);
+        top = sym (top-written g ws (topCountAt ws) (omega (arith, v .ranged .b-low)) top-count-low (top-inside g ws long) (top-unused .0) marks-low);
         lists = lists-written;
-        laid = formed-laid;
+        laid = clauses-laid;
       }
+
+-- Words of the right length that pass hold a store that fits, whose blocks stand in their places and that is sound.
+pub formed-sound : (g : Geometry) (ws : List ℕ) → Valid g → length ws ≡ storeLength g → formed g ws ≡ true → Fits g (storeAt g ws) × Laid g (areaOf g ws) (storeAt g ws) × Sound g (storeAt g ws)
+formed-sound g ws v l f =
+    let c = formed-clauses g ws f in
+    (clauses-fits g ws v l c, clauses-laid g ws v l c, clauses-sound g ws v l c)
 
 -- Words that pass are what the store that they hold says.
 pub write-back : (g : Geometry) (ws : List ℕ) → Valid g → length ws ≡ storeLength g → geometryAt ws ≡ g → formed g ws ≡ true → storeWords g (storeAt g ws) (areaOf g ws) ≡ ws
-write-back g ws v l e f = held-words g ws (storeAt g ws) (formed-holds g ws v l (formed-clauses g ws f) e)
+write-back g ws v l e f = held-words g ws (storeAt g ws) (clauses-hold g ws v l (formed-clauses g ws f) e)
+
+-- the mark word of at most B records has no bit from B on
+mark-low : (B : ℕ) (rs : List Rec) → length rs ≤ B → markWord rs < 2 ^ B
+mark-low B rs h = omega (arith, mark-small rs, pow-le-pow-right {n = 2} (lit< tt) {i = length rs} {j = B} h)
+
+-- A store's mark words have no bit from B on.
+marks-small : (B n : ℕ) (rs : List Rec) → all (λ (m : ℕ). ltb m (2 ^ B)) (marksOf B n rs) ≡ true
+unfolding marksOf
+marks-small B zero rs = refl
+marks-small B (suc n) rs = rw (lt-ltb _ _ (mark-low B (take B rs) (rw length-take (omega arith))), marks-small B n (drop B rs))
+
+-- Words that hold a sound store pass, clause by clause.
+module _ (g : Geometry) (ws : List ℕ) (s : Store) (v : Valid g) (f : Fits g s) (o : Sound g s) (k : Holds g ws s) where
+  listed-are : allListed g ws ≡ map placeOf (allBlocks (s .levels))
+  listed-are = ap (listedPlaces g ws 1) (sym (f .level-count)) ∙ listed-places g ws (s .levels) 1 (listed-held g ws s v f k)
+
+  -- a test of every listed place is a test of the place of every block
+  all-listed : (t : ℕ → Bool) → Every (λ b. t (placeOf b) ≡ true) (allBlocks (s .levels)) → all t (allListed g ws) ≡ true
+  all-listed t h = rw listed-are (all-of-every t (map placeOf (allBlocks (s .levels))) (every-map placeOf (λ p. t p ≡ true) (allBlocks (s .levels)) h))
+
+  count-held : (i : ℕ) → i < 3 → countAt ws (suc i) ≡ length (getD (s .levels) i [])
+  count-held i h =
+      let e : 8 + suc i ≡ 9 + i = omega arith in
+      ap (word ws) e ∙ sym (part-word ws 9 3 i h) ∙ ap (λ (xs : List ℕ). getD xs i 0) (counts-held g ws s v f k)
+      ∙ pad-word 3 (map (λ (l : Level). length l) (s .levels)) i ∙ List·getD-map (λ (l : Level). length l) (s .levels) i []
+
+  level-low : (i : ℕ) → i < 3 → leb (countAt ws (suc i)) (if leb (suc i) (g .h) then capacityOf g (suc i) else 0) ≡ true
+  level-low i h = rw (count-held i h) (go (leb (suc i) (g .h)) refl)
+    where
+      go : (t : Bool) → leb (suc i) (g .h) ≡ t → leb (length (getD (s .levels) i [])) (if t then capacityOf g (suc i) else 0) ≡ true
+      go true e = le-leb _ _ (f .level-fits i (leb-true _ _ e))
+      go false e = rw (List·getD-eq-default (s .levels) [] {n = i} (omega (arith, leb-false (suc i) (g .h) e, f .level-count)))
+
+  bottom-held : levelAt g ws (g .h) ≡ getD (s .levels) (g .h - 1) []
+  bottom-held = sym (bottom-level g ws (v .ranged .h-low)) ∙ ap (λ (ls : List Level). getD ls (g .h - 1) []) (levels-held g ws s v f k)
+
+  -- what the words of a block's place say
+  block-says : (b : Block) → BlockFits g b → placeWords g (areaOf g ws) (placeOf b) ≡ blockWords g (b .recs)
+      → (within 1 (g .b) (recordCount g ws (placeOf b)) ≡ true) × ((all blank (drop (recordCount g ws (placeOf b)) (blockSlots g ws (placeOf b))) && ltb (markWordAt g ws (placeOf b)) (2 ^ g .b)) ≡ true)
+  block-says b h e =
+      let p = placeOf b in
+      let e2 = sym (place-words g ws p) ∙ e in
+      let n = count-read g ws p (b .recs) (h .fits) e2 in
+      let m = mark-read g ws p (b .recs) (h .fits) e2 in
+      let r = slots-read g ws p (b .recs) (h .fits) e2 (rw (k .long) (place-inside g (place-below b h))) in
+      (rw (n, le-leb _ _ (h .filled), le-leb _ _ (h .fits)), rw (n, m, r, pad-blank (g .b) (b .recs), lt-ltb _ _ (mark-low (g .b) (b .recs) (h .fits))))
+
+  blocks-say : Every (λ b. (within 1 (g .b) (recordCount g ws (placeOf b)) ≡ true) × ((all blank (drop (recordCount g ws (placeOf b)) (blockSlots g ws (placeOf b))) && ltb (markWordAt g ws (placeOf b)) (2 ^ g .b)) ≡ true)) (allBlocks (s .levels))
+  blocks-say = every-both (BlockFits g) (λ b. placeWords g (areaOf g ws) (placeOf b) ≡ blockWords g (b .recs)) _ (allBlocks (s .levels)) block-says (f .blocks-fit) (k .laid .standing)
+
+  marks-held : all (λ (i : ℕ). ltb (word ws (marksStart g + i)) (2 ^ g .b)) (each (λ (i : ℕ). i) 0 (capacityOf g 0)) ≡ true
+  marks-held =
+      all-part (λ (m : ℕ). ltb m (2 ^ g .b)) ws (marksStart g) (capacityOf g 0) 0 (omega (arith, top-inside g ws (k .long)))
+      ∙ rw (add-zero, top-marks g ws (s .top) (omega (arith, v .ranged .b-low)) (f .top-fits) (k .top))
+      (marks-small (g .b) (capacityOf g 0) (padRecs (topCapacityOf g) (s .top)))
+
+  pub holds-clauses : Clauses g ws
+  unfolding liveExact liveFits cursorInside topFits countsFit placesInside placesOnce blocksFilled keysRise bottomUnmarked topUnusedZero listsUnusedZero blocksUnusedZero tombstonesClean pairsKept levelsKept
+  holds-clauses =
+      let st = store-held g ws s v f k in
+      record {
+        live-exact = rw st (eq-eqb _ _ (live-held g ws s v f k ∙ sym (o .live-exact)));
+        live-fits = rw (live-held g ws s v f k) (le-leb _ _ (o .live-fits));
+        cursor-inside = rw (cursor-held g ws s v f k) (lt-ltb _ _ (o .cursor-inside));
+        top-fits = rw (top-count-held g ws s v f k) (le-leb _ _ (f .top-fits));
+        counts-fit = rw (level-low 0 (omega arith), level-low 1 (omega arith), level-low 2 (omega arith));
+        places-inside = all-listed (λ p. ltb p (g .p)) (every-turn (BlockFits g) (λ b. ltb (placeOf b) (g .p) ≡ true) (allBlocks (s .levels)) (λ b h. lt-ltb _ _ (place-below b h)) (f .blocks-fit));
+        places-once = rw (listed-are, ← places-are g (allBlocks (s .levels)) (f .blocks-fit), ← in-use-are (s .levels)) (o .places-once);
+        blocks-filled = all-listed (λ p. within 1 (g .b) (recordCount g ws p)) (every-turn _ (λ b. within 1 (g .b) (recordCount g ws (placeOf b)) ≡ true) (allBlocks (s .levels)) (λ b h. h .0) blocks-say);
+        keys-rise = rw st (o .keys-rise);
+        bottom-unmarked = rw (bottom-held, o .bottom-unmarked);
+        top-unused = rw (top-count-held g ws s v f k, top-held g ws s v f k, pad-blank (topCapacityOf g) (s .top)) marks-held;
+        lists-unused = rw (f .level-count) at (listed-zeros g ws (s .levels) 1 (listed-held g ws s v f k));
+        blocks-unused = all-listed (λ p. all blank (drop (recordCount g ws p) (blockSlots g ws p)) && ltb (markWordAt g ws p) (2 ^ g .b)) (every-turn _ (λ b. (all blank (drop (recordCount g ws (placeOf b)) (blockSlots g ws (placeOf b))) && ltb (markWordAt g ws (placeOf b)) (2 ^ g .b)) ≡ true) (allBlocks (s .levels)) (λ b h. h .1) blocks-say);
+        tombstones-clean = rw st (o .tombstones-clean);
+        pairs-kept = all-each (pairRule (g .b)) (levelAt g ws) (g .h) 1 ∙ rw (levels-held g ws s v f k) (all-of-every (pairRule (g .b)) (s .levels) (every-turn (Tight g) (λ l. pairRule (g .b) l ≡ true) (s .levels) (λ l t. t .pairs) (o .tight)));
+        levels-kept = all-each (λ (l : Level). not (needsCompact (g .b) l)) (levelAt g ws) (g .h) 1 ∙ rw (levels-held g ws s v f k) (all-of-every (λ (l : Level). not (needsCompact (g .b) l)) (s .levels) (every-turn (Tight g) (λ l. not (needsCompact (g .b) l) ≡ true) (s .levels) (λ l t. rw (t .compact)) (o .tight)));
+      }
+
+-- The words of a sound store pass the form check.
+pub formed-back : (g : Geometry) (s : Store) (area : List ℕ) → Valid g → Fits g s → Laid g area s → Sound g s → formed g (storeWords g s area) ≡ true
+formed-back g s area v f d o =
+    clauses-formed g (storeWords g s area) (holds-clauses g (storeWords g s area) s v f o (words-hold g s area v f (d .full) d))

@@ -6,3 +6,4 @@ pub mod Top
 pub mod Lists
 pub mod State
 pub mod Form
+pub mod Reason

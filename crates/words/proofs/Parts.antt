@@ -115,6 +115,19 @@ pad-length n xs h = simp (length-append, length-replicate) (omega arith)
 pub pad-cons : (n x : ℕ) (xs : List ℕ) → pad (suc n) (x ∷ xs) ≡ x ∷ pad n xs
 pad-cons n x xs = rw suc-sub-suc
 
+-- padding does not show in a word that is read
+pub pad-word : (n : ℕ) (xs : List ℕ) (i : ℕ) → getD (pad n xs) i 0 ≡ getD xs i 0
+pad-word n xs i = go xs i (n - length xs)
+  where
+    zero-word : (i m : ℕ) → getD {A = ℕ} (replicate m 0) i 0 ≡ 0
+    zero-word i zero = refl
+    zero-word zero (suc m) = refl
+    zero-word (suc i) (suc m) = zero-word i m
+    go : (xs : List ℕ) (i m : ℕ) → getD (xs ++ replicate m 0) i 0 ≡ getD xs i 0
+    go [] i m = zero-word i m
+    go (x ∷ xs) zero m = refl
+    go (x ∷ xs) (suc i) m = go xs i m
+
 -- zeros after the first n words are the padding of those n
 pub unpad-zeros : (K n : ℕ) (xs : List ℕ) → length xs ≡ K → n ≤ K → all isZero (drop n xs) ≡ true → pad K (take n xs) ≡ xs
 unpad-zeros K n xs l h e =

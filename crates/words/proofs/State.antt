@@ -46,6 +46,13 @@ pub store-length : (g : Geometry) → storeLength g ≡ placesStart g + g .p * b
 unfolding storeLength placeStart
 store-length g = refl
 
+-- level 0 and the lists lie in a store of the layout's length
+pub lists-inside : (g : Geometry) (ws : List ℕ) → length ws ≡ storeLength g → listStart g 1 + flashCapacityOf g ≤ length ws
+lists-inside g ws l = rw (l, store-length g) (omega (arith, lists-length g))
+
+pub top-inside : (g : Geometry) (ws : List ℕ) → length ws ≡ storeLength g → marksStart g + topLength g ≤ length ws
+top-inside g ws l = omega (arith, lists-inside g ws l, top-end g)
+
 marks-start : (g : Geometry) → marksStart g ≡ 12
 unfolding marksStart
 marks-start g = refl
@@ -135,9 +142,6 @@ module _ (g : Geometry) (ws : List ℕ) (s : Store) (v : Valid g) (f : Fits g s)
       part-two ws (g .b ∷ g .w ∷ g .d ∷ g .g ∷ g .h ∷ g .p ∷ s .live ∷ s .cursor ∷ length (s .top) ∷ []) (pad 3 (map (λ (l : Level). length l) (s .levels))) 0 9 3 refl
       (pad-length 3 (map (λ (l : Level). length l) (s .levels)) (rw length-map (omega (arith, f .level-count, v .ranged .h-high)))) (k .header) .1
 
-  long-enough : (n : ℕ) → n ≤ placesStart g → n ≤ length ws
-  long-enough n h = rw (k .long, store-length g) (omega arith)
-
   pub listed-held : Listed g ws 1 (s .levels)
   unfolding flashCapacityOf
   listed-held =
@@ -146,7 +150,7 @@ module _ (g : Geometry) (ws : List ℕ) (s : Store) (v : Valid g) (f : Fits g s)
 
   pub top-held : topSlots g ws ≡ padRecs (topCapacityOf g) (s .top)
   top-held =
-      top-read g ws (s .top) (omega (arith, v .ranged .b-low)) (f .top-fits) (long-enough _ (omega (arith, top-end g, lists-length g))) (k .top)
+      top-read g ws (s .top) (omega (arith, v .ranged .b-low)) (f .top-fits) (k .top) (top-inside g ws (k .long))
 
   block-held : (b : Block) → BlockFits g b → placeWords g (areaOf g ws) (placeOf b) ≡ blockWords g (b .recs) → blockAt g ws (placeOf b) ≡ b
   block-held b h e =

@@ -181,15 +181,23 @@ unfolding topSlots topCapacityOf
 top-slots-length g ws = page-slots-count g ws (capacityOf g 0) 0
 
 -- Reading: level 0's words are those of the records rs.
-pub top-read : (g : Geometry) (ws : List ℕ) (rs : List Rec) → 1 ≤ g .b → length rs ≤ topCapacityOf g → marksStart g + topLength g ≤ length ws → part ws (marksStart g) (topLength g) ≡ topWords g rs
-    → topSlots g ws ≡ padRecs (topCapacityOf g) rs
-unfolding keysStart paysStart
-top-read g ws rs h l i e =
-    let T = topCapacityOf g in
-    let R = padRecs T rs in
-    let r : length R ≡ T = pad-recs-length T rs l in
-    let p = part-three ws (marksOf (g .b) (capacityOf g 0) R) (keysOf R) (paysOf R) (marksStart g) (capacityOf g 0) T T (marks-length (g .b) (capacityOf g 0) R) (length-map R _ ∙ r) (length-map R _ ∙ r) (e ∙ top-words-pad g rs h l) in
-    top-slots-part g ws i ∙ rw (p .0, p .1, p .2) (pages-of (g .b) (capacityOf g 0) R (r ∙ top-capacity g))
+module _ (g : Geometry) (ws : List ℕ) (rs : List Rec) (h : 1 ≤ g .b) (l : length rs ≤ topCapacityOf g) (e : part ws (marksStart g) (topLength g) ≡ topWords g rs) where
+  -- the mark words, the keys and the payloads
+  top-parts : (part ws (marksStart g) (capacityOf g 0) ≡ marksOf (g .b) (capacityOf g 0) (padRecs (topCapacityOf g) rs)) × (part ws (keysStart g) (topCapacityOf g) ≡ keysOf (padRecs (topCapacityOf g) rs)) × (part ws (paysStart g) (topCapacityOf g) ≡ paysOf (padRecs (topCapacityOf g) rs))
+  unfolding keysStart paysStart
+  top-parts =
+      let T = topCapacityOf g in
+      let R = padRecs T rs in
+      let r : length R ≡ T = pad-recs-length T rs l in
+      part-three ws (marksOf (g .b) (capacityOf g 0) R) (keysOf R) (paysOf R) (marksStart g) (capacityOf g 0) T T (marks-length (g .b) (capacityOf g 0) R) (length-map R _ ∙ r) (length-map R _ ∙ r) (e ∙ top-words-pad g rs h l)
+
+  pub top-marks : part ws (marksStart g) (capacityOf g 0) ≡ marksOf (g .b) (capacityOf g 0) (padRecs (topCapacityOf g) rs)
+  top-marks = top-parts .0
+
+  pub top-read : marksStart g + topLength g ≤ length ws → topSlots g ws ≡ padRecs (topCapacityOf g) rs
+  top-read i =
+      top-slots-part g ws i
+      ∙ rw (top-parts .0, top-parts .1, top-parts .2) (pages-of (g .b) (capacityOf g 0) (padRecs (topCapacityOf g) rs) (pad-recs-length (topCapacityOf g) rs l ∙ top-capacity g))
 
 -- Words of level 0 that keep its rules are those of the records that they hold.
 pub top-written : (g : Geometry) (ws : List ℕ) (c : ℕ) → 1 ≤ g .b → c ≤ topCapacityOf g → marksStart g + topLength g ≤ length ws → all blank (drop c (topSlots g ws)) ≡ true → Every (λ m. m < 2 ^ g .b) (part ws (marksStart g) (capacityOf g 0))
