@@ -1,15 +1,9 @@
 -- A property of every element of a list, and the blocks of all levels as one list.
-use Prim.Native.Nat.{ℕ, suc}
-use mathlib.Core.Path.{_≡_, refl, sym, ap, _∙_}
-use mathlib.Core.Bool.{Bool, true, false, _&&_, and-eq-true-iff}
+use mathlib.Core.Path.{_≡_, refl}
+use mathlib.Core.Bool.{Bool, true, and-eq-true-iff}
 use mathlib.Core.List.{List, [], _∷_, _++_, map, List·Memᴰ, List·Memᴰ·head, List·Memᴰ·tail, List·Memᴰ·not-nil}
-use mathlib.Core.Logic.{_≢_}
-use borrow.Author.Tests.{eq-eqb}
-use mathlib.Core.Option.{none, some}
-use lib.Dec.{eqb}
-use Rattle.levels.specs.Basics.{all, member}
-use Rattle.levels.specs.Record.{Block, Level}
-use Rattle.levels.specs.Place.{placesOf, inUse}
+use Rattle.levels.specs.Basics.{all}
+use Rattle.levels.specs.Record.{Level}
 
 -- P holds of every element
 abbrev pub Every : {A : Type 0} → (A → Type 0) → List A → Type 0

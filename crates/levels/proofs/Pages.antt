@@ -1,6 +1,6 @@
 -- Records cut into blocks: B from the start, then the rest cut the same way.
 use Prim.Native.Nat.{ℕ, suc, _+_, _-_, _≤_, _<_}
-use mathlib.Core.Path.{_≡_, refl, ap, _∙_}
+use mathlib.Core.Path.{_≡_, refl, _∙_}
 use mathlib.Core.Bool.{Bool, true, false}
 use mathlib.Core.List.{List, [], _∷_, _++_, append-assoc, append-nil}
 use mathlib.Core.Logic.{dite}
@@ -10,8 +10,8 @@ use native.Mathlib.Omega.{arith}
 use lib.Dec.{leb}
 use lib.ListN.{length, take, drop, length-append, drop-of-length-le}
 use lib.Seq.{take-all}
-use borrow.Author.Tests.{leb-true, leb-false, le-leb, lt-leb}
-use Rattle.levels.specs.Record.{Rec, Level, new, pack, pages}
+use borrow.Author.Tests.{leb-true, leb-false, lt-leb}
+use Rattle.levels.specs.Record.{Rec, new, pack, pages}
 
 -- a buffer that the records fill is a block, and what is left is cut from its start
 pub pack-full : (B : ℕ) (buffer rs : List Rec) → length buffer < B → B ≤ length buffer + length rs → pack B buffer rs ≡ new (buffer ++ take (B - length buffer) rs) ∷ pack B [] (drop (B - length buffer) rs)

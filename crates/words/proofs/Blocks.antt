@@ -1,25 +1,24 @@
 -- Blocks against the words of their places: reading, and writing one block or many.
-use Prim.Native.Nat.{ℕ, zero, suc, _+_, _-_, _*_, _^_, _≤_, _<_}
+use Prim.Native.Nat.{ℕ, suc, _+_, _-_, _*_, _^_, _≤_, _<_}
 use mathlib.Core.Path.{_≡_, refl, sym, ap, _∙_}
-use mathlib.Core.Bool.{Bool, true, false}
+use mathlib.Core.Bool.{true}
 use mathlib.Core.List.{List, [], _∷_, _++_, append-assoc}
 use mathlib.Core.Logic.{_≢_, dite}
-use mathlib.Core.Option.{none, some}
+use mathlib.Core.Option.{some}
 use native.Mathlib.Decide.{decLt}
 use native.Mathlib.Nat.{add-zero, add-mul, mul-le-mul-right}
 use native.Mathlib.Omega.{arith}
-use lib.ListN.{length, take, drop, getD, length-append, length-map, length-drop, drop-of-length-le}
+use lib.ListN.{length, take, drop, getD, length-append, length-map, length-drop}
 use lib.Seq.{take-append-seam, length-take-le}
 use Rattle.geometry.specs.declared.Geometry.{Geometry}
-use Rattle.geometry.specs.Geometry.{placesStart, placeStart, blockWidth, storeLength}
-use Rattle.geometry.proofs.Laws.{place-inside}
+use Rattle.geometry.specs.Geometry.{placesStart, placeStart, blockWidth}
 use Rattle.levels.specs.Basics.{all}
 use Rattle.levels.specs.Record.{Rec, Block, size}
 use Rattle.levels.proofs.Every.{Every}
 use Rattle.levels.proofs.Sound.{BlockFits}
 use Rattle.words.specs.Layout.{word, recordCount, markWordAt, blockSlots, blockAt, pad, markWord, keysOf, paysOf, placeOf, blockWords, areaOf, writeBlock, writeBlocks}
 use Rattle.words.specs.Form.{blank}
-use Rattle.words.proofs.Parts.{part, part-length, part-word, part-mid, part-last, part-left, part-right, part-drop, part-part, part-split, part-cons, part-front-part, pad-length}
+use Rattle.words.proofs.Parts.{part, part-word, part-mid, part-last, part-left, part-right, part-drop, part-part, part-split, part-cons, part-front-part, pad-length}
 use Rattle.words.proofs.Slots.{slots-part, slots-pad, padRecs, used-length, used-mark, used-keys, used-pays}
 
 -- the words of place q, in the words of all places
@@ -79,7 +78,6 @@ module _ (g : Geometry) (ws : List ℕ) (q : ℕ) (rs : List Rec) (h : length rs
     unfolding blockAt
     block-read = rw (count-read, slots-read, take-append-seam)
 
-
 -- Words that keep the rules of a listed block are those of the records that they hold.
 pub block-written : (g : Geometry) (ws : List ℕ) (q : ℕ) → placeStart g q + blockWidth g ≤ length ws → recordCount g ws q ≤ g .b → all blank (drop (recordCount g ws q) (blockSlots g ws q)) ≡ true → markWordAt g ws q < 2 ^ g .b
     → part ws (placeStart g q) (blockWidth g) ≡ blockWords g (blockAt g ws q .recs)
@@ -127,13 +125,16 @@ module _ (g : Geometry) (area : List ℕ) (b : Block) (full : length area ≡ g 
     where
       w : ℕ
       w = blockWidth g
+
       words : List ℕ
       words = (front ++ blockWords g (b .recs)) ++ drop (suc (placeOf b) * blockWidth g) area
+
       below : q < placeOf b → part words (q * w) w ≡ part area (q * w) w
       below l =
           let m : q * w + w ≤ placeOf b * w = omega (arith, mul-le-mul-right {m = suc q} {n = placeOf b} w l) in
           rw append-assoc (part-left front (blockWords g (b .recs) ++ drop (suc (placeOf b) * w) area) (q * w) w (rw front-length m))
           ∙ part-front-part area (placeOf b * w) (q * w) w m
+
       above : (q < placeOf b → ⊥) → part words (q * w) w ≡ part area (q * w) w
       above l =
           let e : q ≡ suc (placeOf b) + (q - suc (placeOf b)) = omega arith in

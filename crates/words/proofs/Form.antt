@@ -1,34 +1,32 @@
 -- The form check: the words of a sound store pass it, and words that pass it are those of a sound store.
-use Prim.Native.Nat.{ℕ, zero, suc, _+_, _-_, _*_, _^_, _≤_, _<_}
+use Prim.Native.Nat.{ℕ, zero, suc, _+_, _-_, _^_, _≤_, _<_}
 use mathlib.Core.Path.{_≡_, refl, sym, ap, _∙_}
 use mathlib.Core.Bool.{Bool, true, false, not, _&&_, and-eq-true-iff}
-use mathlib.Core.List.{List, [], _∷_, _++_, map, map-append, append-assoc}
-use mathlib.Core.Option.{none, some}
-use native.Mathlib.Nat.{zero-add, add-zero, add-suc, suc-add, pow-le-pow-right}
+use mathlib.Core.List.{List, [], _∷_, map, map-append}
+use native.Mathlib.Nat.{add-zero, add-suc, suc-add, pow-le-pow-right}
 use native.Mathlib.Numerals.{one-add}
 use native.Mathlib.Omega.{arith}
-use lib.Dec.{leb, ltb, eqb, lit<}
-use lib.ListN.{length, take, drop, getD, replicate, length-append, length-map, length-take, length-drop, List·getD-map, List·getD-eq-default}
+use lib.Dec.{leb, ltb, lit<}
+use lib.ListN.{length, take, drop, getD, length-take, length-drop, List·getD-map, List·getD-eq-default}
 use lib.Seq.{length-take-le}
 use borrow.Author.Tests.{leb-true, leb-false, ltb-true, eqb-true, not-true, le-leb, lt-ltb, eq-eqb, lt-leb}
 use Rattle.geometry.specs.declared.Geometry.{Geometry}
-use Rattle.geometry.specs.Geometry.{Valid, within, capacityOf, capacitySum, flashCapacityOf, topCapacityOf, keyLimitOf, marksStart, listStart, blockWidth, placesStart, placeStart, storeLength}
+use Rattle.geometry.specs.Geometry.{Valid, within, capacityOf, capacitySum, flashCapacityOf, topCapacityOf, marksStart, listStart, storeLength}
 use Rattle.geometry.proofs.Laws.{place-inside, list-inside, store-length-low}
-use Rattle.levels.specs.Basics.{if_then_else_, all, member}
-use Rattle.levels.specs.Record.{Rec, Block, Level, records, rising, hasTombstone, cleanTombstones}
-use Rattle.levels.specs.Map.{liveCount}
+use Rattle.levels.specs.Basics.{if_then_else_, all}
+use Rattle.levels.specs.Record.{Rec, Block, Level}
 use Rattle.levels.specs.Waste.{pairRule, needsCompact}
-use Rattle.levels.specs.Place.{placesOf, inUse, distinct}
-use Rattle.levels.specs.Store.{Store, rows}
+use Rattle.levels.specs.Place.{placesOf}
+use Rattle.levels.specs.Store.{Store}
 use Rattle.levels.proofs.Every.{Every, every-turn, every-both, every-map, every-of-all, all-of-every, allBlocks}
 use Rattle.levels.proofs.Sound.{BlockFits, Fits, Tight, Sound}
-use Rattle.words.specs.Layout.{word, geometryAt, liveAt, cursorAt, topCountAt, countAt, topSlots, topRecs, listAt, listedAt, recordCount, markWordAt, blockSlots, blockAt, levelAt, each, storeAt, pad, markWord, placeOf, headerWords, topWords, listWords, blockWords, areaOf, storeWords}
-use Rattle.words.specs.Form.{allListed, listedPlaces, blank, isZero, liveExact, liveFits, cursorInside, topFits, countsFit, placesInside, placesOnce, blocksFilled, keysRise, bottomUnmarked, topUnusedZero, listsUnusedZero, blocksUnusedZero, tombstonesClean, pairsKept, levelsKept, clauses, formed}
-use Rattle.words.proofs.Parts.{part, part-word, pad-word, part-cons, part-split}
+use Rattle.words.specs.Layout.{word, geometryAt, topCountAt, countAt, topSlots, topRecs, listedAt, recordCount, markWordAt, blockSlots, blockAt, levelAt, each, storeAt, pad, markWord, placeOf, headerWords, listWords, blockWords, areaOf, storeWords}
+use Rattle.words.specs.Form.{allListed, listedPlaces, blank, liveExact, liveFits, cursorInside, topFits, countsFit, placesInside, placesOnce, blocksFilled, keysRise, bottomUnmarked, topUnusedZero, listsUnusedZero, blocksUnusedZero, tombstonesClean, pairsKept, levelsKept, clauses, formed}
+use Rattle.words.proofs.Parts.{part, part-word, pad-word, part-cons}
 use Rattle.words.proofs.Slots.{slots-length, mark-small, padRecs, pad-blank}
-use Rattle.words.proofs.Blocks.{placeWords, place-words, place-of, place-below, block-read, count-read, mark-read, slots-read, block-written}
-use Rattle.words.proofs.Top.{marksOf, topLength, top-slots-length, top-marks, top-written}
-use Rattle.words.proofs.Lists.{Listed, listed-places, listed-zeros, listed-self, listed-words, listed-counts-pad, ListInside, level-length}
+use Rattle.words.proofs.Blocks.{placeWords, place-words, place-below, count-read, mark-read, slots-read, block-written}
+use Rattle.words.proofs.Top.{marksOf, top-slots-length, top-marks, top-written}
+use Rattle.words.proofs.Lists.{Listed, listed-places, listed-zeros, listed-self, listed-words, listed-counts-pad, level-length}
 use Rattle.words.proofs.Laid.{Laid, places-are, in-use-are}
 use Rattle.words.proofs.State.{Holds, store-length, lists-inside, top-inside, live-held, cursor-held, top-count-held, counts-held, listed-held, top-inside, top-held, levels-held, store-held, words-hold, held-words}
 
@@ -119,6 +117,7 @@ count-fits g ws e i l h = let k = simp and-eq-true-iff at e in go i l h (leb-tru
   where
     Fit : ℕ → Type 0
     Fit i = countAt ws i ≤ (if leb i (g .h) then capacityOf g i else 0)
+
     go : (i : ℕ) → 1 ≤ i → i ≤ 3 → Fit 1 → Fit 2 → Fit 3 → Fit i
     go zero l h a b c = absurd (omega arith)
     go (suc zero) l h a b c = a

@@ -1,20 +1,19 @@
 -- The place lists of the levels against their words: "For each level 1 to h, K(i) place numbers in key order."
-use Prim.Native.Nat.{ℕ, zero, suc, _+_, _-_, _*_, _^_, _≤_, _<_}
+use Prim.Native.Nat.{ℕ, zero, suc, _+_, _-_, _≤_, _<_}
 use mathlib.Core.Path.{_≡_, refl, sym, ap, _∙_}
-use mathlib.Core.Bool.{Bool, true, false, and-eq-true-iff}
-use mathlib.Core.List.{List, [], _∷_, _++_, map, map-append, map-map, append-assoc}
-use native.Mathlib.Nat.{add-zero, add-suc, suc-add, one-mul}
-use native.Mathlib.Numerals.{add-one, one-add}
+use mathlib.Core.Bool.{true, and-eq-true-iff}
+use mathlib.Core.List.{List, [], _∷_, map, map-append}
+use native.Mathlib.Nat.{add-zero, add-suc, suc-add}
 use native.Mathlib.Omega.{arith}
-use lib.ListN.{length, take, drop, getD, length-append, length-map}
+use lib.ListN.{length, drop, getD, length-append, length-map}
 use lib.Seq.{take-append-seam, length-take-le}
 use Rattle.geometry.specs.declared.Geometry.{Geometry}
 use Rattle.geometry.specs.Geometry.{capacityOf, capacitySum, listStart}
 use Rattle.geometry.proofs.Laws.{list-next}
 use Rattle.levels.specs.Basics.{all}
-use Rattle.levels.specs.Record.{Rec, Block, Level}
+use Rattle.levels.specs.Record.{Level}
 use Rattle.levels.proofs.Every.{Every, every-split, allBlocks}
-use Rattle.words.specs.Layout.{word, countAt, listAt, listedAt, blockAt, levelAt, each, pad, placeOf, listWords}
+use Rattle.words.specs.Layout.{countAt, listAt, listedAt, blockAt, levelAt, each, pad, placeOf, listWords}
 use Rattle.words.specs.Form.{isZero, listedPlaces}
 use Rattle.words.proofs.Parts.{part, part-length, part-two, part-split, part-cons, part-zeros, pad-length, pad-cons, pad-zeros, unpad-zeros}
 

@@ -2,11 +2,11 @@
 use Prim.Native.Nat.{ℕ, zero, suc, _+_, _-_, _≤_, _<_}
 use mathlib.Core.Path.{_≡_, refl, sym, ap, _∙_}
 use mathlib.Core.Bool.{true, and-eq-true-iff}
-use mathlib.Core.List.{List, [], _∷_, _++_, append-assoc}
+use mathlib.Core.List.{List, [], _∷_, _++_}
 use native.Mathlib.Nat.{suc-add, zero-add, suc-sub-suc, add-zero}
 use native.Mathlib.Omega.{arith}
-use lib.ListN.{length, take, drop, getD, replicate, length-append, length-take, length-drop, length-replicate, take-append-drop}
-use lib.Seq.{take-at, drop-at, drop-append-add, drop-append-le, take-append-le, getD-take, getD-drop, take-nil, drop-nil, take-take, drop-drop, take-add, drop-cons, length-take-le, take-all, drop-append-seam}
+use lib.ListN.{length, take, drop, getD, replicate, length-append, length-drop, length-replicate, take-append-drop}
+use lib.Seq.{take-at, drop-at, drop-append-add, drop-append-le, take-append-le, getD-take, getD-drop, take-nil, take-take, drop-drop, take-add, drop-cons, length-take-le, take-all, drop-append-seam}
 use borrow.Author.Tests.{eqb-true}
 use Rattle.levels.specs.Basics.{all}
 use Rattle.words.specs.Layout.{pad}
@@ -75,9 +75,10 @@ part-split-three ws a x y z = part-split ws a x (y + z) ∙ rw (part-split ws (a
 
 -- a part that is two lists in a row, or three
 pub part-two : (ws xs ys : List ℕ) (a x y : ℕ) → length xs ≡ x → length ys ≡ y → part ws a (x + y) ≡ xs ++ ys → (part ws a x ≡ xs) × (part ws (a + x) y ≡ ys)
-part-two ws xs ys a x y ex ey e =
-    (rw add-zero at (sym (part-part ws a (x + y) 0 x (omega arith))) ∙ ap (λ (l : List ℕ). part l 0 x) e ∙ part-mid [] xs ys 0 x refl ex,
-     sym (part-part ws a (x + y) x y (omega arith)) ∙ ap (λ (l : List ℕ). part l x y) e ∙ part-last xs ys x y ex ey)
+part-two ws xs ys a x y ex ey e = (
+  rw add-zero at (sym (part-part ws a (x + y) 0 x (omega arith))) ∙ ap (λ (l : List ℕ). part l 0 x) e ∙ part-mid [] xs ys 0 x refl ex,
+  sym (part-part ws a (x + y) x y (omega arith)) ∙ ap (λ (l : List ℕ). part l x y) e ∙ part-last xs ys x y ex ey,
+)
 
 pub part-three : (ws xs ys zs : List ℕ) (a x y z : ℕ) → length xs ≡ x → length ys ≡ y → length zs ≡ z → part ws a (x + (y + z)) ≡ xs ++ (ys ++ zs) → (part ws a x ≡ xs) × (part ws (a + x) y ≡ ys) × (part ws (a + x + y) z ≡ zs)
 part-three ws xs ys zs a x y z ex ey ez e =
@@ -123,6 +124,7 @@ pad-word n xs i = go xs i (n - length xs)
     zero-word i zero = refl
     zero-word zero (suc m) = refl
     zero-word (suc i) (suc m) = zero-word i m
+
     go : (xs : List ℕ) (i m : ℕ) → getD (xs ++ replicate m 0) i 0 ≡ getD xs i 0
     go [] i m = zero-word i m
     go (x ∷ xs) zero m = refl

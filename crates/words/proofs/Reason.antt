@@ -1,6 +1,6 @@
 -- "Why a call is turned down": 0 is the answer of a legal geometry, the layout's length and words that pass the form check.
-use Prim.Native.Nat.{ℕ, _≤_}
-use mathlib.Core.Path.{_≡_, refl, sym, ap, _∙_}
+use Prim.Native.Nat.{ℕ}
+use mathlib.Core.Path.{_≡_, refl, _∙_}
 use mathlib.Core.Bool.{Bool, true, false}
 use mathlib.Core.List.{List}
 use native.Mathlib.Omega.{arith}
@@ -12,7 +12,7 @@ use Rattle.geometry.specs.Geometry.{Valid, isLegal, storeLength, sizeReason}
 use Rattle.geometry.proofs.Laws.{store-length-low, legal-valid, valid-legal}
 use Rattle.levels.specs.Store.{Store}
 use Rattle.levels.proofs.Sound.{Fits, Sound}
-use Rattle.words.specs.Layout.{geometryAt, storeAt, areaOf, storeWords}
+use Rattle.words.specs.Layout.{geometryAt, storeWords}
 use Rattle.words.specs.Form.{formed, reasonOf}
 use Rattle.words.proofs.Laid.{Laid}
 use Rattle.words.proofs.State.{geometry-back, words-length}

@@ -1,14 +1,13 @@
 -- Slots of records against their words: a mark word, keys and payloads.
 use Prim.Native.Nat.{ℕ, zero, suc, _+_, _-_, _*_, _/_, _%_, _^_, _≤_, _<_}
 use mathlib.Core.Path.{_≡_, refl, sym, ap, _∙_}
-use mathlib.Core.Bool.{Bool, true, false, not, _&&_, and-eq-true-iff}
+use mathlib.Core.Bool.{Bool, true, false, and-eq-true-iff}
 use mathlib.Core.List.{List, [], _∷_, _++_, map, map-append}
-use native.Mathlib.Numerals.{add-one}
-use native.Mathlib.Nat.{suc-add, add-suc, add-zero, suc-sub-suc, pow-succ', zero-div, div-one, div-div-eq-div-mul}
+use native.Mathlib.Nat.{suc-add, add-suc, add-zero, pow-succ', zero-div, div-one, div-div-eq-div-mul}
 use native.Mathlib.Omega.{arith}
 use lib.Dec.{eqb}
-use lib.ListN.{length, take, drop, getD, replicate, length-append, length-replicate, length-map, length-take, length-drop, take-append-drop}
-use lib.Seq.{take-append-seam, drop-append-seam, length-take-le}
+use lib.ListN.{length, take, drop, getD, replicate, length-append, length-replicate, length-map, length-drop, take-append-drop}
+use lib.Seq.{drop-append-seam, length-take-le}
 use borrow.Author.Tests.{eqb-true, eqb-false, eq-eqb, ne-eqb, not-true}
 use Rattle.levels.specs.Basics.{all}
 use Rattle.levels.specs.Record.{Rec}

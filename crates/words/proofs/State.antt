@@ -1,23 +1,22 @@
 -- The words of a whole store: writing them and reading them back.
-use Prim.Native.Nat.{ℕ, zero, suc, _+_, _-_, _*_, _^_, _≤_, _<_}
+use Prim.Native.Nat.{ℕ, _+_, _*_, _≤_, _<_}
 use mathlib.Core.Path.{_≡_, refl, sym, ap, _∙_}
-use mathlib.Core.Bool.{Bool, true, false}
 use mathlib.Core.List.{List, [], _∷_, _++_, map, append-assoc}
-use mathlib.Core.Option.{none, some}
+use mathlib.Core.Option.{some}
 use native.Mathlib.Nat.{zero-add, add-sub-cancel}
 use native.Mathlib.Numerals.{one-add}
 use native.Mathlib.Omega.{arith}
-use lib.ListN.{length, take, drop, getD, length-append, length-map, length-drop}
+use lib.ListN.{length, take, drop, getD, length-append, length-map}
 use lib.Seq.{take-append-seam, drop-at}
 use Rattle.geometry.specs.declared.Geometry.{Geometry}
-use Rattle.geometry.specs.Geometry.{Valid, capacityOf, capacitySum, flashCapacityOf, topCapacityOf, marksStart, keysStart, paysStart, listStart, blockWidth, placesStart, placeStart, storeLength}
+use Rattle.geometry.specs.Geometry.{Valid, capacitySum, flashCapacityOf, topCapacityOf, marksStart, keysStart, paysStart, listStart, blockWidth, placesStart, placeStart, storeLength}
 use Rattle.geometry.proofs.Laws.{pays-end, place-inside, store-length-low}
-use Rattle.levels.specs.Record.{Rec, Block, Level}
+use Rattle.levels.specs.Record.{Block, Level}
 use Rattle.levels.specs.Store.{Store}
 use Rattle.levels.proofs.Every.{Every, every-both, allBlocks}
 use Rattle.levels.proofs.Sound.{BlockFits, Fits}
-use Rattle.words.specs.Layout.{word, geometryAt, liveAt, cursorAt, topCountAt, countAt, topSlots, topRecs, blockAt, levelAt, each, storeAt, pad, placeOf, headerWords, topWords, listWords, blockWords, areaOf, storeWords}
-use Rattle.words.proofs.Parts.{part, part-length, part-word, part-mid, part-two, part-front, part-rest, pad-length}
+use Rattle.words.specs.Layout.{word, geometryAt, liveAt, cursorAt, topCountAt, topSlots, topRecs, blockAt, levelAt, each, storeAt, pad, placeOf, headerWords, topWords, listWords, blockWords, areaOf, storeWords}
+use Rattle.words.proofs.Parts.{part, part-word, part-mid, part-two, part-front, part-rest, pad-length}
 use Rattle.words.proofs.Slots.{padRecs}
 use Rattle.words.proofs.Blocks.{placeWords, place-words, place-of, place-below, block-read}
 use Rattle.words.proofs.Top.{topLength, top-words-length, top-read}

@@ -1,23 +1,21 @@
 -- Level 0 against its words: K(0) mark words, K(0)×B keys, K(0)×B payloads.
-use Prim.Native.Nat.{ℕ, zero, suc, _+_, _-_, _*_, _^_, _≤_, _<_}
+use Prim.Native.Nat.{ℕ, zero, suc, _+_, _*_, _^_, _≤_, _<_}
 use mathlib.Core.Path.{_≡_, refl, sym, ap, _∙_}
-use mathlib.Core.Bool.{Bool, true, false}
-use mathlib.Core.List.{List, [], _∷_, _++_, map, map-append, append-assoc}
-use mathlib.Core.Logic.{dite}
-use native.Mathlib.Decide.{decLt}
-use native.Mathlib.Nat.{add-zero, add-suc, suc-mul, zero-add, zero-mul, sub-zero, suc-sub-suc, suc-add}
+use mathlib.Core.Bool.{true}
+use mathlib.Core.List.{List, [], _∷_, _++_, map, map-append}
+use native.Mathlib.Nat.{add-zero, zero-add, zero-mul, sub-zero, suc-sub-suc, suc-add}
 use native.Mathlib.Omega.{arith}
-use lib.ListN.{length, take, drop, getD, replicate, length-append, length-map, length-drop, length-replicate, replicate-append-replicate, take-append-drop, drop-of-length-le}
-use lib.Seq.{take-append-seam, length-take-le, take-at, drop-at, drop-nil, take-nil, take-append-le, drop-append-le, take-all}
+use lib.ListN.{length, take, drop, replicate, length-append, length-map, length-drop, length-replicate, replicate-append-replicate, take-append-drop}
+use lib.Seq.{length-take-le, take-at, drop-at, drop-nil, take-nil}
 use Rattle.geometry.specs.declared.Geometry.{Geometry}
 use Rattle.geometry.specs.Geometry.{capacityOf, topCapacityOf, marksStart, keysStart, paysStart}
 use Rattle.levels.specs.Basics.{all}
-use Rattle.levels.specs.Record.{Rec, Block, Level, pages}
+use Rattle.levels.specs.Record.{Rec, Block, pages}
 use Rattle.levels.proofs.Every.{Every}
 use Rattle.levels.proofs.Pages.{pages-cons}
 use Rattle.words.specs.Layout.{word, slotsAt, pageSlots, topSlots, pad, markWord, keysOf, paysOf, topWords}
 use Rattle.words.specs.Form.{blank}
-use Rattle.words.proofs.Parts.{part, part-length, part-part, part-mid, part-last, part-split, part-split-three, part-three, part-cons, pad-cons}
+use Rattle.words.proofs.Parts.{part, part-length, part-split, part-split-three, part-three, part-cons, pad-cons}
 use Rattle.words.proofs.Slots.{slots-part, slotsOf, slots-of, keys-of, pays-of, mark-of, keys-pad, pays-pad, mark-pad, slots-length, pad-recs-length, blankRec, padRecs, unpad}
 
 map-take : {A B : Type 0} (f : A → B) (n : ℕ) (xs : List A) → take n (map f xs) ≡ map f (take n xs)
