@@ -2,7 +2,7 @@
 use Prim.Native.Nat.{ℕ, suc, _+_, _-_, _*_, _^_, _≤_, _<_}
 use mathlib.Core.Path.{_≡_, refl, sym, ap, _∙_}
 use mathlib.Core.Bool.{true}
-use mathlib.Core.List.{List, [], _∷_, _++_, append-assoc}
+use mathlib.Core.List.{List, [], _∷_, _++_, append-assoc, foldl-append}
 use mathlib.Core.Logic.{_≢_, dite}
 use mathlib.Core.Option.{some}
 use native.Mathlib.Decide.{decLt}
@@ -153,6 +153,11 @@ unfolding writeBlocks
 writes-length g [] area l f = l
 writes-length g (b ∷ bs) area l f =
     writes-length g bs (writeBlock g area b) (write-length g area b l (place-below b (f .0)) (f .0 .fits) ∙ l) (f .1)
+
+-- writing two lists of blocks is writing the one and then the other
+pub writes-append : (g : Geometry) (area : List ℕ) (bs cs : List Block) → writeBlocks g area (bs ++ cs) ≡ writeBlocks g (writeBlocks g area bs) cs
+unfolding writeBlocks
+writes-append g area bs cs = foldl-append (writeBlock g) area bs cs
 
 -- the words of a place that none of the blocks has are kept
 pub writes-other : (g : Geometry) (bs : List Block) (area : List ℕ) → length area ≡ g .p * blockWidth g → Every (BlockFits g) bs → (q : ℕ) → Every (λ b. q ≢ placeOf b) bs → placeWords g (writeBlocks g area bs) q ≡ placeWords g area q

@@ -24,6 +24,10 @@ pub record Laid (g : Geometry) (area : List ℕ) (s : Store) : Type 0 where
   pub full : length area ≡ g .p * blockWidth g
   pub standing : Every (λ b. placeWords g area (placeOf b) ≡ blockWords g (b .recs)) (allBlocks (s .levels))
 
+-- level 0, live and the cursor have no part in it
+pub laid-levels : (g : Geometry) (area : List ℕ) (s t : Store) → t .levels ≡ s .levels → Laid g area s → Laid g area t
+laid-levels g area s t e l = record { full = l .full; standing = rw e (l .standing) }
+
 -- the places of blocks that fit, one for each block
 pub places-are : (g : Geometry) (bs : Level) → Every (BlockFits g) bs → placesOf bs ≡ map placeOf bs
 places-are g [] f = refl

@@ -12,11 +12,11 @@ use Rattle.geometry.specs.Geometry.{Valid, isLegal, storeLength, sizeReason}
 use Rattle.geometry.proofs.Laws.{store-length-low, legal-valid, valid-legal}
 use Rattle.levels.specs.Store.{Store}
 use Rattle.levels.proofs.Sound.{Fits, Sound}
-use Rattle.words.specs.Layout.{geometryAt, storeWords}
+use Rattle.words.specs.Layout.{geometryAt, storeAt, areaOf, storeWords}
 use Rattle.words.specs.Form.{formed, reasonOf}
 use Rattle.words.proofs.Laid.{Laid}
 use Rattle.words.proofs.State.{geometry-back, words-length}
-use Rattle.words.proofs.Form.{formed-back}
+use Rattle.words.proofs.Form.{formed-sound, formed-back, write-back}
 
 -- reasons 1 to 3
 pub size-none : (n : ℕ) (g : Geometry) → Valid g → n ≡ storeLength g → sizeReason n g ≡ 0
@@ -48,6 +48,28 @@ reason-formed ws e = go (sizeReason (length ws) (geometryAt ws)) (formed (geomet
     go r true true a f b z = let k = size-legal (length ws) (geometryAt ws) (a ∙ eqb-true r 0 b) in (k .0, k .1, f)
     go r false true a f b z = absurd (omega arith)
     go r t false a f b z = absurd (eqb-false r 0 b z)
+
+-- Everything about words that are not turned down.
+pub record Passed (g : Geometry) (ws : List ℕ) : Type 0 where
+  pub valid : Valid g
+  pub long : length ws ≡ storeLength g
+  pub fits : Fits g (storeAt g ws)
+  pub laid : Laid g (areaOf g ws) (storeAt g ws)
+  pub sound : Sound g (storeAt g ws)
+  pub written : storeWords g (storeAt g ws) (areaOf g ws) ≡ ws
+
+pub reason-passed : (ws : List ℕ) → reasonOf ws ≡ 0 → Passed (geometryAt ws) ws
+reason-passed ws e =
+    let k = reason-formed ws e in
+    let o = formed-sound (geometryAt ws) ws (k .0) (k .1) (k .2) in
+    record {
+      valid = k .0;
+      long = k .1;
+      fits = o .0;
+      laid = o .1;
+      sound = o .2;
+      written = write-back (geometryAt ws) ws (k .0) (k .1) refl (k .2);
+    }
 
 -- "Check": no reason to turn the words of a sound store down
 pub reason-back : (g : Geometry) (s : Store) (area : List ℕ) → Valid g → Fits g s → Laid g area s → Sound g s → reasonOf (storeWords g s area) ≡ 0
