@@ -19,7 +19,7 @@ use Rattle.levels.proofs.Sound.{BlockFits}
 use Rattle.words.specs.Layout.{word, recordCount, markWordAt, blockSlots, blockAt, pad, markWord, keysOf, paysOf, placeOf, blockWords, areaOf, writeBlock, writeBlocks}
 use Rattle.words.specs.Form.{blank}
 use Rattle.words.proofs.Parts.{part, part-word, part-mid, part-last, part-left, part-right, part-drop, part-part, part-split, part-cons, part-front-part, pad-length}
-use Rattle.words.proofs.Slots.{slots-part, slots-pad, padRecs, used-length, used-mark, used-keys, used-pays}
+use Rattle.words.proofs.Slots.{slots-back, padRecs, used-length, used-mark, used-keys, used-pays}
 
 -- the words of place q, in the words of all places
 unfoldable pub placeWords : Geometry → List ℕ → ℕ → List ℕ
@@ -70,9 +70,7 @@ module _ (g : Geometry) (ws : List ℕ) (q : ℕ) (rs : List Rec) (h : length rs
   module _ (inside : placeStart g q + blockWidth g ≤ length ws) where
     pub slots-read : blockSlots g ws q ≡ padRecs (g .b) rs
     unfolding blockSlots blockWidth
-    slots-read =
-        slots-part ws (markWordAt g ws q) (placeStart g q + 2) (placeStart g q + 2 + g .b) (g .b) (omega arith) (omega arith)
-        ∙ rw (keys-read, pays-read, mark-read) (slots-pad (g .b) rs)
+    slots-read = rw mark-read (slots-back ws (placeStart g q + 2) (placeStart g q + 2 + g .b) (g .b) rs (omega arith) (omega arith) keys-read pays-read)
 
     pub block-read : blockAt g ws q ≡ record { place = some q; recs = rs }
     unfolding blockAt

@@ -3,10 +3,10 @@ use Prim.Native.Nat.{ℕ, zero, suc, _+_, _-_, _^_, _≤_, _<_}
 use mathlib.Core.Path.{_≡_, refl, sym, ap, _∙_}
 use mathlib.Core.Bool.{Bool, true, false, not, _&&_, and-eq-true-iff}
 use mathlib.Core.List.{List, [], _∷_, map, map-append}
-use native.Mathlib.Nat.{add-zero, add-suc, suc-add, pow-le-pow-right}
+use native.Mathlib.Nat.{add-zero, add-suc, suc-add}
 use native.Mathlib.Numerals.{one-add}
 use native.Mathlib.Omega.{arith}
-use lib.Dec.{leb, ltb, lit<}
+use lib.Dec.{leb, ltb}
 use lib.ListN.{length, take, drop, getD, length-take, length-drop, List·getD-map, List·getD-eq-default}
 use lib.Seq.{length-take-le}
 use borrow.Author.Tests.{leb-true, leb-false, ltb-true, eqb-true, not-true, le-leb, lt-ltb, eq-eqb, lt-leb}
@@ -20,10 +20,10 @@ use Rattle.levels.specs.Place.{placesOf}
 use Rattle.levels.specs.Store.{Store}
 use Rattle.levels.proofs.Every.{Every, every-turn, every-both, every-map, every-of-all, all-of-every, allBlocks}
 use Rattle.levels.proofs.Sound.{BlockFits, Fits, Tight, Sound}
-use Rattle.words.specs.Layout.{word, geometryAt, topCountAt, countAt, topSlots, topRecs, listedAt, recordCount, markWordAt, blockSlots, blockAt, levelAt, each, storeAt, pad, markWord, placeOf, headerWords, listWords, blockWords, areaOf, storeWords}
+use Rattle.words.specs.Layout.{word, geometryAt, topCountAt, countAt, topSlots, topRecs, listedAt, recordCount, markWordAt, blockSlots, blockAt, levelAt, each, storeAt, pad, placeOf, headerWords, listWords, blockWords, areaOf, storeWords}
 use Rattle.words.specs.Form.{allListed, listedPlaces, blank, liveExact, liveFits, cursorInside, topFits, countsFit, placesInside, placesOnce, blocksFilled, keysRise, bottomUnmarked, topUnusedZero, listsUnusedZero, blocksUnusedZero, tombstonesClean, pairsKept, levelsKept, clauses, formed}
 use Rattle.words.proofs.Parts.{part, part-word, pad-word, part-cons}
-use Rattle.words.proofs.Slots.{slots-length, mark-small, padRecs, pad-blank}
+use Rattle.words.proofs.Slots.{slots-length, mark-low, padRecs, pad-blank}
 use Rattle.words.proofs.Blocks.{placeWords, place-words, place-below, count-read, mark-read, slots-read, block-written}
 use Rattle.words.proofs.Top.{marksOf, top-slots-length, top-marks, top-written}
 use Rattle.words.proofs.Lists.{Listed, listed-places, listed-zeros, listed-self, listed-words, listed-counts-pad, level-length}
@@ -269,10 +269,6 @@ formed-sound g ws v l f =
 -- Words that pass are what the store that they hold says.
 pub write-back : (g : Geometry) (ws : List ℕ) → Valid g → length ws ≡ storeLength g → geometryAt ws ≡ g → formed g ws ≡ true → storeWords g (storeAt g ws) (areaOf g ws) ≡ ws
 write-back g ws v l e f = held-words g ws (storeAt g ws) (clauses-hold g ws v l (formed-clauses g ws f) e)
-
--- the mark word of at most B records has no bit from B on
-mark-low : (B : ℕ) (rs : List Rec) → length rs ≤ B → markWord rs < 2 ^ B
-mark-low B rs h = omega (arith, mark-small rs, pow-le-pow-right {n = 2} (lit< tt) {i = length rs} {j = B} h)
 
 -- A store's mark words have no bit from B on.
 marks-small : (B n : ℕ) (rs : List Rec) → all (λ (m : ℕ). ltb m (2 ^ B)) (marksOf B n rs) ≡ true

@@ -130,21 +130,22 @@ pad-word n xs i = go xs i (n - length xs)
     go (x ∷ xs) zero m = refl
     go (x ∷ xs) (suc i) m = go xs i m
 
+-- words that are all 0
+pub zeros-are : (ys : List ℕ) → all isZero ys ≡ true → ys ≡ replicate (length ys) 0
+zeros-are [] e = refl
+zeros-are (y ∷ ys) e =
+    let k = (and-eq-true-iff (isZero y) (all isZero ys)) .0 e in
+    rw (eqb-true y 0 (k .0), ← zeros-are ys (k .1))
+
+pub zeros-pass : (n : ℕ) → all isZero (replicate n 0) ≡ true
+zeros-pass zero = refl
+zeros-pass (suc n) = zeros-pass n
+
 -- zeros after the first n words are the padding of those n
 pub unpad-zeros : (K n : ℕ) (xs : List ℕ) → length xs ≡ K → n ≤ K → all isZero (drop n xs) ≡ true → pad K (take n xs) ≡ xs
 unpad-zeros K n xs l h e =
     let a : length (take n xs) ≡ n = length-take-le n xs (omega arith) in
     rw (a, ← l, ← length-drop n xs, ← zeros-are (drop n xs) e) (take-append-drop n xs)
-  where
-    zeros-are : (ys : List ℕ) → all isZero ys ≡ true → ys ≡ replicate (length ys) 0
-    zeros-are [] e = refl
-    zeros-are (y ∷ ys) e =
-        let k = (and-eq-true-iff (isZero y) (all isZero ys)) .0 e in
-        rw (eqb-true y 0 (k .0), ← zeros-are ys (k .1))
-
-zeros-pass : (n : ℕ) → all isZero (replicate n 0) ≡ true
-zeros-pass zero = refl
-zeros-pass (suc n) = zeros-pass n
 
 -- after the words, padding is zero
 pub pad-zeros : (K : ℕ) (xs : List ℕ) → all isZero (drop (length xs) (pad K xs)) ≡ true

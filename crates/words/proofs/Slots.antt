@@ -1,19 +1,20 @@
 -- Slots of records against their words: a mark word, keys and payloads.
 use Prim.Native.Nat.{ℕ, zero, suc, _+_, _-_, _*_, _/_, _%_, _^_, _≤_, _<_}
 use mathlib.Core.Path.{_≡_, refl, sym, ap, _∙_}
-use mathlib.Core.Bool.{Bool, true, false, and-eq-true-iff}
+use mathlib.Core.Bool.{Bool, true, false, _&&_, and-eq-true-iff}
 use mathlib.Core.List.{List, [], _∷_, _++_, map, map-append}
-use native.Mathlib.Nat.{suc-add, add-suc, add-zero, pow-succ', zero-div, div-one, div-div-eq-div-mul}
+use native.Mathlib.Nat.{suc-add, add-suc, add-zero, zero-add, sub-zero, pow-succ', zero-div, div-one, div-eq-of-lt, div-lt-iff-lt-mul, div-div-eq-div-mul}
 use native.Mathlib.Omega.{arith}
-use lib.Dec.{eqb}
+use lib.Dec.{ltb, eqb}
 use lib.ListN.{length, take, drop, getD, replicate, length-append, length-replicate, length-map, length-drop, take-append-drop}
+use lib.Pow.{pow-pos, pow-mono, shr-lt}
 use lib.Seq.{drop-append-seam, length-take-le}
-use borrow.Author.Tests.{eqb-true, eqb-false, eq-eqb, ne-eqb, not-true}
+use borrow.Author.Tests.{eqb-true, eqb-false, eq-eqb, ne-eqb, not-true, ltb-true, lt-ltb}
 use Rattle.levels.specs.Basics.{all}
 use Rattle.levels.specs.Record.{Rec}
 use Rattle.words.specs.Layout.{word, slotsAt, pad, bit, markWord, keysOf, paysOf}
-use Rattle.words.specs.Form.{blank}
-use Rattle.words.proofs.Parts.{part, part-length, part-cons}
+use Rattle.words.specs.Form.{blank, isZero}
+use Rattle.words.proofs.Parts.{part, part-length, part-cons, zeros-are, zeros-pass}
 
 -- the first n of B slots are n slots
 pub slots-take : (ws : List ℕ) (m k v : ℕ) (n B : ℕ) → n ≤ B → take n (slotsAt ws m k v B) ≡ slotsAt ws m k v n
@@ -73,6 +74,10 @@ pub mark-small : (rs : List Rec) → markWord rs < 2 ^ length rs
 unfolding markWord
 mark-small [] = omega arith
 mark-small (r ∷ rs) = rw pow-succ' (omega (arith, mark-small rs, bit-small (r .tombstone)))
+
+-- at most B records have no bit from B on
+pub mark-low : (B : ℕ) (rs : List Rec) → length rs ≤ B → markWord rs < 2 ^ B
+mark-low B rs h = omega (arith, mark-small rs, pow-mono {i = length rs} {j = B} h)
 
 -- bit j of the mark word is whether record j is a tombstone
 pub mark-bit : (rs : List Rec) (j : ℕ) → eqb (markWord rs / 2 ^ j % 2) 1 ≡ getD (map (λ (r : Rec). r .tombstone) rs) j false
@@ -151,6 +156,9 @@ mark-pad n rs = mark-append-blanks rs (n - length rs)
 pub slots-pad : (n : ℕ) (rs : List Rec) → slotsOf (markWord rs) (pad n (keysOf rs)) (pad n (paysOf rs)) ≡ padRecs n rs
 slots-pad n rs = rw (← keys-pad n rs, ← pays-pad n rs, ← mark-pad n rs) (slots-of (padRecs n rs))
 
+pub slots-back : (ws : List ℕ) (k v n : ℕ) (rs : List Rec) → k + n ≤ length ws → v + n ≤ length ws → part ws k n ≡ pad n (keysOf rs) → part ws v n ≡ pad n (paysOf rs) → slotsAt ws (markWord rs) k v n ≡ padRecs n rs
+slots-back ws k v n rs hk hv ek ev = slots-part ws (markWord rs) k v n hk hv ∙ rw (ek, ev) (slots-pad n rs)
+
 -- the slot that passes the test is the blank one
 pub blank-is : (r : Rec) → blank r ≡ true → r ≡ blankRec
 blank-is r e =
@@ -199,3 +207,57 @@ module _ (ws : List ℕ) (m k v n B : ℕ) (h : n ≤ B) (hk : k + B ≤ length 
 
   pub used-pays : pad B (paysOf (take n (slotsAt ws m k v B))) ≡ part ws v B
   used-pays = sym (pays-pad B (take n (slotsAt ws m k v B))) ∙ ap paysOf padded ∙ pays-of m (part ws k B) (part ws v B) same-length
+
+-- Blank slots against zero words.
+
+-- the slots from slot n on
+pub slots-drop : (ws : List ℕ) (n c m k v : ℕ) → drop n (slotsAt ws m k v (n + c)) ≡ slotsAt ws (m / 2 ^ n) (k + n) (v + n) c
+unfolding slotsAt
+slots-drop ws zero c m k v = rw (zero-add, div-one, add-zero, add-zero)
+slots-drop ws (suc n) c m k v =
+    let a : suc k + n ≡ k + suc n = omega arith in
+    let b : suc v + n ≡ v + suc n = omega arith in
+    rw (suc-add n c) (slots-drop ws n c (m / 2) (suc k) (suc v) ∙ rw (a, b, div-div-eq-div-mul m 2 (2 ^ n), ← pow-succ' 2 n))
+
+module _ (ws : List ℕ) (m k v c : ℕ) (hk : k + c ≤ length ws) (hv : v + c ≤ length ws) where
+  -- slots that are blank have zero words, and no bit below c
+  blanks-zero : m < 2 ^ c → all blank (slotsAt ws m k v c) ≡ true → (m ≡ 0) × (part ws k c ≡ replicate c 0) × (part ws v c ≡ replicate c 0)
+  blanks-zero h z =
+      let lk = part-length ws k c hk in
+      let l : length (part ws k c) ≡ length (part ws v c) = lk ∙ sym (part-length ws v c hv) in
+      let e : slotsOf m (part ws k c) (part ws v c) ≡ replicate c blankRec = sym (slots-part ws m k v c hk hv) ∙ blanks-are (slotsAt ws m k v c) z ∙ rw slots-length in (
+        sym (mark-of m (part ws k c) (part ws v c) l (rw lk h)) ∙ ap markWord e ∙ mark-blanks c,
+        sym (keys-of m (part ws k c) (part ws v c) l) ∙ ap keysOf e ∙ map-replicate _ c blankRec,
+        sym (pays-of m (part ws k c) (part ws v c) l) ∙ ap paysOf e ∙ map-replicate _ c blankRec,
+      )
+
+  zero-blanks : m ≡ 0 → part ws k c ≡ replicate c 0 → part ws v c ≡ replicate c 0 → all blank (slotsAt ws m k v c) ≡ true
+  unfolding markWord
+  zero-blanks e ek ev = rw (e, slots-back ws k v c [] hk hv (rw sub-zero ek) (rw sub-zero ev)) (blanks-pass (c - 0))
+
+-- "Unused slots, bits .. are 0": the slots from n on are blank and no bit from B on is set just if no bit from n on is set and the words from n on are 0
+pub unused-slots : (ws : List ℕ) (m k v n c : ℕ) → k + n + c ≤ length ws → v + n + c ≤ length ws
+    → (all blank (drop n (slotsAt ws m k v (n + c))) && ltb m (2 ^ (n + c))) ≡ (ltb m (2 ^ n) && (all isZero (part ws (k + n) c) && all isZero (part ws (v + n) c)))
+unused-slots ws m k v n c hk hv = same-test _ _ there back
+  where
+    same-test : (a b : Bool) → (a ≡ true → b ≡ true) → (b ≡ true → a ≡ true) → a ≡ b
+    same-test true b f h = sym (f refl)
+    same-test false true f h = h refl
+    same-test false false f h = refl
+
+    there : (all blank (drop n (slotsAt ws m k v (n + c))) && ltb m (2 ^ (n + c))) ≡ true → (ltb m (2 ^ n) && (all isZero (part ws (k + n) c) && all isZero (part ws (v + n) c))) ≡ true
+    there e =
+        let t = (and-eq-true-iff (all blank (drop n (slotsAt ws m k v (n + c)))) (ltb m (2 ^ (n + c)))) .0 e in
+        let a : n + c ≡ c + n = omega arith in
+        let l : m < 2 ^ (c + n) = rw a at (ltb-true m (2 ^ (n + c)) (t .1)) in
+        let z = blanks-zero ws (m / 2 ^ n) (k + n) (v + n) c hk hv (shr-lt c n l) (rw slots-drop at (t .0)) in
+        let b : m < 1 * 2 ^ n = div-lt-iff-lt-mul (pow-pos n) .0 (omega (arith, z .0)) in
+        rw (z .1, z .2, zeros-pass c, lt-ltb m (2 ^ n) (omega arith))
+
+    back : (ltb m (2 ^ n) && (all isZero (part ws (k + n) c) && all isZero (part ws (v + n) c))) ≡ true → (all blank (drop n (slotsAt ws m k v (n + c))) && ltb m (2 ^ (n + c))) ≡ true
+    back e =
+        let t = simp and-eq-true-iff at e in
+        let l = ltb-true m (2 ^ n) (t .0) in
+        let zk : part ws (k + n) c ≡ replicate c 0 = zeros-are (part ws (k + n) c) (t .1 .0) ∙ rw (part-length ws (k + n) c hk) in
+        let zv : part ws (v + n) c ≡ replicate c 0 = zeros-are (part ws (v + n) c) (t .1 .1) ∙ rw (part-length ws (v + n) c hv) in
+        rw (slots-drop ws n c m k v, zero-blanks ws (m / 2 ^ n) (k + n) (v + n) c hk hv (div-eq-of-lt l) zk zv, lt-ltb m (2 ^ (n + c)) (omega (arith, pow-mono {i = n} {j = n + c} (omega arith))))
