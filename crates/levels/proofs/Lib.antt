@@ -22,3 +22,6 @@ pub mod Places
 pub mod Written
 pub mod Chosen
 pub mod Room
+pub mod Every
+pub mod Pages
+pub mod Sound

@@ -1,0 +1,350 @@
+-- The form check: the words of a sound store pass it, and words that pass it are those of a sound store.
+use Prim.Native.Nat.{ℕ, zero, suc, _+_, _-_, _^_, _≤_, _<_}
+use mathlib.Core.Path.{_≡_, refl, sym, ap, _∙_}
+use mathlib.Core.Bool.{Bool, true, false, not, _&&_, and-eq-true-iff}
+use mathlib.Core.List.{List, [], _∷_, map, map-append}
+use native.Mathlib.Nat.{add-zero, add-suc, suc-add}
+use native.Mathlib.Numerals.{one-add}
+use native.Mathlib.Omega.{arith}
+use lib.Dec.{leb, ltb}
+use lib.ListN.{length, take, drop, getD, length-take, length-drop, List·getD-map, List·getD-eq-default}
+use lib.Seq.{length-take-le}
+use borrow.Author.Tests.{leb-true, leb-false, ltb-true, eqb-true, not-true, le-leb, lt-ltb, eq-eqb, lt-leb}
+use Rattle.geometry.specs.declared.Geometry.{Geometry}
+use Rattle.geometry.specs.Geometry.{Valid, within, capacityOf, capacitySum, flashCapacityOf, topCapacityOf, marksStart, listStart, storeLength}
+use Rattle.geometry.proofs.Laws.{place-inside, list-inside, store-length-low}
+use Rattle.levels.specs.Basics.{if_then_else_, all}
+use Rattle.levels.specs.Record.{Rec, Block, Level}
+use Rattle.levels.specs.Waste.{pairRule, needsCompact}
+use Rattle.levels.specs.Place.{placesOf}
+use Rattle.levels.specs.Store.{Store}
+use Rattle.levels.proofs.Every.{Every, every-turn, every-both, every-map, every-of-all, all-of-every, allBlocks}
+use Rattle.levels.proofs.Sound.{BlockFits, Fits, Tight, Sound}
+use Rattle.words.specs.Layout.{word, geometryAt, topCountAt, countAt, topSlots, topRecs, listedAt, recordCount, markWordAt, blockSlots, blockAt, levelAt, each, storeAt, pad, placeOf, headerWords, listWords, blockWords, areaOf, storeWords}
+use Rattle.words.specs.Form.{allListed, listedPlaces, blank, liveExact, liveFits, cursorInside, topFits, countsFit, placesInside, placesOnce, blocksFilled, keysRise, bottomUnmarked, topUnusedZero, listsUnusedZero, blocksUnusedZero, tombstonesClean, pairsKept, levelsKept, clauses, formed}
+use Rattle.words.proofs.Parts.{part, part-word, pad-word, part-cons}
+use Rattle.words.proofs.Slots.{slots-length, mark-low, padRecs, pad-blank}
+use Rattle.words.proofs.Blocks.{placeWords, place-words, place-below, count-read, mark-read, slots-read, block-written}
+use Rattle.words.proofs.Top.{marksOf, top-slots-length, top-marks, top-written}
+use Rattle.words.proofs.Lists.{Listed, listed-places, listed-zeros, listed-self, listed-words, listed-counts-pad, level-length}
+use Rattle.words.proofs.Laid.{Laid, places-are, in-use-are}
+use Rattle.words.proofs.State.{Holds, store-length, lists-inside, top-inside, live-held, cursor-held, top-count-held, counts-held, listed-held, top-inside, top-held, levels-held, store-held, words-hold, held-words}
+
+-- the clauses of the form check, each by its name
+pub record Clauses (g : Geometry) (ws : List ℕ) : Type 0 where
+  pub live-exact : liveExact g ws ≡ true
+  pub live-fits : liveFits g ws ≡ true
+  pub cursor-inside : cursorInside g ws ≡ true
+  pub top-fits : topFits g ws ≡ true
+  pub counts-fit : countsFit g ws ≡ true
+  pub places-inside : placesInside g ws ≡ true
+  pub places-once : placesOnce g ws ≡ true
+  pub blocks-filled : blocksFilled g ws ≡ true
+  pub keys-rise : keysRise g ws ≡ true
+  pub bottom-unmarked : bottomUnmarked g ws ≡ true
+  pub top-unused : topUnusedZero g ws ≡ true
+  pub lists-unused : listsUnusedZero g ws ≡ true
+  pub blocks-unused : blocksUnusedZero g ws ≡ true
+  pub tombstones-clean : tombstonesClean g ws ≡ true
+  pub pairs-kept : pairsKept g ws ≡ true
+  pub levels-kept : levelsKept g ws ≡ true
+
+pub formed-clauses : (g : Geometry) (ws : List ℕ) → formed g ws ≡ true → Clauses g ws
+unfolding formed clauses
+formed-clauses g ws e =
+    let k = simp and-eq-true-iff at e in
+    record {
+      live-exact = k .0;
+      live-fits = k .1 .0;
+      cursor-inside = k .1 .1 .0;
+      top-fits = k .1 .1 .1 .0;
+      counts-fit = k .1 .1 .1 .1 .0;
+      places-inside = k .1 .1 .1 .1 .1 .0;
+      places-once = k .1 .1 .1 .1 .1 .1 .0;
+      blocks-filled = k .1 .1 .1 .1 .1 .1 .1 .0;
+      keys-rise = k .1 .1 .1 .1 .1 .1 .1 .1 .0;
+      bottom-unmarked = k .1 .1 .1 .1 .1 .1 .1 .1 .1 .0;
+      top-unused = k .1 .1 .1 .1 .1 .1 .1 .1 .1 .1 .0;
+      lists-unused = k .1 .1 .1 .1 .1 .1 .1 .1 .1 .1 .1 .0;
+      blocks-unused = k .1 .1 .1 .1 .1 .1 .1 .1 .1 .1 .1 .1 .0;
+      tombstones-clean = k .1 .1 .1 .1 .1 .1 .1 .1 .1 .1 .1 .1 .1 .0;
+      pairs-kept = k .1 .1 .1 .1 .1 .1 .1 .1 .1 .1 .1 .1 .1 .1 .0;
+      levels-kept = k .1 .1 .1 .1 .1 .1 .1 .1 .1 .1 .1 .1 .1 .1 .1 .0;
+    }
+
+pub clauses-formed : (g : Geometry) (ws : List ℕ) → Clauses g ws → formed g ws ≡ true
+unfolding formed clauses
+clauses-formed g ws k =
+    rw (k .live-exact, k .live-fits, k .cursor-inside, k .top-fits, k .counts-fit, k .places-inside, k .places-once, k .blocks-filled, k .keys-rise, k .bottom-unmarked, k .top-unused, k .lists-unused, k .blocks-unused, k .tombstones-clean, k .pairs-kept, k .levels-kept)
+
+-- a test of every level number is a test of every level
+pub all-each : {A : Type 0} (t : A → Bool) (f : ℕ → A) (n i : ℕ) → all (λ (j : ℕ). t (f j)) (each (λ (j : ℕ). j) i n) ≡ all t (each f i n)
+all-each t f zero i = refl
+all-each t f (suc n) i = rw (all-each t f n (suc i))
+
+pub each-at : {A : Type 0} (f : ℕ → A) (n i j : ℕ) (d : A) → j < n → getD (each f i n) j d ≡ f (i + j)
+each-at f zero i j d h = absurd (omega arith)
+each-at f (suc n) i zero d h = rw add-zero
+each-at f (suc n) i (suc j) d h = each-at f n (suc i) j d (omega arith) ∙ rw (suc-add, add-suc)
+
+each-length : {A : Type 0} (f : ℕ → A) (n i : ℕ) → length (each f i n) ≡ n
+each-length f zero i = refl
+each-length f (suc n) i = ap suc (each-length f n (suc i))
+
+-- a test of n words in a row is a test of every word of that part
+all-part : (t : ℕ → Bool) (ws : List ℕ) (a n j : ℕ) → a + j + n ≤ length ws → all (λ (i : ℕ). t (word ws (a + i))) (each (λ (i : ℕ). i) j n) ≡ all t (part ws (a + j) n)
+unfolding part
+all-part t ws a zero j h = refl
+all-part t ws a (suc n) j h =
+    let e : suc (a + j) ≡ a + suc j = omega arith in
+    rw (part-cons ws (a + j) n (omega arith), e, all-part t ws a n (suc j) (omega arith))
+
+-- The blocks of all levels that the words hold are the blocks at the listed places.
+blocks-listed : (g : Geometry) (ws : List ℕ) (n i : ℕ) → allBlocks (each (levelAt g ws) i n) ≡ map (blockAt g ws) (listedPlaces g ws i n)
+unfolding listedPlaces levelAt
+blocks-listed g ws zero i = refl
+blocks-listed g ws (suc n) i = rw (blocks-listed g ws n (suc i)) (sym (map-append (blockAt g ws) (listedAt g ws i) (listedPlaces g ws (suc i) n)))
+
+places-of-blocks : (g : Geometry) (ws ps : List ℕ) → placesOf (map (blockAt g ws) ps) ≡ ps
+unfolding blockAt
+places-of-blocks g ws [] = refl
+places-of-blocks g ws (p ∷ ps) = rw (places-of-blocks g ws ps)
+
+-- "each block count is at most K(i)", "(zero above h)", for every level number
+count-fits : (g : Geometry) (ws : List ℕ) → countsFit g ws ≡ true → (i : ℕ) → 1 ≤ i → i ≤ 3 → countAt ws i ≤ (if leb i (g .h) then capacityOf g i else 0)
+unfolding countsFit
+count-fits g ws e i l h = let k = simp and-eq-true-iff at e in go i l h (leb-true _ _ (k .0)) (leb-true _ _ (k .1 .0)) (leb-true _ _ (k .1 .1 .0))
+  where
+    Fit : ℕ → Type 0
+    Fit i = countAt ws i ≤ (if leb i (g .h) then capacityOf g i else 0)
+
+    go : (i : ℕ) → 1 ≤ i → i ≤ 3 → Fit 1 → Fit 2 → Fit 3 → Fit i
+    go zero l h a b c = absurd (omega arith)
+    go (suc zero) l h a b c = a
+    go (suc (suc zero)) l h a b c = b
+    go (suc (suc (suc zero))) l h a b c = c
+    go (suc (suc (suc (suc i)))) l h a b c = absurd (omega arith)
+
+-- level h is the last of the levels
+bottom-level : (g : Geometry) (ws : List ℕ) → 1 ≤ g .h → getD (each (levelAt g ws) 1 (g .h)) (g .h - 1) [] ≡ levelAt g ws (g .h)
+bottom-level g ws h =
+    let e : 1 + (g .h - 1) ≡ g .h = omega arith in
+    each-at (levelAt g ws) (g .h) 1 (g .h - 1) [] (omega arith) ∙ ap (levelAt g ws) e
+
+-- What the form check says of words that pass it.
+module _ (g : Geometry) (ws : List ℕ) (v : Valid g) (long : length ws ≡ storeLength g) (c : Clauses g ws) where
+  count-low : (i : ℕ) → 1 ≤ i → i ≤ g .h → countAt ws i ≤ capacityOf g i
+  count-low i l h = let k = count-fits g ws (c .counts-fit) i l (omega (arith, v .ranged .h-high)) in rw (le-leb i (g .h) h) at k
+
+  count-none : (i : ℕ) → g .h < i → i ≤ 3 → countAt ws i ≡ 0
+  count-none i l h = let k = rw (lt-leb i (g .h) l) at (count-fits g ws (c .counts-fit) i (omega arith) h) in omega arith
+
+  pub clauses-listed : Listed g ws 1 (each (levelAt g ws) 1 (g .h))
+  unfolding listsUnusedZero flashCapacityOf
+  clauses-listed =
+      listed-self g ws (g .h) 1 (omega arith) (lists-inside g ws long) (λ j h. count-low (1 + j) (omega arith) (omega arith)) (c .lists-unused)
+
+  places-good : Every (λ p. (p < g .p) × (1 ≤ recordCount g ws p) × (recordCount g ws p ≤ g .b)) (allListed g ws)
+  unfolding placesInside blocksFilled
+  places-good =
+      every-both (λ p. ltb p (g .p) ≡ true) (λ p. within 1 (g .b) (recordCount g ws p) ≡ true) (λ p. (p < g .p) × (1 ≤ recordCount g ws p) × (recordCount g ws p ≤ g .b)) (allListed g ws)
+      (λ p a b. let k = simp and-eq-true-iff at b in (ltb-true _ _ a, leb-true _ _ (k .0), leb-true _ _ (k .1)))
+      (every-of-all (λ p. ltb p (g .p)) (allListed g ws) (c .places-inside))
+      (every-of-all (λ p. within 1 (g .b) (recordCount g ws p)) (allListed g ws) (c .blocks-filled))
+
+  recs-length : (p : ℕ) → recordCount g ws p ≤ g .b → length (blockAt g ws p .recs) ≡ recordCount g ws p
+  unfolding blockAt blockSlots
+  recs-length p h = length-take-le (recordCount g ws p) (blockSlots g ws p) (rw slots-length h)
+
+  block-fits : (p : ℕ) → (p < g .p) × (1 ≤ recordCount g ws p) × (recordCount g ws p ≤ g .b) → BlockFits g (blockAt g ws p)
+  unfolding blockAt
+  block-fits p k =
+      record { at = p; placed-at = refl; inside = k .0; filled = rw (recs-length p (k .2)) (k .1); fits = rw (recs-length p (k .2)) (k .2) }
+
+  top-count-low : topCountAt ws ≤ topCapacityOf g
+  unfolding topFits
+  top-count-low = leb-true _ _ (c .top-fits)
+
+  top-length : length (topRecs g ws) ≡ topCountAt ws
+  unfolding topRecs
+  top-length = length-take-le (topCountAt ws) (topSlots g ws) (rw (top-slots-length g ws) top-count-low)
+
+  level-fits : (i : ℕ) → i < g .h → length (levelAt g ws (suc i)) ≤ capacityOf g (suc i)
+  level-fits i h =
+      let k = count-low (suc i) (omega arith) h in
+      rw (level-length g ws (suc i) (rw (long, store-length g) (omega (arith, list-inside g {i = suc i} (omega arith) h))) k) k
+
+  pub clauses-fits : Fits g (storeAt g ws)
+  unfolding storeAt
+  clauses-fits =
+      record {
+        level-count = each-length (levelAt g ws) (g .h) 1;
+        top-fits = rw top-length top-count-low;
+        level-fits = λ i h. rw (each-at (levelAt g ws) (g .h) 1 i [] h, one-add) (level-fits i h);
+        blocks-fit = rw (blocks-listed g ws (g .h) 1) (every-map (blockAt g ws) (BlockFits g) (allListed g ws) (every-turn _ (λ p. BlockFits g (blockAt g ws p)) (allListed g ws) block-fits places-good));
+      }
+
+  block-stands : (p : ℕ) → (p < g .p) × (1 ≤ recordCount g ws p) × (recordCount g ws p ≤ g .b) → (all blank (drop (recordCount g ws p) (blockSlots g ws p)) && ltb (markWordAt g ws p) (2 ^ g .b)) ≡ true
+      → placeWords g (areaOf g ws) (placeOf (blockAt g ws p)) ≡ blockWords g (blockAt g ws p .recs)
+  unfolding blockAt
+  block-stands p k e =
+      let z = (and-eq-true-iff (all blank (drop (recordCount g ws p) (blockSlots g ws p))) (ltb (markWordAt g ws p) (2 ^ g .b))) .0 e in
+      place-words g ws p ∙ block-written g ws p (rw long (place-inside g (k .0))) (k .2) (z .0) (ltb-true _ _ (z .1))
+
+  pub clauses-laid : Laid g (areaOf g ws) (storeAt g ws)
+  unfolding storeAt blocksUnusedZero
+  clauses-laid =
+      record {
+        full = rw (length-drop, long, store-length g) (omega arith);
+        standing = rw (blocks-listed g ws (g .h) 1) (every-map (blockAt g ws) (λ b. placeWords g (areaOf g ws) (placeOf b) ≡ blockWords g (b .recs)) (allListed g ws) (every-both _ _ (λ p. placeWords g (areaOf g ws) (placeOf (blockAt g ws p)) ≡ blockWords g (blockAt g ws p .recs)) (allListed g ws) block-stands places-good (every-of-all (λ p. all blank (drop (recordCount g ws p) (blockSlots g ws p)) && ltb (markWordAt g ws p) (2 ^ g .b)) (allListed g ws) (c .blocks-unused))));
+      }
+
+  pub clauses-tight : Every (Tight g) (each (levelAt g ws) 1 (g .h))
+  unfolding pairsKept levelsKept
+  clauses-tight =
+      every-both (λ l. pairRule (g .b) l ≡ true) (λ l. not (needsCompact (g .b) l) ≡ true) (Tight g) (each (levelAt g ws) 1 (g .h))
+      (λ l a b. record { pairs = a; compact = not-true _ b })
+      (every-of-all (pairRule (g .b)) (each (levelAt g ws) 1 (g .h)) (sym (all-each (pairRule (g .b)) (levelAt g ws) (g .h) 1) ∙ c .pairs-kept))
+      (every-of-all (λ l. not (needsCompact (g .b) l)) (each (levelAt g ws) 1 (g .h)) (sym (all-each (λ (l : Level). not (needsCompact (g .b) l)) (levelAt g ws) (g .h) 1) ∙ c .levels-kept))
+
+  pub clauses-sound : Sound g (storeAt g ws)
+  unfolding storeAt liveExact liveFits cursorInside placesOnce keysRise bottomUnmarked tombstonesClean
+  clauses-sound =
+      record {
+        live-exact = sym (eqb-true _ _ (c .live-exact));
+        live-fits = leb-true _ _ (c .live-fits);
+        cursor-inside = ltb-true _ _ (c .cursor-inside);
+        places-once = rw (in-use-are, blocks-listed g ws (g .h) 1, places-of-blocks) (c .places-once);
+        keys-rise = c .keys-rise;
+        bottom-unmarked = rw (bottom-level g ws (v .ranged .h-low)) (not-true _ (c .bottom-unmarked));
+        tombstones-clean = c .tombstones-clean;
+        tight = clauses-tight;
+      }
+
+  counts-written : part ws 9 3 ≡ pad 3 (map (λ (l : Level). length l) (each (levelAt g ws) 1 (g .h)))
+  counts-written =
+      let n = each-length (levelAt g ws) (g .h) 1 in
+      listed-counts-pad g ws (each (levelAt g ws) 1 (g .h)) (omega (arith, v .ranged .h-high)) (omega (arith, store-length-low g v)) clauses-listed (λ i a b. count-none i (omega arith) b)
+
+  header-written : geometryAt ws ≡ g → part ws 0 12 ≡ headerWords g (storeAt g ws)
+  unfolding storeAt headerWords
+  header-written e =
+      let l : 12 ≤ length ws = omega (arith, store-length-low g v) in
+      part-cons ws 0 11 (omega arith)
+      ∙ rw (part-cons ws 1 10 (omega arith), part-cons ws 2 9 (omega arith), part-cons ws 3 8 (omega arith), part-cons ws 4 7 (omega arith), part-cons ws 5 6 (omega arith), part-cons ws 6 5 (omega arith), part-cons ws 7 4 (omega arith), part-cons ws 8 3 (omega arith), top-length, counts-written)
+      (λ i. e i .b ∷ e i .w ∷ e i .d ∷ e i .g ∷ e i .h ∷ e i .p ∷ word ws 6 ∷ word ws 7 ∷ word ws 8 ∷ pad 3 (map (λ (l : Level). length l) (each (levelAt g ws) 1 (g .h))))
+
+  -- the two halves of the clause about level 0's unused parts
+  top-unused : (all blank (drop (topCountAt ws) (topSlots g ws)) ≡ true) × (all (λ (i : ℕ). ltb (word ws (marksStart g + i)) (2 ^ g .b)) (each (λ (i : ℕ). i) 0 (capacityOf g 0)) ≡ true)
+  unfolding topUnusedZero
+  top-unused = (and-eq-true-iff _ _) .0 (c .top-unused)
+
+  marks-low : Every (λ m. m < 2 ^ g .b) (part ws (marksStart g) (capacityOf g 0))
+  marks-low =
+      let e = all-part (λ (m : ℕ). ltb m (2 ^ g .b)) ws (marksStart g) (capacityOf g 0) 0 (omega (arith, top-inside g ws long)) in
+      every-turn (λ m. ltb m (2 ^ g .b) ≡ true) (λ m. m < 2 ^ g .b) (part ws (marksStart g) (capacityOf g 0)) (λ m b. ltb-true _ _ b)
+      (every-of-all (λ (m : ℕ). ltb m (2 ^ g .b)) (part ws (marksStart g) (capacityOf g 0)) (rw add-zero at (sym e ∙ top-unused .1)))
+
+  lists-written : part ws (listStart g 1) (flashCapacityOf g) ≡ listWords g 1 (each (levelAt g ws) 1 (g .h))
+  unfolding flashCapacityOf
+  lists-written = ap (λ (n : ℕ). part ws (listStart g 1) (capacitySum g 1 n)) (sym (each-length (levelAt g ws) (g .h) 1)) ∙ listed-words g ws (each (levelAt g ws) 1 (g .h)) 1 (omega arith) clauses-listed
+
+  pub clauses-hold : geometryAt ws ≡ g → Holds g ws (storeAt g ws)
+  unfolding storeAt topRecs
+  clauses-hold e =
+      record {
+        long = long;
+        header = header-written e;
+        top = sym (top-written g ws (topCountAt ws) (omega (arith, v .ranged .b-low)) top-count-low (top-inside g ws long) (top-unused .0) marks-low);
+        lists = lists-written;
+        laid = clauses-laid;
+      }
+
+-- Words of the right length that pass hold a store that fits, whose blocks stand in their places and that is sound.
+pub formed-sound : (g : Geometry) (ws : List ℕ) → Valid g → length ws ≡ storeLength g → formed g ws ≡ true → Fits g (storeAt g ws) × Laid g (areaOf g ws) (storeAt g ws) × Sound g (storeAt g ws)
+formed-sound g ws v l f =
+    let c = formed-clauses g ws f in
+    (clauses-fits g ws v l c, clauses-laid g ws v l c, clauses-sound g ws v l c)
+
+-- Words that pass are what the store that they hold says.
+pub write-back : (g : Geometry) (ws : List ℕ) → Valid g → length ws ≡ storeLength g → geometryAt ws ≡ g → formed g ws ≡ true → storeWords g (storeAt g ws) (areaOf g ws) ≡ ws
+write-back g ws v l e f = held-words g ws (storeAt g ws) (clauses-hold g ws v l (formed-clauses g ws f) e)
+
+-- A store's mark words have no bit from B on.
+marks-small : (B n : ℕ) (rs : List Rec) → all (λ (m : ℕ). ltb m (2 ^ B)) (marksOf B n rs) ≡ true
+unfolding marksOf
+marks-small B zero rs = refl
+marks-small B (suc n) rs = rw (lt-ltb _ _ (mark-low B (take B rs) (rw length-take (omega arith))), marks-small B n (drop B rs))
+
+-- Words that hold a sound store pass, clause by clause.
+module _ (g : Geometry) (ws : List ℕ) (s : Store) (v : Valid g) (f : Fits g s) (o : Sound g s) (k : Holds g ws s) where
+  listed-are : allListed g ws ≡ map placeOf (allBlocks (s .levels))
+  listed-are = ap (listedPlaces g ws 1) (sym (f .level-count)) ∙ listed-places g ws (s .levels) 1 (listed-held g ws s v f k)
+
+  -- a test of every listed place is a test of the place of every block
+  all-listed : (t : ℕ → Bool) → Every (λ b. t (placeOf b) ≡ true) (allBlocks (s .levels)) → all t (allListed g ws) ≡ true
+  all-listed t h = rw listed-are (all-of-every t (map placeOf (allBlocks (s .levels))) (every-map placeOf (λ p. t p ≡ true) (allBlocks (s .levels)) h))
+
+  count-held : (i : ℕ) → i < 3 → countAt ws (suc i) ≡ length (getD (s .levels) i [])
+  count-held i h =
+      let e : 8 + suc i ≡ 9 + i = omega arith in
+      ap (word ws) e ∙ sym (part-word ws 9 3 i h) ∙ ap (λ (xs : List ℕ). getD xs i 0) (counts-held g ws s v f k)
+      ∙ pad-word 3 (map (λ (l : Level). length l) (s .levels)) i ∙ List·getD-map (λ (l : Level). length l) (s .levels) i []
+
+  level-low : (i : ℕ) → i < 3 → leb (countAt ws (suc i)) (if leb (suc i) (g .h) then capacityOf g (suc i) else 0) ≡ true
+  level-low i h = rw (count-held i h) (go (leb (suc i) (g .h)) refl)
+    where
+      go : (t : Bool) → leb (suc i) (g .h) ≡ t → leb (length (getD (s .levels) i [])) (if t then capacityOf g (suc i) else 0) ≡ true
+      go true e = le-leb _ _ (f .level-fits i (leb-true _ _ e))
+      go false e = rw (List·getD-eq-default (s .levels) [] {n = i} (omega (arith, leb-false (suc i) (g .h) e, f .level-count)))
+
+  bottom-held : levelAt g ws (g .h) ≡ getD (s .levels) (g .h - 1) []
+  bottom-held = sym (bottom-level g ws (v .ranged .h-low)) ∙ ap (λ (ls : List Level). getD ls (g .h - 1) []) (levels-held g ws s v f k)
+
+  -- what the words of a block's place say
+  block-says : (b : Block) → BlockFits g b → placeWords g (areaOf g ws) (placeOf b) ≡ blockWords g (b .recs)
+      → (within 1 (g .b) (recordCount g ws (placeOf b)) ≡ true) × ((all blank (drop (recordCount g ws (placeOf b)) (blockSlots g ws (placeOf b))) && ltb (markWordAt g ws (placeOf b)) (2 ^ g .b)) ≡ true)
+  block-says b h e =
+      let p = placeOf b in
+      let e2 = sym (place-words g ws p) ∙ e in
+      let n = count-read g ws p (b .recs) (h .fits) e2 in
+      let m = mark-read g ws p (b .recs) (h .fits) e2 in
+      let r = slots-read g ws p (b .recs) (h .fits) e2 (rw (k .long) (place-inside g (place-below b h))) in
+      (rw (n, le-leb _ _ (h .filled), le-leb _ _ (h .fits)), rw (n, m, r, pad-blank (g .b) (b .recs), lt-ltb _ _ (mark-low (g .b) (b .recs) (h .fits))))
+
+  blocks-say : Every (λ b. (within 1 (g .b) (recordCount g ws (placeOf b)) ≡ true) × ((all blank (drop (recordCount g ws (placeOf b)) (blockSlots g ws (placeOf b))) && ltb (markWordAt g ws (placeOf b)) (2 ^ g .b)) ≡ true)) (allBlocks (s .levels))
+  blocks-say = every-both (BlockFits g) (λ b. placeWords g (areaOf g ws) (placeOf b) ≡ blockWords g (b .recs)) _ (allBlocks (s .levels)) block-says (f .blocks-fit) (k .laid .standing)
+
+  marks-held : all (λ (i : ℕ). ltb (word ws (marksStart g + i)) (2 ^ g .b)) (each (λ (i : ℕ). i) 0 (capacityOf g 0)) ≡ true
+  marks-held =
+      all-part (λ (m : ℕ). ltb m (2 ^ g .b)) ws (marksStart g) (capacityOf g 0) 0 (omega (arith, top-inside g ws (k .long)))
+      ∙ rw (add-zero, top-marks g ws (s .top) (omega (arith, v .ranged .b-low)) (f .top-fits) (k .top))
+      (marks-small (g .b) (capacityOf g 0) (padRecs (topCapacityOf g) (s .top)))
+
+  pub holds-clauses : Clauses g ws
+  unfolding liveExact liveFits cursorInside topFits countsFit placesInside placesOnce blocksFilled keysRise bottomUnmarked topUnusedZero listsUnusedZero blocksUnusedZero tombstonesClean pairsKept levelsKept
+  holds-clauses =
+      let st = store-held g ws s v f k in
+      record {
+        live-exact = rw st (eq-eqb _ _ (live-held g ws s v f k ∙ sym (o .live-exact)));
+        live-fits = rw (live-held g ws s v f k) (le-leb _ _ (o .live-fits));
+        cursor-inside = rw (cursor-held g ws s v f k) (lt-ltb _ _ (o .cursor-inside));
+        top-fits = rw (top-count-held g ws s v f k) (le-leb _ _ (f .top-fits));
+        counts-fit = rw (level-low 0 (omega arith), level-low 1 (omega arith), level-low 2 (omega arith));
+        places-inside = all-listed (λ p. ltb p (g .p)) (every-turn (BlockFits g) (λ b. ltb (placeOf b) (g .p) ≡ true) (allBlocks (s .levels)) (λ b h. lt-ltb _ _ (place-below b h)) (f .blocks-fit));
+        places-once = rw (listed-are, ← places-are g (allBlocks (s .levels)) (f .blocks-fit), ← in-use-are (s .levels)) (o .places-once);
+        blocks-filled = all-listed (λ p. within 1 (g .b) (recordCount g ws p)) (every-turn _ (λ b. within 1 (g .b) (recordCount g ws (placeOf b)) ≡ true) (allBlocks (s .levels)) (λ b h. h .0) blocks-say);
+        keys-rise = rw st (o .keys-rise);
+        bottom-unmarked = rw (bottom-held, o .bottom-unmarked);
+        top-unused = rw (top-count-held g ws s v f k, top-held g ws s v f k, pad-blank (topCapacityOf g) (s .top)) marks-held;
+        lists-unused = rw (f .level-count) at (listed-zeros g ws (s .levels) 1 (listed-held g ws s v f k));
+        blocks-unused = all-listed (λ p. all blank (drop (recordCount g ws p) (blockSlots g ws p)) && ltb (markWordAt g ws p) (2 ^ g .b)) (every-turn _ (λ b. (all blank (drop (recordCount g ws (placeOf b)) (blockSlots g ws (placeOf b))) && ltb (markWordAt g ws (placeOf b)) (2 ^ g .b)) ≡ true) (allBlocks (s .levels)) (λ b h. h .1) blocks-say);
+        tombstones-clean = rw st (o .tombstones-clean);
+        pairs-kept = all-each (pairRule (g .b)) (levelAt g ws) (g .h) 1 ∙ rw (levels-held g ws s v f k) (all-of-every (pairRule (g .b)) (s .levels) (every-turn (Tight g) (λ l. pairRule (g .b) l ≡ true) (s .levels) (λ l t. t .pairs) (o .tight)));
+        levels-kept = all-each (λ (l : Level). not (needsCompact (g .b) l)) (levelAt g ws) (g .h) 1 ∙ rw (levels-held g ws s v f k) (all-of-every (λ (l : Level). not (needsCompact (g .b) l)) (s .levels) (every-turn (Tight g) (λ l. not (needsCompact (g .b) l) ≡ true) (s .levels) (λ l t. rw (t .compact)) (o .tight)));
+      }
+
+-- The words of a sound store pass the form check.
+pub formed-back : (g : Geometry) (s : Store) (area : List ℕ) → Valid g → Fits g s → Laid g area s → Sound g s → formed g (storeWords g s area) ≡ true
+formed-back g s area v f d o =
+    clauses-formed g (storeWords g s area) (holds-clauses g (storeWords g s area) s v f o (words-hold g s area v f (d .full) d))
