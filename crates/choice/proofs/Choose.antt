@@ -3,14 +3,16 @@ use Prim.Native.Nat.{ℕ, zero, suc, _+_, _-_, _≤_, _<_}
 use mathlib.Core.Path.{_≡_, refl, sym, ap, _∙_}
 use mathlib.Core.Bool.{Bool, true, false, _&&_}
 use mathlib.Core.List.{List, [], _∷_, _++_, map}
+use native.Mathlib.Numerals.{add-one}
 use native.Mathlib.Omega.{arith}
 use lib.Dec.{leb, ltb}
 use lib.ListN.{length, getD, take, drop, length-map}
-use lib.Seq.{take-suc, length-take-le}
+use lib.Seq.{take-suc, take-all, length-take-le}
 use borrow.Author.Tests.{leb-true, leb-false, ltb-true, ltb-false, le-leb, lt-leb, lt-ltb, le-ltb}
 use Rattle.levels.specs.Basics.{if_then_else_}
 use Rattle.levels.specs.Record.{Block, Level, firstKey, lastKey}
 use Rattle.levels.specs.Choose.{runs, loOf, hiOf, countMeets, overlap, Least, least, leastOf, choose}
+use Rattle.choice.specs.declared.Choice.{Choice}
 use Rattle.choice.specs.Fences.{Fence, fenceOf, fenceAt, fencesFrom, fencesOf, Ordered, Fenced, fenceRuns, lowOf, highOf, countOver, fenceOverlap, overlapsOf, chooseFences, choiceOf, better, countBelow, countAtMost, Rising, firstKeys, lastKeys, stretchOf}
 use Rattle.choice.proofs.Lists.{length-each, each-take, each-drop, map-each, each-getD, map-take, map-of-map, getD-map-in}
 use Rattle.choice.proofs.Count.{count-in, count-out, count-none, rising-weak}
@@ -101,10 +103,10 @@ overlap-is lo hi low (f ∷ fs) o =
         (omega (arith, none-start (omega arith)))
 
 -- the blocks that end below a run are among those that do not start above it
-pub stretch-order : (lo hi low : ℕ) (fs : List Fence) → Ordered low fs → lo ≤ hi → countBelow lo (lastKeys fs) ≤ countAtMost hi (firstKeys fs)
+counts-order : (lo hi low : ℕ) (fs : List Fence) → Ordered low fs → lo ≤ hi → countBelow lo (lastKeys fs) ≤ countAtMost hi (firstKeys fs)
 unfolding countBelow
-stretch-order lo hi low [] o h = omega arith
-stretch-order lo hi low (f ∷ fs) o h = go (ltb (f .last) lo) refl (stretch-order lo hi (suc (f .last)) fs (o .1 .1) h)
+counts-order lo hi low [] o h = omega arith
+counts-order lo hi low (f ∷ fs) o h = go (ltb (f .last) lo) refl (counts-order lo hi (suc (f .last)) fs (o .1 .1) h)
   where
     go : (t : Bool) → ltb (f .last) lo ≡ t → countBelow lo (lastKeys fs) ≤ countAtMost hi (firstKeys fs) → countBelow lo (lastKeys (f ∷ fs)) ≤ countAtMost hi (firstKeys (f ∷ fs))
     go true e ih =
@@ -121,6 +123,16 @@ unfolding lowOf highOf
 run-order low [] o h = absurd (omega arith)
 run-order low (f ∷ []) o h = o .1 .0
 run-order low (f ∷ e ∷ fs) o h = omega (arith, run-order (suc (f .last)) (e ∷ fs) (o .1 .1) (omega arith), o .0, o .1 .0, o .1 .1 .0)
+
+-- the stretch below a run does not end before it starts
+pub stretch-order : (run under : List Fence) → Ordered 0 run → 1 ≤ length run → Ordered 0 under → stretchOf run under .start ≤ stretchOf run under .end
+unfolding stretchOf
+stretch-order run under o h u = counts-order (lowOf run) (highOf run) 0 under u (run-order 0 run o h)
+
+-- the overlap of a run is the length of the stretch below it
+pub overlap-stretch : (run under : List Fence) → Ordered 0 under → fenceOverlap under run ≡ stretchOf run under .end - stretchOf run under .start
+unfolding stretchOf fenceOverlap
+overlap-stretch run under u = overlap-is (lowOf run) (highOf run) 0 under u
 
 ordered-weak : (low high : ℕ) (fs : List Fence) → low ≤ high → Ordered high fs → Ordered low fs
 ordered-weak low high [] h o = tt
@@ -169,6 +181,23 @@ high-at firsts lasts i (suc (suc w)) h =
     let e : i + suc (suc w) - 1 ≡ suc i + suc w - 1 = omega arith in
     rw e (high-at firsts lasts (suc i) (suc w) (omega arith))
 
+pub fenced-firsts : (firsts lasts : List ℕ) (n : ℕ) → Fenced firsts lasts 0 n → (n ≤ length firsts) × Rising 0 (take n firsts)
+fenced-firsts firsts lasts n k =
+    let h : n ≤ length firsts = omega (arith, k .first-room) in
+    (h, rw (first-keys-are firsts lasts n h) at (firsts-rise 0 (fencesOf firsts lasts n) (k .ordered)))
+
+pub fenced-lasts : (firsts lasts : List ℕ) (n : ℕ) → Fenced firsts lasts 0 n → (n ≤ length lasts) × Rising 0 (take n lasts)
+fenced-lasts firsts lasts n k =
+    let h : n ≤ length lasts = omega (arith, k .last-room) in
+    (h, rw (last-keys-are firsts lasts n h) at (lasts-rise 0 (fencesOf firsts lasts n) (k .ordered)))
+
+-- the ends of a stretch, as the two searches find them
+pub stretch-at : (firsts lasts starts ends : List ℕ) (first w n : ℕ) → 1 ≤ w → Fenced starts ends 0 n
+    → stretchOf (fencesFrom firsts lasts first w) (fencesOf starts ends n) ≡ record { start = countBelow (getD firsts first 0) (take n ends); end = countAtMost (getD lasts (first + w - 1) 0) (take n starts) }
+unfolding stretchOf
+stretch-at firsts lasts starts ends first w n p k =
+    rw (low-at firsts lasts first w p, high-at firsts lasts first w p, first-keys-are starts ends n (omega (arith, k .first-room)), last-keys-are starts ends n (omega (arith, k .last-room)))
+
 -- The choice, run by run.
 
 runs-length : (w : ℕ) (fs : List Fence) → 1 ≤ w → length (fenceRuns w fs) ≡ suc (length fs) - w
@@ -196,14 +225,45 @@ unfolding overlapsOf
 overlaps-at w above under i p h =
     getD-map-in (fenceOverlap under) (fenceRuns w above) i [] 0 (omega (arith, runs-length w above p)) ∙ ap (fenceOverlap under) (runs-at w above i p h)
 
--- one number more at the end replaces the least so far only if it is smaller
-least-snoc : (q : ℕ) (qs : List ℕ) (p : ℕ) → choiceOf (least q (qs ++ (p ∷ []))) ≡ better (choiceOf (least q qs)) (suc (length qs)) p
-least-snoc q [] p = go (leb q p) refl
+-- a number before a list, and one behind it that has index n
+abbrev ahead : ℕ → Least → Least
+ahead q r = if leb q (r .value) then record { at = 0; value = q } else record { at = suc (r .at); value = r .value }
+
+abbrev behind : ℕ → ℕ → Least → Least
+behind n p r = if ltb p (r .value) then record { at = n; value = p } else r
+
+ahead-one : (q n p : ℕ) → ahead q (record { at = n; value = p }) ≡ behind (suc n) p (record { at = 0; value = q })
+ahead-one q n p = go (leb q p) refl
   where
-    go : (t : Bool) → leb q p ≡ t → choiceOf (if t then record { at = 0; value = q } else record { at = 1; value = p }) ≡ better (record { first = 0; overlap = q }) 1 p
+    go : (t : Bool) → leb q p ≡ t → (if t then record { at = 0; value = q } else record { at = suc n; value = p }) ≡ behind (suc n) p (record { at = 0; value = q })
     go true e = rw (le-ltb p q (leb-true q p e))
     go false e = rw (lt-ltb p q (leb-false q p e))
-least-snoc q (x ∷ xs) p = ?
+
+ahead-behind : (q n p : ℕ) (r : Least) → ahead q (behind n p r) ≡ behind (suc n) p (ahead q r)
+ahead-behind q n p r = go (ltb p (r .value)) (leb q (r .value)) refl refl
+  where
+    go : (t u : Bool) → ltb p (r .value) ≡ t → leb q (r .value) ≡ u
+        → ahead q (if t then record { at = n; value = p } else r) ≡ behind (suc n) p (if u then record { at = 0; value = q } else record { at = suc (r .at); value = r .value })
+    go true true e d = ahead-one q n p
+    go true false e d =
+        let l = ltb-true p (r .value) e in
+        rw (e, lt-leb q p (omega (arith, leb-false q (r .value) d)))
+    go false true e d =
+        let l = ltb-false p (r .value) e in
+        rw (d, le-ltb p q (omega (arith, leb-true q (r .value) d)))
+    go false false e d = rw (d, e)
+
+-- one number more at the end replaces the least so far only if it is smaller
+least-snoc : (q : ℕ) (qs : List ℕ) (p : ℕ) → least q (qs ++ (p ∷ [])) ≡ behind (suc (length qs)) p (least q qs)
+least-snoc q [] p = ahead-one q 0 p
+least-snoc q (x ∷ xs) p = ap (ahead q) (least-snoc x xs p) ∙ ahead-behind q (suc (length xs)) p (least x xs)
+
+choice-behind : (n p : ℕ) (r : Least) → choiceOf (behind n p r) ≡ better (choiceOf r) n p
+choice-behind n p r = go (ltb p (r .value))
+  where
+    go : (t : Bool) → choiceOf (if t then record { at = n; value = p } else r) ≡ (if t then record { first = n; overlap = p } else choiceOf r)
+    go true = refl
+    go false = refl
 
 -- the least of the first i + 1 numbers, from the least of the first i
 pub choice-more : (qs : List ℕ) (i : ℕ) → 1 ≤ i → i < length qs → choiceOf (leastOf (take (suc i) qs)) ≡ better (choiceOf (leastOf (take i qs))) i (getD qs i 0)
@@ -212,4 +272,41 @@ choice-more (q ∷ qs) zero l h = absurd (omega arith)
 choice-more (q ∷ qs) (suc i) l h =
     let s : take (suc i) qs ≡ take i qs ++ (getD qs i 0 ∷ []) = take-suc qs i 0 (omega arith) in
     let n : length (take i qs) ≡ i = length-take-le i qs (omega arith) in
-    rw s (rw n at (least-snoc q (take i qs) (getD qs i 0)))
+    rw s (ap choiceOf (rw n at (least-snoc q (take i qs) (getD qs i 0))) ∙ choice-behind (suc i) (getD qs i 0) (least q (take i qs)))
+
+-- the choice among the first i runs
+unfoldable pub choiceAmong : ℕ → ℕ → List Fence → List Fence → Choice
+choiceAmong i w above under = choiceOf (leastOf (take i (overlapsOf w above under)))
+
+pub among-first : (w : ℕ) (above under : List Fence) → 1 ≤ w → w ≤ length above → choiceAmong 1 w above under ≡ record { first = 0; overlap = fenceOverlap under (take w above) }
+unfolding choiceAmong
+among-first w above under p h =
+    go (overlapsOf w above under) (omega (arith, overlaps-length w above under p)) ∙ ap (λ (q : ℕ). record { first = 0; overlap = q }) (overlaps-at w above under 0 p (omega arith))
+  where
+    go : (qs : List ℕ) → 0 < length qs → choiceOf (leastOf (take 1 qs)) ≡ record { first = 0; overlap = getD qs 0 0 }
+    go [] l = absurd (omega arith)
+    go (q ∷ qs) l = refl
+
+pub among-more : (i w : ℕ) (above under : List Fence) → 1 ≤ w → 1 ≤ i → i + w ≤ length above
+    → choiceAmong (i + 1) w above under ≡ better (choiceAmong i w above under) i (fenceOverlap under (take w (drop i above)))
+unfolding choiceAmong
+among-more i w above under p l h =
+    rw (add-one i, ← overlaps-at w above under i p h) (choice-more (overlapsOf w above under) i l (omega (arith, overlaps-length w above under p)))
+
+pub among-all : (i w : ℕ) (above under : List Fence) → 1 ≤ w → length above < i + w → choiceAmong i w above under ≡ choiceOf (chooseFences w above under)
+unfolding choiceAmong chooseFences
+among-all i w above under p h = rw (take-all i (overlapsOf w above under) (omega (arith, overlaps-length w above under p)))
+
+-- the same for fences kept as lists of keys
+module _ (firsts lasts starts ends : List ℕ) (a n w : ℕ) (p : 1 ≤ w) where
+  pub choose-first : w ≤ a → choiceAmong 1 w (fencesOf firsts lasts a) (fencesOf starts ends n) ≡ record { first = 0; overlap = fenceOverlap (fencesOf starts ends n) (fencesFrom firsts lasts 0 w) }
+  choose-first h =
+      rw (← each-take (fenceAt firsts lasts) 0 w a h) (among-first w (fencesOf firsts lasts a) (fencesOf starts ends n) p (rw (length-each (fenceAt firsts lasts) 0 a) h))
+
+  pub choose-more : (i : ℕ) → 1 ≤ i → i + w ≤ a
+      → choiceAmong (i + 1) w (fencesOf firsts lasts a) (fencesOf starts ends n) ≡ better (choiceAmong i w (fencesOf firsts lasts a) (fencesOf starts ends n)) i (fenceOverlap (fencesOf starts ends n) (fencesFrom firsts lasts i w))
+  choose-more i l h =
+      rw (← run-from firsts lasts a i w h) (among-more i w (fencesOf firsts lasts a) (fencesOf starts ends n) p l (rw (length-each (fenceAt firsts lasts) 0 a) h))
+
+  pub choose-all : (i : ℕ) → a < i + w → choiceAmong i w (fencesOf firsts lasts a) (fencesOf starts ends n) ≡ choiceOf (chooseFences w (fencesOf firsts lasts a) (fencesOf starts ends n))
+  choose-all i h = among-all i w (fencesOf firsts lasts a) (fencesOf starts ends n) p (rw (length-each (fenceAt firsts lasts) 0 a) h)

@@ -5,7 +5,8 @@ use mathlib.Core.Bool.{Bool, true, false}
 use mathlib.Core.List.{List, [], _∷_}
 use native.Mathlib.Omega.{arith}
 use lib.Dec.{ltb}
-use lib.ListN.{length, getD, drop}
+use lib.ListN.{length, getD, take, drop}
+use lib.Seq.{length-take-le, getD-take}
 use borrow.Author.Tests.{ltb-true, ltb-false, lt-ltb, le-ltb}
 use Rattle.levels.specs.Basics.{if_then_else_}
 use Rattle.choice.specs.Fences.{countBelow, Rising}
@@ -77,3 +78,15 @@ count-drop k low (suc n) (x ∷ xs) r = go (ltb x k) refl (count-drop k (suc x) 
     go false e ih =
         let l = ltb-false x k e in
         rw (count-out k x xs l) (omega (arith, count-none k (suc x) xs (r .1) (omega arith)))
+
+-- a step of the search among the first n entries
+module _ (k n : ℕ) (xs : List ℕ) (h : n ≤ length xs) (r : Rising 0 (take n xs)) (i : ℕ) (l : i < n) where
+  pub search-past : getD xs i 0 < k → suc i ≤ countBelow k (take n xs)
+  search-past p = count-past k 0 (take n xs) i r (omega (arith, length-take-le n xs h)) (rw (getD-take n xs i 0 l) p)
+
+  pub search-stop : k ≤ getD xs i 0 → countBelow k (take n xs) ≤ i
+  search-stop p = count-stop k 0 (take n xs) i r (omega (arith, length-take-le n xs h)) (rw (getD-take n xs i 0 l) p)
+
+-- where a search of the first n entries ends at the latest
+pub search-room : (k n : ℕ) (xs : List ℕ) → n ≤ length xs → countBelow k (take n xs) ≤ n
+search-room k n xs h = omega (arith, count-high k (take n xs), length-take-le n xs h)

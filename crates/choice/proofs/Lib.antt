@@ -1,3 +1,4 @@
 pub mod Lists
 pub mod Count
 pub mod Choose
+pub mod Cut
