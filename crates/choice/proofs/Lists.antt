@@ -62,6 +62,9 @@ fill-more f i xs h =
     rw (drop-cons xs i 0 h, set-at (each f 0 i) (getD xs i 0) (drop (suc i) xs) (f i) i (length-each f 0 i))
     (sym (ap (λ r. r ++ drop (suc i) xs) (each-more f i) ∙ append-snoc (each f 0 i) (f i) (drop (suc i) xs)))
 
+pub fill-step : (f : ℕ → ℕ) (i : ℕ) (xs ys : List ℕ) (v : ℕ) → i < length xs → ys ≡ fill f i xs → v ≡ f i → set ys i v ≡ fill f (i + 1) xs
+fill-step f i xs ys v h e d = rw (e, d, add-one i) (fill-more f i xs h)
+
 pub fill-none : (f : ℕ → ℕ) (xs : List ℕ) → fill f 0 xs ≡ xs
 unfolding fill
 fill-none f xs = refl

@@ -1,3 +1,11 @@
+use Prim.Native.Nat.{ℕ, _≤_, _<_, _+_, _-_}
+use mathlib.Core.Path.{_≡_, refl, sym, ap}
+use native.Mathlib.Omega.{arith}
+use lib.ListN.{length, length-set}
+use borrow.Author.Needs.{needs}
+use Rattle.choice.specs.Fences.{Fence, fill, listedFence}
+use Rattle.choice.proofs.Lists.{fill-none, fill-step}
+use Rattle.choice.proofs.Words.{listed-words, place-room}
 use Rattle.choice.proofs.fence_blocks.Statement.{statement}
 use Rattle.choice.proofs.fence_blocks.Tie as tie
 use Rattle.choice.proofs.fence_blocks.Reads as reads
@@ -5,110 +13,91 @@ use Rattle.choice.proofs.fence_blocks.Lts as lts
 use Rattle.geometry.proofs.Geometry.place_start.Reads as place-start-reads
 
 abbrev Inv-loop : tie.InvT-loop
-Inv-loop s g list n firsts₀ lasts₀ i₀ firsts lasts i = ?
+Inv-loop s g list n firsts₀ lasts₀ i₀ firsts lasts i = (i ≤ n) × ((length firsts ≡ length firsts₀) × ((length lasts ≡ length lasts₀) × ((firsts ≡ fill (λ j. listedFence g s list j .first) i firsts₀) × (lasts ≡ fill (λ j. listedFence g s list j .last) i lasts₀))))
 
 abbrev μ-loop : tie.MeasureT-loop
-μ-loop s g list n firsts₀ lasts₀ i₀ firsts lasts i = ?
+μ-loop s g list n firsts₀ lasts₀ i₀ firsts lasts i = n - i
 
--- src/lib.rt:112:5
 loop-holds : tie.Need-loop-holds Inv-loop μ-loop
-loop-holds c = ?
+loop-holds c = (omega arith, (refl, (refl, (sym (fill-none _ _), sym (fill-none _ _)))))
 
--- src/lib.rt:113:21
 mul-place : tie.Need-mul-place Inv-loop μ-loop
-mul-place c = ?
+mul-place c = search needs
 
--- src/lib.rt:113:21
 shared-slice-read-place : tie.Need-shared-slice-read-place Inv-loop μ-loop
-shared-slice-read-place c = ?
+shared-slice-read-place c = search needs
 
--- src/lib.rt:113:21
 cast-place : tie.Need-cast-place Inv-loop μ-loop
-cast-place c = ?
+cast-place c = omega (arith, c .shared-slice-known3 .given (c .before .before .loop .i))
 
--- src/lib.rt:114:13
 place-start-requires : tie.Need-place-start-requires Inv-loop μ-loop
-place-start-requires c κs = ?
+place-start-requires c κs = (c .before .before .before .before .before .before .before .pre .0 .ranged, omega (arith, c .before .before .before .before .before .before .before .pre .0 .places-high, c .before .before .before .before .before .before .before .pre .1 .1 .1 .1 .1 _ (c .before .loop-test .taken) .inside))
 
--- src/lib.rt:115:21
 mul-count : tie.Need-mul-count Inv-loop μ-loop
-mul-count c = ?
+mul-count c = omega (arith, place-room _ _ _ _ (c .place-start .ensures) (c .before .before .before .before .before .before .before .before .pre .1 .1 .1 .1 .1 _ (c .before .before .loop-test .taken)) (c .before .before .before .before .before .before .before .before .pre .1 .0))
 
--- src/lib.rt:115:21
 shared-slice-read-count : tie.Need-shared-slice-read-count Inv-loop μ-loop
-shared-slice-read-count c = ?
+shared-slice-read-count c = omega (arith, place-room _ _ _ _ (c .before .place-start .ensures) (c .before .before .before .before .before .before .before .before .before .pre .1 .1 .1 .1 .1 _ (c .before .before .before .loop-test .taken)) (c .before .before .before .before .before .before .before .before .before .pre .1 .0))
 
--- src/lib.rt:115:21
 cast-count : tie.Need-cast-count Inv-loop μ-loop
-cast-count c = ?
+cast-count c = omega (arith, c .shared-slice-known4 .given (c .before .place-start .result))
 
--- src/lib.rt:116:23
 add-firsts : tie.Need-add-firsts Inv-loop μ-loop
-add-firsts c = ?
+add-firsts c = omega (arith, place-room _ _ _ _ (c .before .place-start .ensures) (c .before .before .before .before .before .before .before .before .before .pre .1 .1 .1 .1 .1 _ (c .before .before .before .loop-test .taken)) (c .before .before .before .before .before .before .before .before .before .pre .1 .0))
 
--- src/lib.rt:116:21
 mul-firsts : tie.Need-mul-firsts Inv-loop μ-loop
-mul-firsts c = ?
+mul-firsts c = omega (arith, place-room _ _ _ _ (c .before .place-start .ensures) (c .before .before .before .before .before .before .before .before .before .pre .1 .1 .1 .1 .1 _ (c .before .before .before .loop-test .taken)) (c .before .before .before .before .before .before .before .before .before .pre .1 .0))
 
--- src/lib.rt:116:21
 shared-slice-read-firsts : tie.Need-shared-slice-read-firsts Inv-loop μ-loop
-shared-slice-read-firsts c = ?
+shared-slice-read-firsts c = omega (arith, place-room _ _ _ _ (c .before .before .place-start .ensures) (c .before .before .before .before .before .before .before .before .before .before .pre .1 .1 .1 .1 .1 _ (c .before .before .before .before .loop-test .taken)) (c .before .before .before .before .before .before .before .before .before .before .pre .1 .0))
 
--- src/lib.rt:116:9
 mul-firsts-2 : tie.Need-mul-firsts-2 Inv-loop μ-loop
-mul-firsts-2 c = ?
+mul-firsts-2 c = search needs
 
--- src/lib.rt:116:9
 slice-write-firsts : tie.Need-slice-write-firsts Inv-loop μ-loop
-slice-write-firsts c = ?
+slice-write-firsts c = search needs
 
--- src/lib.rt:117:22
 add-lasts : tie.Need-add-lasts Inv-loop μ-loop
-add-lasts c = ?
+add-lasts c = omega (arith, place-room _ _ _ _ (c .before .before .place-start .ensures) (c .before .before .before .before .before .before .before .before .before .before .pre .1 .1 .1 .1 .1 _ (c .before .before .before .before .loop-test .taken)) (c .before .before .before .before .before .before .before .before .before .before .pre .1 .0))
 
--- src/lib.rt:117:22
 add-lasts-2 : tie.Need-add-lasts-2 Inv-loop μ-loop
-add-lasts-2 c = ?
+add-lasts-2 c = omega (arith, place-room _ _ _ _ (c .before .before .place-start .ensures) (c .before .before .before .before .before .before .before .before .before .before .pre .1 .1 .1 .1 .1 _ (c .before .before .before .before .loop-test .taken)) (c .before .before .before .before .before .before .before .before .before .before .pre .1 .0))
 
--- src/lib.rt:117:20
 mul-lasts : tie.Need-mul-lasts Inv-loop μ-loop
-mul-lasts c = ?
+mul-lasts c = omega (arith, place-room _ _ _ _ (c .before .before .place-start .ensures) (c .before .before .before .before .before .before .before .before .before .before .pre .1 .1 .1 .1 .1 _ (c .before .before .before .before .loop-test .taken)) (c .before .before .before .before .before .before .before .before .before .before .pre .1 .0))
 
--- src/lib.rt:117:20
 shared-slice-read-lasts : tie.Need-shared-slice-read-lasts Inv-loop μ-loop
-shared-slice-read-lasts c = ?
+shared-slice-read-lasts c = omega (arith, place-room _ _ _ _ (c .before .before .before .place-start .ensures) (c .before .before .before .before .before .before .before .before .before .before .before .pre .1 .1 .1 .1 .1 _ (c .before .before .before .before .before .loop-test .taken)) (c .before .before .before .before .before .before .before .before .before .before .before .pre .1 .0))
 
--- src/lib.rt:117:9
 mul-lasts-2 : tie.Need-mul-lasts-2 Inv-loop μ-loop
-mul-lasts-2 c = ?
+mul-lasts-2 c = search needs
 
--- src/lib.rt:117:9
 slice-write-lasts : tie.Need-slice-write-lasts Inv-loop μ-loop
-slice-write-lasts c = ?
+slice-write-lasts c = search needs
 
--- src/lib.rt:112:9
 add-i : tie.Need-add-i Inv-loop μ-loop
-add-i c = ?
+add-i c = search needs
 
--- src/lib.rt:112:5
 loop-less : tie.Need-loop-less Inv-loop μ-loop
-loop-less c = ?
+loop-less c = search needs
 
--- src/lib.rt:112:5
 loop-again : tie.Need-loop-again Inv-loop μ-loop
-loop-again c = ?
+loop-again c =
+    let l = c .before .before .before .before .before .before .loop in
+    let e = listed-words (c .before .before .before .before .before .before .before .before .before .before .before .args .g) (c .before .before .before .before .before .before .before .before .before .before .before .args .s .now) (c .before .before .before .before .before .before .before .before .before .before .before .args .list .now) (l .i) (c .before .before .before .before .before .before .before .before .before .before .before .pre .1 .1 .1 .1 .1 _ (c .before .before .before .before .before .loop-test .taken)) in
+    (omega arith, (simp length-set (l .inv .1 .0), (simp length-set (l .inv .1 .1 .0), (fill-step _ _ _ _ _ (omega arith) (l .inv .1 .1 .1 .0) (rw (c .before .before .before .place-start .ensures) (sym (ap (λ (f : Fence). f .first) e))), fill-step _ _ _ _ _ (omega arith) (l .inv .1 .1 .1 .1) (rw (c .before .before .before .place-start .ensures) (sym (ap (λ (f : Fence). f .last) e)))))))
 
--- src/lib.rt:108:1
 same-length : tie.Need-same-length Inv-loop μ-loop
-same-length c = ?
+same-length c = omega arith
 
--- src/lib.rt:108:1
 same-length-2 : tie.Need-same-length-2 Inv-loop μ-loop
-same-length-2 c = ?
+same-length-2 c = omega arith
 
--- src/lib.rt:108:1
 returns : tie.Need-returns Inv-loop μ-loop
-returns c = ?
+returns c =
+    let l = c .before .loop in
+    let e : l .i ≡ c .before .before .before .before .before .before .args .n = omega arith in
+    (rw e at (l .inv .1 .1 .1 .0), rw e at (l .inv .1 .1 .1 .1))
 
 pub fence-blocks-spec : {M : Type 1} → statement M
 fence-blocks-spec =
