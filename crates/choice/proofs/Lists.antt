@@ -65,6 +65,10 @@ fill-more f i xs h =
 pub fill-step : (f : ℕ → ℕ) (i : ℕ) (xs ys : List ℕ) (v : ℕ) → i < length xs → ys ≡ fill f i xs → v ≡ f i → set ys i v ≡ fill f (i + 1) xs
 fill-step f i xs ys v h e d = rw (e, d, add-one i) (fill-more f i xs h)
 
+pub fill-same : (f h : ℕ → ℕ) (n : ℕ) (xs : List ℕ) → ((j : ℕ) → j < n → f j ≡ h j) → fill f n xs ≡ fill h n xs
+unfolding fill
+fill-same f h n xs e = rw (each-same f h 0 n (λ j l. e j (omega arith)))
+
 pub fill-none : (f : ℕ → ℕ) (xs : List ℕ) → fill f 0 xs ≡ xs
 unfolding fill
 fill-none f xs = refl

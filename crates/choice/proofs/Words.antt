@@ -15,7 +15,7 @@ use Rattle.geometry.proofs.Laws.{keys-end, pays-end, list-inside, places-first,
 use Rattle.levels.specs.Record.{Rec, Block, Level, firstKey, lastKey, new, pack, pages}
 use Rattle.words.specs.Layout.{word, each, keysOf, slotsAt, pageSlots, topSlots, topRecs, topCountAt, blockSlots, blockAt, recordCount}
 use Rattle.choice.specs.Fences.{Fence, fenceOf, fencesOf, fill, listedFence, pageFence, Readable}
-use Rattle.choice.proofs.Lists.{length-each, each-add, each-take, each-drop, getD-each, map-take, map-drop}
+use Rattle.choice.proofs.Lists.{length-each, each-add, each-take, each-drop, getD-each, map-take, map-drop, fill-same}
 
 map-append : {A B : Type 0} (f : A → B) (xs ys : List A) → map f (xs ++ ys) ≡ map f xs ++ map f ys
 map-append f [] ys = refl
@@ -140,3 +140,24 @@ place-room g ws place at e k l =
     let n : word ws at ≤ g .b = rw e (k .fits) in
     let m : 1 ≤ word ws at = rw e (k .filled) in
     (omega (arith, place-word-inside g {j = 2} (k .inside) (omega arith)), omega (arith, place-word-inside g {j = 1 + word ws at} (k .inside) (omega arith)))
+
+-- the keys of a full page lie in the store
+pub page-room : (g : Geometry) (ws : List ℕ) (n i keys b : ℕ) → keys ≡ keysStart g → b ≡ g .b → Valid g → length ws ≡ storeLength g
+    → n * g .b ≤ topCountAt ws → topCountAt ws ≤ topCapacityOf g → i < n → (1 ≤ b) × (keys + i * b + b ≤ length ws)
+page-room g ws n i keys b e d v l h m k =
+    let r = v .ranged .b-low in
+    let w : suc i * g .b ≤ n * g .b = mul-le-mul-right (g .b) k in
+    rw (e, d) (omega arith, omega (arith, keys-inside g v (i * g .b + g .b - 1) (omega arith)))
+
+-- what is read for n full pages is their fences
+module _ (g : Geometry) (ws xs : List ℕ) (n keys b : ℕ) (e : keys ≡ keysStart g) (d : b ≡ g .b) (v : Valid g) (h : n * g .b ≤ topCountAt ws) (l : topCountAt ws ≤ topCapacityOf g) where
+  page : (j : ℕ) → j < n → pageFence g ws j ≡ record { first = word ws (keys + j * b); last = word ws (keys + j * b + b - 1) }
+  page j k =
+      let w : suc j * g .b ≤ n * g .b = mul-le-mul-right (g .b) k in
+      rw (e, d) (page-words g ws j (omega (arith, v .ranged .b-low)) (omega arith) l)
+
+  pub pages-firsts : fill (λ j. word ws (keys + j * b)) n xs ≡ fill (λ j. pageFence g ws j .first) n xs
+  pages-firsts = fill-same _ _ n xs (λ j k. sym (ap (λ (f : Fence). f .first) (page j k)))
+
+  pub pages-lasts : fill (λ j. word ws (keys + j * b + b - 1)) n xs ≡ fill (λ j. pageFence g ws j .last) n xs
+  pages-lasts = fill-same _ _ n xs (λ j k. sym (ap (λ (f : Fence). f .last) (page j k)))

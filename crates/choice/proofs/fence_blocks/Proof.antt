@@ -3,6 +3,7 @@ use mathlib.Core.Path.{_≡_, refl, sym, ap}
 use native.Mathlib.Omega.{arith}
 use lib.ListN.{length, length-set}
 use borrow.Author.Needs.{needs}
+use Rattle.words.specs.Layout.{word}
 use Rattle.choice.specs.Fences.{Fence, fill, listedFence}
 use Rattle.choice.proofs.Lists.{fill-none, fill-step}
 use Rattle.choice.proofs.Words.{listed-words, place-room}
@@ -17,6 +18,12 @@ Inv-loop s g list n firsts₀ lasts₀ i₀ firsts lasts i = (i ≤ n) × ((leng
 
 abbrev μ-loop : tie.MeasureT-loop
 μ-loop s g list n firsts₀ lasts₀ i₀ firsts lasts i = n - i
+
+-- the words that are read of the place lie in the store
+room : (c : tie.After-place-start Inv-loop μ-loop)
+    → (c .place-start .result + 2 < length (c .before .before .before .before .before .before .before .before .args .s .now))
+      × (c .place-start .result + 1 + word (c .before .before .before .before .before .before .before .before .args .s .now) (c .place-start .result) < length (c .before .before .before .before .before .before .before .before .args .s .now))
+room c = place-room _ _ _ _ (c .place-start .ensures) (c .before .before .before .before .before .before .before .before .pre .1 .1 .1 .1 .1 _ (c .before .before .loop-test .taken)) (c .before .before .before .before .before .before .before .before .pre .1 .0)
 
 loop-holds : tie.Need-loop-holds Inv-loop μ-loop
 loop-holds c = (omega arith, (refl, (refl, (sym (fill-none _ _), sym (fill-none _ _)))))
@@ -34,22 +41,22 @@ place-start-requires : tie.Need-place-start-requires Inv-loop μ-loop
 place-start-requires c κs = (c .before .before .before .before .before .before .before .pre .0 .ranged, omega (arith, c .before .before .before .before .before .before .before .pre .0 .places-high, c .before .before .before .before .before .before .before .pre .1 .1 .1 .1 .1 _ (c .before .loop-test .taken) .inside))
 
 mul-count : tie.Need-mul-count Inv-loop μ-loop
-mul-count c = omega (arith, place-room _ _ _ _ (c .place-start .ensures) (c .before .before .before .before .before .before .before .before .pre .1 .1 .1 .1 .1 _ (c .before .before .loop-test .taken)) (c .before .before .before .before .before .before .before .before .pre .1 .0))
+mul-count c = omega (arith, room c)
 
 shared-slice-read-count : tie.Need-shared-slice-read-count Inv-loop μ-loop
-shared-slice-read-count c = omega (arith, place-room _ _ _ _ (c .before .place-start .ensures) (c .before .before .before .before .before .before .before .before .before .pre .1 .1 .1 .1 .1 _ (c .before .before .before .loop-test .taken)) (c .before .before .before .before .before .before .before .before .before .pre .1 .0))
+shared-slice-read-count c = omega (arith, room (c .before))
 
 cast-count : tie.Need-cast-count Inv-loop μ-loop
 cast-count c = omega (arith, c .shared-slice-known4 .given (c .before .place-start .result))
 
 add-firsts : tie.Need-add-firsts Inv-loop μ-loop
-add-firsts c = omega (arith, place-room _ _ _ _ (c .before .place-start .ensures) (c .before .before .before .before .before .before .before .before .before .pre .1 .1 .1 .1 .1 _ (c .before .before .before .loop-test .taken)) (c .before .before .before .before .before .before .before .before .before .pre .1 .0))
+add-firsts c = omega (arith, room (c .before))
 
 mul-firsts : tie.Need-mul-firsts Inv-loop μ-loop
-mul-firsts c = omega (arith, place-room _ _ _ _ (c .before .place-start .ensures) (c .before .before .before .before .before .before .before .before .before .pre .1 .1 .1 .1 .1 _ (c .before .before .before .loop-test .taken)) (c .before .before .before .before .before .before .before .before .before .pre .1 .0))
+mul-firsts c = omega (arith, room (c .before))
 
 shared-slice-read-firsts : tie.Need-shared-slice-read-firsts Inv-loop μ-loop
-shared-slice-read-firsts c = omega (arith, place-room _ _ _ _ (c .before .before .place-start .ensures) (c .before .before .before .before .before .before .before .before .before .before .pre .1 .1 .1 .1 .1 _ (c .before .before .before .before .loop-test .taken)) (c .before .before .before .before .before .before .before .before .before .before .pre .1 .0))
+shared-slice-read-firsts c = omega (arith, room (c .before .before))
 
 mul-firsts-2 : tie.Need-mul-firsts-2 Inv-loop μ-loop
 mul-firsts-2 c = search needs
@@ -58,16 +65,16 @@ slice-write-firsts : tie.Need-slice-write-firsts Inv-loop μ-loop
 slice-write-firsts c = search needs
 
 add-lasts : tie.Need-add-lasts Inv-loop μ-loop
-add-lasts c = omega (arith, place-room _ _ _ _ (c .before .before .place-start .ensures) (c .before .before .before .before .before .before .before .before .before .before .pre .1 .1 .1 .1 .1 _ (c .before .before .before .before .loop-test .taken)) (c .before .before .before .before .before .before .before .before .before .before .pre .1 .0))
+add-lasts c = omega (arith, room (c .before .before))
 
 add-lasts-2 : tie.Need-add-lasts-2 Inv-loop μ-loop
-add-lasts-2 c = omega (arith, place-room _ _ _ _ (c .before .before .place-start .ensures) (c .before .before .before .before .before .before .before .before .before .before .pre .1 .1 .1 .1 .1 _ (c .before .before .before .before .loop-test .taken)) (c .before .before .before .before .before .before .before .before .before .before .pre .1 .0))
+add-lasts-2 c = omega (arith, room (c .before .before))
 
 mul-lasts : tie.Need-mul-lasts Inv-loop μ-loop
-mul-lasts c = omega (arith, place-room _ _ _ _ (c .before .before .place-start .ensures) (c .before .before .before .before .before .before .before .before .before .before .pre .1 .1 .1 .1 .1 _ (c .before .before .before .before .loop-test .taken)) (c .before .before .before .before .before .before .before .before .before .before .pre .1 .0))
+mul-lasts c = omega (arith, room (c .before .before))
 
 shared-slice-read-lasts : tie.Need-shared-slice-read-lasts Inv-loop μ-loop
-shared-slice-read-lasts c = omega (arith, place-room _ _ _ _ (c .before .before .before .place-start .ensures) (c .before .before .before .before .before .before .before .before .before .before .before .pre .1 .1 .1 .1 .1 _ (c .before .before .before .before .before .loop-test .taken)) (c .before .before .before .before .before .before .before .before .before .before .before .pre .1 .0))
+shared-slice-read-lasts c = omega (arith, room (c .before .before .before))
 
 mul-lasts-2 : tie.Need-mul-lasts-2 Inv-loop μ-loop
 mul-lasts-2 c = search needs

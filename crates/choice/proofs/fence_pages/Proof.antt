@@ -1,3 +1,12 @@
+use Prim.Native.Nat.{ℕ, _≤_, _<_, _+_, _-_, _*_}
+use mathlib.Core.Path.{_≡_, refl, sym, ap, _∙_}
+use native.Mathlib.Omega.{arith}
+use lib.ListN.{length, length-set}
+use borrow.Author.Needs.{needs}
+use Rattle.words.specs.Layout.{word}
+use Rattle.choice.specs.Fences.{fill}
+use Rattle.choice.proofs.Lists.{fill-none, fill-step}
+use Rattle.choice.proofs.Words.{page-room, pages-firsts, pages-lasts}
 use Rattle.choice.proofs.fence_pages.Statement.{statement}
 use Rattle.choice.proofs.fence_pages.Tie as tie
 use Rattle.choice.proofs.fence_pages.Reads as reads
@@ -6,94 +15,89 @@ use Rattle.geometry.proofs.Geometry.block_records.Reads as block-records-reads
 use Rattle.geometry.proofs.Geometry.keys_start.Reads as keys-start-reads
 
 abbrev Inv-loop : tie.InvT-loop
-Inv-loop s n firsts₀ lasts₀ keys b i₀ firsts lasts i = ?
+Inv-loop s n firsts₀ lasts₀ keys b i₀ firsts lasts i = (i ≤ n) × ((length firsts ≡ length firsts₀) × ((length lasts ≡ length lasts₀) × ((firsts ≡ fill (λ j. word s (keys + j * b)) i firsts₀) × (lasts ≡ fill (λ j. word s (keys + j * b + b - 1)) i lasts₀))))
 
 abbrev μ-loop : tie.MeasureT-loop
-μ-loop s n firsts₀ lasts₀ keys b i₀ firsts lasts i = ?
+μ-loop s n firsts₀ lasts₀ keys b i₀ firsts lasts i = n - i
 
--- src/lib.rt:126:9
+-- the keys of the page lie in the store
+room : (c : tie.In-loop Inv-loop μ-loop)
+    → (1 ≤ c .before .before .block-records .result)
+      × (c .before .before .before .keys-start .result + c .before .loop .i * c .before .before .block-records .result + c .before .before .block-records .result ≤ length (c .before .before .before .before .before .before .before .args .s .now))
+room c =
+    let p = c .before .before .before .before .before .before .before .pre in
+    page-room (c .before .before .before .before .before .before .before .args .g) (c .before .before .before .before .before .before .before .args .s .now) (c .before .before .before .before .before .before .before .args .n) _ _ _ (c .before .before .before .keys-start .ensures) (c .before .before .block-records .ensures) (p .0) (p .1 .0) (p .1 .1 .0) (p .1 .1 .1 .0) (c .loop-test .taken)
+
 keys-start-requires : tie.Need-keys-start-requires Inv-loop μ-loop
-keys-start-requires c κs = ?
+keys-start-requires c κs = c .before .before .before .pre .0 .ranged
 
--- src/lib.rt:127:9
 block-records-requires : tie.Need-block-records-requires Inv-loop μ-loop
-block-records-requires c κs = ?
+block-records-requires c κs = search needs
 
--- src/lib.rt:128:5
 loop-holds : tie.Need-loop-holds Inv-loop μ-loop
-loop-holds c = ?
+loop-holds c = (omega arith, (refl, (refl, (sym (fill-none _ _), sym (fill-none _ _)))))
 
--- src/lib.rt:129:25
 mul-at : tie.Need-mul-at Inv-loop μ-loop
-mul-at c = ?
+mul-at c = omega (arith, room c)
 
--- src/lib.rt:129:18
 add-at : tie.Need-add-at Inv-loop μ-loop
-add-at c = ?
+add-at c = omega (arith, room c)
 
--- src/lib.rt:130:21
 mul-firsts : tie.Need-mul-firsts Inv-loop μ-loop
-mul-firsts c = ?
+mul-firsts c = omega (arith, room c)
 
--- src/lib.rt:130:21
 shared-slice-read-firsts : tie.Need-shared-slice-read-firsts Inv-loop μ-loop
-shared-slice-read-firsts c = ?
+shared-slice-read-firsts c = omega (arith, room (c .before))
 
--- src/lib.rt:130:9
 mul-firsts-2 : tie.Need-mul-firsts-2 Inv-loop μ-loop
-mul-firsts-2 c = ?
+mul-firsts-2 c = search needs
 
--- src/lib.rt:130:9
 slice-write-firsts : tie.Need-slice-write-firsts Inv-loop μ-loop
-slice-write-firsts c = ?
+slice-write-firsts c = search needs
 
--- src/lib.rt:131:22
 add-lasts : tie.Need-add-lasts Inv-loop μ-loop
-add-lasts c = ?
+add-lasts c = omega (arith, room (c .before))
 
--- src/lib.rt:131:22
 sub-lasts : tie.Need-sub-lasts Inv-loop μ-loop
-sub-lasts c = ?
+sub-lasts c = omega (arith, room (c .before))
 
--- src/lib.rt:131:20
 mul-lasts : tie.Need-mul-lasts Inv-loop μ-loop
-mul-lasts c = ?
+mul-lasts c = omega (arith, room (c .before))
 
--- src/lib.rt:131:20
 shared-slice-read-lasts : tie.Need-shared-slice-read-lasts Inv-loop μ-loop
-shared-slice-read-lasts c = ?
+shared-slice-read-lasts c = omega (arith, room (c .before .before))
 
--- src/lib.rt:131:9
 mul-lasts-2 : tie.Need-mul-lasts-2 Inv-loop μ-loop
-mul-lasts-2 c = ?
+mul-lasts-2 c = search needs
 
--- src/lib.rt:131:9
 slice-write-lasts : tie.Need-slice-write-lasts Inv-loop μ-loop
-slice-write-lasts c = ?
+slice-write-lasts c = search needs
 
--- src/lib.rt:128:9
 add-i : tie.Need-add-i Inv-loop μ-loop
-add-i c = ?
+add-i c = search needs
 
--- src/lib.rt:128:5
 loop-less : tie.Need-loop-less Inv-loop μ-loop
-loop-less c = ?
+loop-less c = search needs
 
--- src/lib.rt:128:5
 loop-again : tie.Need-loop-again Inv-loop μ-loop
-loop-again c = ?
+loop-again c =
+    let l = c .before .before .before .loop in
+    (omega arith, (simp length-set (l .inv .1 .0), (simp length-set (l .inv .1 .1 .0), (fill-step _ _ _ _ _ (omega arith) (l .inv .1 .1 .1 .0) refl, fill-step _ _ _ _ _ (omega arith) (l .inv .1 .1 .1 .1) refl))))
 
--- src/lib.rt:122:1
 same-length : tie.Need-same-length Inv-loop μ-loop
-same-length c = ?
+same-length c = omega arith
 
--- src/lib.rt:122:1
 same-length-2 : tie.Need-same-length-2 Inv-loop μ-loop
-same-length-2 c = ?
+same-length-2 c = omega arith
 
--- src/lib.rt:122:1
 returns : tie.Need-returns Inv-loop μ-loop
-returns c = ?
+returns c =
+    let l = c .before .loop in
+    let a = c .before .before .before .before .before .before .before .args in
+    let p = c .before .before .before .before .before .before .before .pre in
+    let e : l .i ≡ a .n = omega arith in
+    (rw e at (l .inv .1 .1 .1 .0) ∙ pages-firsts (a .g) (a .s .now) _ (a .n) _ _ (c .before .before .before .keys-start .ensures) (c .before .before .block-records .ensures) (p .0) (p .1 .1 .0) (p .1 .1 .1 .0),
+     rw e at (l .inv .1 .1 .1 .1) ∙ pages-lasts (a .g) (a .s .now) _ (a .n) _ _ (c .before .before .before .keys-start .ensures) (c .before .before .block-records .ensures) (p .0) (p .1 .1 .0) (p .1 .1 .1 .0))
 
 pub fence-pages-spec : {M : Type 1} → statement M
 fence-pages-spec =
