@@ -1,7 +1,7 @@
 -- The choice of a run by fences is the choice by blocks, and what the code counts is what the choice asks for.
 use Prim.Native.Nat.{ℕ, zero, suc, _+_, _-_, _≤_, _<_}
 use mathlib.Core.Path.{_≡_, refl, sym, ap, _∙_}
-use mathlib.Core.Bool.{Bool, true, false, _&&_}
+use mathlib.Core.Bool.{Bool, true, false, _&&_, and-eq-true-iff}
 use mathlib.Core.List.{List, [], _∷_, _++_, map}
 use native.Mathlib.Numerals.{add-one}
 use native.Mathlib.Omega.{arith}
@@ -10,7 +10,7 @@ use lib.ListN.{length, getD, take, drop, length-map}
 use lib.Seq.{take-suc, take-all, length-take-le}
 use borrow.Author.Tests.{leb-true, leb-false, ltb-true, ltb-false, le-leb, lt-leb, lt-ltb, le-ltb}
 use Rattle.levels.specs.Basics.{if_then_else_}
-use Rattle.levels.specs.Record.{Block, Level, firstKey, lastKey}
+use Rattle.levels.specs.Record.{Rec, Block, Level, size, records, rising, firstKey, lastKey}
 use Rattle.levels.specs.Choose.{runs, loOf, hiOf, countMeets, overlap, Least, least, leastOf, choose}
 use Rattle.choice.specs.declared.Choice.{Choice}
 use Rattle.choice.specs.Fences.{Fence, fenceOf, fenceAt, fencesFrom, fencesOf, Ordered, Fenced, fenceRuns, lowOf, highOf, countOver, fenceOverlap, overlapsOf, chooseFences, choiceOf, better, countBelow, countAtMost, Rising, firstKeys, lastKeys, stretchOf}
@@ -56,6 +56,28 @@ choose-fences w above under =
     rw (runs-fences w above, map-of-map (fenceOverlap (map fenceOf under)) (map fenceOf) (overlap under) (overlap-fences under) (runs w above))
 
 -- Blocks in key order.
+
+-- every block has a record
+abbrev pub Filled : Level → Type 0
+Filled [] = Unit {0}
+Filled (b ∷ bs) = (1 ≤ size b) × Filled bs
+
+block-range : (low : ℕ) (rs ys : List Rec) → 1 ≤ length rs → rising low (rs ++ ys) ≡ true → (low ≤ firstKey rs) × ((firstKey rs ≤ lastKey rs) × (rising (suc (lastKey rs)) ys ≡ true))
+block-range low [] ys h e = absurd (omega arith)
+block-range low (r ∷ []) ys h e =
+    let k = simp and-eq-true-iff at e in
+    (leb-true low (r .key) (k .0), (omega arith, k .1))
+block-range low (r ∷ s ∷ rs) ys h e =
+    let k : (leb low (r .key) ≡ true) × (rising (suc (r .key)) ((s ∷ rs) ++ ys) ≡ true) = and-eq-true-iff _ _ .0 e in
+    let ih = block-range (suc (r .key)) (s ∷ rs) ys (omega arith) (k .1) in
+    (leb-true low (r .key) (k .0), (omega (arith, ih .0, ih .1 .0), ih .1 .1))
+
+-- a level whose keys rise has its blocks in key order
+pub level-ordered : (low : ℕ) (l : Level) → Filled l → rising low (records l) ≡ true → Ordered low (map fenceOf l)
+level-ordered low [] f e = tt
+level-ordered low (b ∷ bs) f e =
+    let r = block-range low (b .recs) (records bs) (f .0) e in
+    (r .0, (r .1 .0, level-ordered (suc (lastKey (b .recs))) bs (f .1) (r .1 .1)))
 
 pub lasts-rise : (low : ℕ) (fs : List Fence) → Ordered low fs → Rising low (lastKeys fs)
 lasts-rise low [] o = tt
@@ -163,10 +185,10 @@ fenced-run firsts lasts a i w k h = record {
 }
 
 pub first-keys-are : (firsts lasts : List ℕ) (n : ℕ) → n ≤ length firsts → firstKeys (fencesOf firsts lasts n) ≡ take n firsts
-first-keys-are firsts lasts n h = map-each (λ (f : Fence). f .first) (fenceAt firsts lasts) 0 n ∙ each-getD firsts n h
+first-keys-are firsts lasts n h = map-each (λ (f : Fence). f .first) (fenceAt firsts lasts) 0 n ∙ each-getD 0 firsts n h
 
 pub last-keys-are : (firsts lasts : List ℕ) (n : ℕ) → n ≤ length lasts → lastKeys (fencesOf firsts lasts n) ≡ take n lasts
-last-keys-are firsts lasts n h = map-each (λ (f : Fence). f .last) (fenceAt firsts lasts) 0 n ∙ each-getD lasts n h
+last-keys-are firsts lasts n h = map-each (λ (f : Fence). f .last) (fenceAt firsts lasts) 0 n ∙ each-getD 0 lasts n h
 
 pub low-at : (firsts lasts : List ℕ) (i w : ℕ) → 1 ≤ w → lowOf (fencesFrom firsts lasts i w) ≡ getD firsts i 0
 unfolding lowOf

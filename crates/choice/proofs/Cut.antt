@@ -99,7 +99,7 @@ module _ (w first : ℕ) (above under : Level) (u : Ordered 0 (map fenceOf under
   cut-over =
       let r : Rising 0 (map firstOf (drop (s .start) under)) = rw (map-drop firstOf (s .start) under) (rising-drop 0 (s .start) (map firstOf under) starts) in
       let n : countAtMost (hiOf (runOf w first above)) (map firstOf (drop (s .start) under)) ≡ s .end - s .start =
-        rw (map-drop firstOf (s .start) under, end) (count-drop (suc (hiOf (runOf w first above))) 0 (s .start) (map firstOf under) starts) in
+      rw (map-drop firstOf (s .start) under, end) (count-drop (suc (hiOf (runOf w first above))) 0 (s .start) (map firstOf under) starts) in
       rw cut-start (rw n at (notAbove-is (hiOf (runOf w first above)) 0 (drop (s .start) under) r))
 
   -- with the run in key order, Y ends where the blocks behind it begin

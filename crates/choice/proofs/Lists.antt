@@ -45,12 +45,12 @@ each-same f h i zero e = refl
 each-same f h i (suc n) e = rw (e i (omega arith), each-same f h (suc i) n (λ j l. e j (omega arith)))
 
 -- a list by its entries
-pub each-getD : (xs : List ℕ) (n : ℕ) → n ≤ length xs → each (λ (j : ℕ). getD xs j 0) 0 n ≡ take n xs
-each-getD xs n h = go xs 0 n (omega arith)
+pub each-getD : {A : Type 0} (d : A) (xs : List A) (n : ℕ) → n ≤ length xs → each (λ (j : ℕ). getD xs j d) 0 n ≡ take n xs
+each-getD {A} d xs n h = go 0 n (omega arith)
   where
-    go : (xs : List ℕ) (i n : ℕ) → i + n ≤ length xs → each (λ (j : ℕ). getD xs j 0) i n ≡ take n (drop i xs)
-    go xs i zero h = refl
-    go xs i (suc n) h = rw (drop-cons xs i 0 (omega arith), go xs (suc i) n (omega arith))
+    go : (i n : ℕ) → i + n ≤ length xs → each (λ (j : ℕ). getD xs j d) i n ≡ take n (drop i xs)
+    go i zero h = refl
+    go i (suc n) h = rw (drop-cons xs i d (omega arith), go (suc i) n (omega arith))
 
 pub each-more : {A : Type 0} (f : ℕ → A) (n : ℕ) → each f 0 (suc n) ≡ each f 0 n ++ (f n ∷ [])
 each-more f n = rw (zero-add n) at (rw (add-one n) at (each-add f 0 n 1))

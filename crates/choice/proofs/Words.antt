@@ -7,15 +7,15 @@ use native.Mathlib.Nat.{mul-le-mul-right}
 use native.Mathlib.Omega.{arith}
 use lib.Dec.{leb}
 use lib.ListN.{length, getD, take, drop, length-map, length-drop, length-append}
-use lib.Seq.{drop-drop}
+use lib.Seq.{drop-drop, take-all}
 use borrow.Author.Tests.{leb-true, leb-false}
 use Rattle.geometry.specs.declared.Geometry.{Geometry}
 use Rattle.geometry.specs.Geometry.{Valid, capacityOf, topCapacityOf, keysStart, paysStart, listStart, placeStart, placesStart, blockWidth, storeLength}
 use Rattle.geometry.proofs.Laws.{keys-end, pays-end, list-inside, places-first, place-inside, place-word-inside}
 use Rattle.levels.specs.Record.{Rec, Block, Level, firstKey, lastKey, new, pack, pages}
 use Rattle.words.specs.Layout.{word, each, keysOf, slotsAt, pageSlots, topSlots, topRecs, topCountAt, blockSlots, blockAt, recordCount}
-use Rattle.choice.specs.Fences.{Fence, fenceOf, fencesOf, fill, listedFence, pageFence, Readable}
-use Rattle.choice.proofs.Lists.{length-each, each-add, each-take, each-drop, getD-each, map-take, map-drop, fill-same}
+use Rattle.choice.specs.Fences.{Fence, fenceOf, fenceAt, fencesOf, fill, listedFence, pageFence, Readable}
+use Rattle.choice.proofs.Lists.{length-each, each-add, each-take, each-drop, getD-each, each-same, each-getD, map-each, map-take, map-drop, fill-same, fill-inside}
 
 map-append : {A B : Type 0} (f : A → B) (xs ys : List A) → map f (xs ++ ys) ≡ map f xs ++ map f ys
 map-append f [] ys = refl
@@ -58,7 +58,7 @@ listed-words g ws list i k =
     let p = word list i in
     let n = recordCount g ws p in
     let e : keysOf (blockAt g ws p .recs) ≡ each (word ws) (placeStart g p + 2) n =
-      map-take (λ (r : Rec). r .key) n (blockSlots g ws p) ∙ ap (take n) (keys-slots ws _ (placeStart g p + 2) _ (g .b)) ∙ each-take (word ws) (placeStart g p + 2) n (g .b) (k .fits) in
+    map-take (λ (r : Rec). r .key) n (blockSlots g ws p) ∙ ap (take n) (keys-slots ws _ (placeStart g p + 2) _ (g .b)) ∙ each-take (word ws) (placeStart g p + 2) n (g .b) (k .fits) in
     let j : placeStart g p + 2 + n - 1 ≡ placeStart g p + 1 + n = omega arith in
     fence-words ws (placeStart g p + 2) n (blockAt g ws p) e (k .filled) ∙ ap (λ (x : ℕ). record { first = word ws (placeStart g p + 2); last = word ws x }) j
 
@@ -78,7 +78,7 @@ pack-full B buffer (r ∷ rs) l h = go (leb B (suc (length buffer))) refl (λ x 
     go : (t : Bool) → leb B (suc (length buffer)) ≡ t
         → (length (buffer ++ (r ∷ [])) < B → B ≤ length (buffer ++ (r ∷ [])) + length rs → Full (buffer ++ (r ∷ [])))
         → elim t [ true ↦ new (buffer ++ (r ∷ [])) ∷ pack B [] rs | false ↦ pack B (buffer ++ (r ∷ [])) rs ]
-          ≡ new (buffer ++ take (B - length buffer) (r ∷ rs)) ∷ pack B [] (drop (B - length buffer) (r ∷ rs))
+        ≡ new (buffer ++ take (B - length buffer) (r ∷ rs)) ∷ pack B [] (drop (B - length buffer) (r ∷ rs))
     go true e ih =
         let k = leb-true B (suc (length buffer)) e in
         let n : B - length buffer ≡ 1 = omega arith in
@@ -112,6 +112,10 @@ keys-top g ws h =
     let e : keysStart g + 0 * g .b ≡ keysStart g = omega arith in
     map-take (λ (r : Rec). r .key) (topCountAt ws) (topSlots g ws) ∙ rw (keys-pages g ws 0 (capacityOf g 0), e) (each-take (word ws) (keysStart g) (topCountAt ws) (capacityOf g 0 * g .b) h)
 
+top-length : (g : Geometry) (ws : List ℕ) → topCountAt ws ≤ topCapacityOf g → length (topRecs g ws) ≡ topCountAt ws
+top-length g ws h =
+    sym (length-map (topRecs g ws) (λ (r : Rec). r .key)) ∙ ap length (keys-top g ws h) ∙ length-each (word ws) (keysStart g) (topCountAt ws)
+
 -- the fence of a full page of level 0
 pub page-words : (g : Geometry) (ws : List ℕ) (i : ℕ) → 1 ≤ g .b → suc i * g .b ≤ topCountAt ws → topCountAt ws ≤ topCapacityOf g
     → pageFence g ws i ≡ record { first = word ws (keysStart g + i * g .b); last = word ws (keysStart g + i * g .b + g .b - 1) }
@@ -120,9 +124,9 @@ page-words g ws i p h l =
     let top = topRecs g ws in
     let c = topCountAt ws in
     let ks = keys-top g ws l in
-    let m : length top ≡ c = sym (length-map top (λ (r : Rec). r .key)) ∙ ap length ks ∙ length-each (word ws) (keysStart g) c in
+    let m = top-length g ws l in
     let e : keysOf (take (g .b) (drop (i * g .b) top)) ≡ each (word ws) (keysStart g + i * g .b) (g .b) =
-      map-take (λ (r : Rec). r .key) (g .b) (drop (i * g .b) top) ∙ rw (map-drop, ks, each-drop) (each-take (word ws) (keysStart g + i * g .b) (g .b) (c - i * g .b) (omega arith)) in
+    map-take (λ (r : Rec). r .key) (g .b) (drop (i * g .b) top) ∙ rw (map-drop, ks, each-drop) (each-take (word ws) (keysStart g + i * g .b) (g .b) (c - i * g .b) (omega arith)) in
     rw (pages-at (g .b) i top p (omega arith)) (fence-words ws (keysStart g + i * g .b) (g .b) (new (take (g .b) (drop (i * g .b) top))) e p)
 
 -- every key of level 0 lies in the store
@@ -161,3 +165,33 @@ module _ (g : Geometry) (ws xs : List ℕ) (n keys b : ℕ) (e : keys ≡ keysSt
 
   pub pages-lasts : fill (λ j. word ws (keys + j * b + b - 1)) n xs ≡ fill (λ j. pageFence g ws j .last) n xs
   pages-lasts = fill-same _ _ n xs (λ j k. sym (ap (λ (f : Fence). f .last) (page j k)))
+
+-- Fences that were filled in are the fences of the blocks.
+
+fill-fences : (f : ℕ → Fence) (n : ℕ) (xs ys : List ℕ) → fencesOf (fill (λ i. f i .first) n xs) (fill (λ i. f i .last) n ys) n ≡ each f 0 n
+fill-fences f n xs ys =
+    each-same (fenceAt (fill (λ i. f i .first) n xs) (fill (λ i. f i .last) n ys)) f 0 n
+    (λ j l. let k : j < n = omega arith in rw (fill-inside (λ i. f i .first) n xs j k, fill-inside (λ i. f i .last) n ys j k))
+
+-- the listed blocks: with the list of a level, `levelAt`
+pub listed-fences : (g : Geometry) (ws list : List ℕ) (n : ℕ) (xs ys : List ℕ) → n ≤ length list
+    → fencesOf (fill (λ i. listedFence g ws list i .first) n xs) (fill (λ i. listedFence g ws list i .last) n ys) n ≡ map fenceOf (map (blockAt g ws) (take n list))
+unfolding listedFence
+listed-fences g ws list n xs ys h =
+    fill-fences (listedFence g ws list) n xs ys
+    ∙ sym (ap (map fenceOf) (ap (map (blockAt g ws)) (sym (each-getD 0 list n h)) ∙ map-each (blockAt g ws) (word list) 0 n) ∙ map-each fenceOf (λ (i : ℕ). blockAt g ws (word list i)) 0 n)
+
+pages-length : (B n : ℕ) (rs : List Rec) → 1 ≤ B → length rs ≡ n * B → length (pages B rs) ≡ n
+pages-length B zero [] p e = refl
+pages-length B zero (r ∷ rs) p e = absurd (omega arith)
+pages-length B (suc n) rs p e = rw (pages-first B rs p (omega arith)) (ap suc (pages-length B n (drop B rs) p (omega (arith, length-drop B rs))))
+
+-- the pages of a level 0 of n full pages
+pub page-fences : (g : Geometry) (ws : List ℕ) (n : ℕ) (xs ys : List ℕ) → 1 ≤ g .b → topCountAt ws ≡ n * g .b → topCountAt ws ≤ topCapacityOf g
+    → fencesOf (fill (λ i. pageFence g ws i .first) n xs) (fill (λ i. pageFence g ws i .last) n ys) n ≡ map fenceOf (pages (g .b) (topRecs g ws))
+unfolding pageFence
+page-fences g ws n xs ys p e l =
+    let ps = pages (g .b) (topRecs g ws) in
+    let m : length ps ≡ n = pages-length (g .b) n (topRecs g ws) p (top-length g ws l ∙ e) in
+    fill-fences (pageFence g ws) n xs ys
+    ∙ sym (ap (map fenceOf) (sym (each-getD (new []) ps n (omega arith) ∙ take-all n ps (omega arith))) ∙ map-each fenceOf (λ (i : ℕ). getD ps i (new [])) 0 n)

@@ -57,7 +57,15 @@ pub fn starts_at_most(firsts: &[u32], n: usize, key: u32) -> usize
 }
 
 // The blocks below that a run of w blocks overlaps; where it overlaps none, the gap that its keys lie in.
-pub fn below_run(firsts: &[u32], lasts: &[u32], first: usize, w: usize, starts: &[u32], ends: &[u32], n: usize) -> Stretch
+pub fn below_run(
+    firsts: &[u32],
+    lasts: &[u32],
+    first: usize,
+    w: usize,
+    starts: &[u32],
+    ends: &[u32],
+    n: usize,
+) -> Stretch
     requires { ⌜ (1 ≤ w) × (Fenced (now firsts) (now lasts) first w × Fenced (now starts) (now ends) 0 n) ⌝ }
     ensures { λ r. ⌜ r ≡ stretchOf (fencesFrom (now (firsts .entry)) (now (lasts .entry)) first w) (fencesOf (now (starts .entry)) (now (ends .entry)) n) ⌝ }
 {
@@ -70,7 +78,15 @@ pub fn below_run(firsts: &[u32], lasts: &[u32], first: usize, w: usize, starts: 
 }
 
 // The number of blocks below that a run of w blocks overlaps.
-fn overlap_of(firsts: &[u32], lasts: &[u32], first: usize, w: usize, starts: &[u32], ends: &[u32], n: usize) -> usize
+fn overlap_of(
+    firsts: &[u32],
+    lasts: &[u32],
+    first: usize,
+    w: usize,
+    starts: &[u32],
+    ends: &[u32],
+    n: usize,
+) -> usize
     requires { ⌜ (1 ≤ w) × (Fenced (now firsts) (now lasts) first w × Fenced (now starts) (now ends) 0 n) ⌝ }
     ensures { λ r. ⌜ r ≡ fenceOverlap (fencesOf (now (starts .entry)) (now (ends .entry)) n) (fencesFrom (now (firsts .entry)) (now (lasts .entry)) first w) ⌝ }
 {
@@ -89,7 +105,15 @@ fn lower(best: Choice, first: usize, overlap: usize) -> Choice
 }
 
 // The run of w neighbours among `a` blocks that overlaps the fewest of the n blocks below; of equals, the lowest.
-pub fn choose_run(firsts: &[u32], lasts: &[u32], a: usize, starts: &[u32], ends: &[u32], n: usize, w: usize) -> Choice
+pub fn choose_run(
+    firsts: &[u32],
+    lasts: &[u32],
+    a: usize,
+    starts: &[u32],
+    ends: &[u32],
+    n: usize,
+    w: usize,
+) -> Choice
     requires { ⌜ (1 ≤ w) × ((w ≤ a) × (Fenced (now firsts) (now lasts) 0 a × Fenced (now starts) (now ends) 0 n)) ⌝ }
     ensures { λ r. ⌜ r ≡ choiceOf (chooseFences w (fencesOf (now (firsts .entry)) (now (lasts .entry)) a) (fencesOf (now (starts .entry)) (now (ends .entry)) n)) ⌝ }
 {
@@ -105,7 +129,14 @@ pub fn choose_run(firsts: &[u32], lasts: &[u32], a: usize, starts: &[u32], ends:
 }
 
 // The fences of the n blocks that a place list names first.
-pub fn fence_blocks(s: &[u32], g: Geometry, list: &[u32], n: usize, firsts: &mut [u32], lasts: &mut [u32])
+pub fn fence_blocks(
+    s: &[u32],
+    g: Geometry,
+    list: &[u32],
+    n: usize,
+    firsts: &mut [u32],
+    lasts: &mut [u32],
+)
     requires { ⌜ Valid g × ((length (now s) ≡ storeLength g) × ((n ≤ length (now list)) × ((n ≤ length (now firsts)) × ((n ≤ length (now lasts)) × ((i : ℕ) → i < n → Readable g (now s) (word (now list) i)))))) ⌝ }
     ensures { λ r. ⌜ (now (firsts .exit) ≡ fill (λ i. listedFence g (now (s .entry)) (now (list .entry)) i .first) n (now (firsts .entry))) × (now (lasts .exit) ≡ fill (λ i. listedFence g (now (s .entry)) (now (list .entry)) i .last) n (now (lasts .entry))) ⌝ }
 {

@@ -22,7 +22,7 @@ abbrev μ-loop : tie.MeasureT-loop
 -- the words that are read of the place lie in the store
 room : (c : tie.After-place-start Inv-loop μ-loop)
     → (c .place-start .result + 2 < length (c .before .before .before .before .before .before .before .before .args .s .now))
-      × (c .place-start .result + 1 + word (c .before .before .before .before .before .before .before .before .args .s .now) (c .place-start .result) < length (c .before .before .before .before .before .before .before .before .args .s .now))
+    × (c .place-start .result + 1 + word (c .before .before .before .before .before .before .before .before .args .s .now) (c .place-start .result) < length (c .before .before .before .before .before .before .before .before .args .s .now))
 room c = place-room _ _ _ _ (c .place-start .ensures) (c .before .before .before .before .before .before .before .before .pre .1 .1 .1 .1 .1 _ (c .before .before .loop-test .taken)) (c .before .before .before .before .before .before .before .before .pre .1 .0)
 
 loop-holds : tie.Need-loop-holds Inv-loop μ-loop

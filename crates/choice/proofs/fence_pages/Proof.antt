@@ -23,7 +23,7 @@ abbrev μ-loop : tie.MeasureT-loop
 -- the keys of the page lie in the store
 room : (c : tie.In-loop Inv-loop μ-loop)
     → (1 ≤ c .before .before .block-records .result)
-      × (c .before .before .before .keys-start .result + c .before .loop .i * c .before .before .block-records .result + c .before .before .block-records .result ≤ length (c .before .before .before .before .before .before .before .args .s .now))
+    × (c .before .before .before .keys-start .result + c .before .loop .i * c .before .before .block-records .result + c .before .before .block-records .result ≤ length (c .before .before .before .before .before .before .before .args .s .now))
 room c =
     let p = c .before .before .before .before .before .before .before .pre in
     page-room (c .before .before .before .before .before .before .before .args .g) (c .before .before .before .before .before .before .before .args .s .now) (c .before .before .before .before .before .before .before .args .n) _ _ _ (c .before .before .before .keys-start .ensures) (c .before .before .block-records .ensures) (p .0) (p .1 .0) (p .1 .1 .0) (p .1 .1 .1 .0) (c .loop-test .taken)
@@ -95,9 +95,10 @@ returns c =
     let l = c .before .loop in
     let a = c .before .before .before .before .before .before .before .args in
     let p = c .before .before .before .before .before .before .before .pre in
-    let e : l .i ≡ a .n = omega arith in
-    (rw e at (l .inv .1 .1 .1 .0) ∙ pages-firsts (a .g) (a .s .now) _ (a .n) _ _ (c .before .before .before .keys-start .ensures) (c .before .before .block-records .ensures) (p .0) (p .1 .1 .0) (p .1 .1 .1 .0),
-     rw e at (l .inv .1 .1 .1 .1) ∙ pages-lasts (a .g) (a .s .now) _ (a .n) _ _ (c .before .before .before .keys-start .ensures) (c .before .before .block-records .ensures) (p .0) (p .1 .1 .0) (p .1 .1 .1 .0))
+    let e : l .i ≡ a .n = omega arith in (
+      rw e at (l .inv .1 .1 .1 .0) ∙ pages-firsts (a .g) (a .s .now) _ (a .n) _ _ (c .before .before .before .keys-start .ensures) (c .before .before .block-records .ensures) (p .0) (p .1 .1 .0) (p .1 .1 .1 .0),
+      rw e at (l .inv .1 .1 .1 .1) ∙ pages-lasts (a .g) (a .s .now) _ (a .n) _ _ (c .before .before .before .keys-start .ensures) (c .before .before .block-records .ensures) (p .0) (p .1 .1 .0) (p .1 .1 .1 .0),
+    )
 
 pub fence-pages-spec : {M : Type 1} → statement M
 fence-pages-spec =
