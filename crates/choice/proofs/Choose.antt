@@ -1,6 +1,6 @@
 -- The choice of a run by fences is the choice by blocks, and what the code counts is what the choice asks for.
 use Prim.Native.Nat.{ℕ, zero, suc, _+_, _-_, _≤_, _<_}
-use mathlib.Core.Path.{_≡_, refl, sym, ap, _∙_}
+use mathlib.Core.Path.{_≡_, refl, ap, _∙_}
 use mathlib.Core.Bool.{Bool, true, false, _&&_, and-eq-true-iff}
 use mathlib.Core.List.{List, [], _∷_, _++_, map}
 use native.Mathlib.Numerals.{add-one}
@@ -10,7 +10,7 @@ use lib.ListN.{length, getD, take, drop, length-map}
 use lib.Seq.{take-suc, take-all, length-take-le}
 use borrow.Author.Tests.{leb-true, leb-false, ltb-true, ltb-false, le-leb, lt-leb, lt-ltb, le-ltb}
 use Rattle.levels.specs.Basics.{if_then_else_}
-use Rattle.levels.specs.Record.{Rec, Block, Level, size, records, rising, firstKey, lastKey}
+use Rattle.levels.specs.Record.{Rec, Level, size, records, rising, firstKey, lastKey}
 use Rattle.levels.specs.Choose.{runs, loOf, hiOf, countMeets, overlap, Least, least, leastOf, choose}
 use Rattle.choice.specs.declared.Choice.{Choice}
 use Rattle.choice.specs.Fences.{Fence, fenceOf, fenceAt, fencesFrom, fencesOf, Ordered, Fenced, fenceRuns, lowOf, highOf, countOver, fenceOverlap, overlapsOf, chooseFences, choiceOf, better, countBelow, countAtMost, Rising, firstKeys, lastKeys, stretchOf}

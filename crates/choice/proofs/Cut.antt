@@ -1,21 +1,20 @@
 -- Where Y lies: the two ends of the stretch below a run cut the lower level as document 01 has it.
-use Prim.Native.Nat.{ℕ, zero, suc, _+_, _-_, _≤_, _<_}
+use Prim.Native.Nat.{ℕ, suc, _+_, _-_, _≤_, _<_}
 use mathlib.Core.Path.{_≡_, refl, sym, ap, _∙_}
 use mathlib.Core.Bool.{Bool, true, false}
-use mathlib.Core.List.{List, [], _∷_, map}
+use mathlib.Core.List.{[], _∷_, map}
 use native.Mathlib.Omega.{arith}
-use lib.Dec.{leb, ltb}
+use lib.Dec.{ltb}
 use lib.ListN.{length, take, drop, length-map, length-drop}
 use lib.Seq.{length-take-le, drop-drop}
 use borrow.Author.Tests.{lt-ltb, le-ltb, le-leb, lt-leb, ltb-true, ltb-false}
-use Rattle.levels.specs.Basics.{if_then_else_}
 use Rattle.levels.specs.Record.{Block, Level, firstKey, lastKey}
 use Rattle.levels.specs.Choose.{loOf, hiOf, below, notAbove, cutAt}
 use Rattle.choice.specs.declared.Stretch.{Stretch}
-use Rattle.choice.specs.Fences.{Fence, fenceOf, Ordered, lowOf, highOf, countBelow, countAtMost, Rising, firstKeys, lastKeys, stretchOf}
+use Rattle.choice.specs.Fences.{Fence, fenceOf, Ordered, countBelow, countAtMost, Rising, firstKeys, lastKeys, stretchOf}
 use Rattle.choice.proofs.Lists.{map-take, map-drop, map-of-map}
-use Rattle.choice.proofs.Count.{count-in, count-out, count-none, count-high, count-drop, rising-drop}
-use Rattle.choice.proofs.Choose.{low-fences, high-fences, lasts-rise, firsts-rise, stretch-order, run-order, ordered-take, ordered-drop}
+use Rattle.choice.proofs.Count.{count-in, count-none, count-high, count-drop, rising-drop}
+use Rattle.choice.proofs.Choose.{low-fences, high-fences, lasts-rise, firsts-rise, stretch-order, ordered-take, ordered-drop}
 
 -- The longest start of a level whose blocks have a rising key below a bound has as many blocks as there are such keys.
 -- F gives that start: `below` and `notAbove` do.

@@ -10,9 +10,9 @@ use lib.ListN.{length, getD, take, drop, length-map, length-drop, length-append}
 use lib.Seq.{drop-drop, take-all}
 use borrow.Author.Tests.{leb-true, leb-false}
 use Rattle.geometry.specs.declared.Geometry.{Geometry}
-use Rattle.geometry.specs.Geometry.{Valid, capacityOf, topCapacityOf, keysStart, paysStart, listStart, placeStart, placesStart, blockWidth, storeLength}
+use Rattle.geometry.specs.Geometry.{Valid, capacityOf, topCapacityOf, keysStart, placeStart, blockWidth, storeLength}
 use Rattle.geometry.proofs.Laws.{keys-end, pays-end, list-inside, places-first, place-inside, place-word-inside}
-use Rattle.levels.specs.Record.{Rec, Block, Level, firstKey, lastKey, new, pack, pages}
+use Rattle.levels.specs.Record.{Rec, Block, firstKey, lastKey, new, pack, pages}
 use Rattle.words.specs.Layout.{word, each, keysOf, slotsAt, pageSlots, topSlots, topRecs, topCountAt, blockSlots, blockAt, recordCount}
 use Rattle.choice.specs.Fences.{Fence, fenceOf, fenceAt, fencesOf, fill, listedFence, pageFence, Readable}
 use Rattle.choice.proofs.Lists.{length-each, each-add, each-take, each-drop, getD-each, each-same, each-getD, map-each, map-take, map-drop, fill-same, fill-inside}

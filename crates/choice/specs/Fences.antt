@@ -1,6 +1,6 @@
 -- Step 1 of a merge over key fences: the choice of the run needs the first and the last key of each block, and no words of the places.
 use Prim.Native.Nat.{ℕ, suc, _+_, _≤_, _<_}
-use mathlib.Core.Bool.{Bool, _&&_}
+use mathlib.Core.Bool.{_&&_}
 use mathlib.Core.List.{List, [], _∷_, _++_, map}
 use lib.Dec.{leb, ltb}
 use lib.ListN.{length, take, drop, getD}

@@ -1,9 +1,10 @@
 // Step 1 of a merge: which run of neighbours goes down, and which blocks below it meets. Both are settled by
-// the first and last keys of the blocks alone, so the choice reads two lists of keys for each level and no place.
+// the first and last keys of the blocks alone, so the choice reads two lists of keys for each level and no place:
+// `firsts` and `lasts` of the blocks above, `starts` and `ends` of those below.
 
 ghost use mathlib.Core.Path.{_≡_};
 ghost use Prim.Native.Nat.{ℕ, _+_, _*_, _≤_, _<_};
-ghost use lib.ListN.{length, take, getD};
+ghost use lib.ListN.{length, take};
 ghost use Rattle.geometry.specs.Geometry.{Valid, storeLength, topCapacityOf};
 ghost use Rattle.words.specs.Layout.{word, topCountAt};
 ghost use Rattle.choice.specs.Fences.{Fenced, Rising, fencesFrom, fencesOf, chooseFences, choiceOf, better, countBelow, countAtMost, fenceOverlap, stretchOf, fill, listedFence, pageFence, Readable};
@@ -11,14 +12,14 @@ use geometry::Geometry;
 
 // The chosen run: the index of its first block, and the number of blocks below that it overlaps.
 pub struct Choice {
-    first: usize,
-    overlap: usize,
+    pub first: usize,
+    pub overlap: usize,
 }
 
 // The blocks of a level from index `start` on, up to but without index `end`.
 pub struct Stretch {
-    start: usize,
-    end: usize,
+    pub start: usize,
+    pub end: usize,
 }
 
 // How many of the first n keys are below a bound. The keys rise, so halving finds where they pass it.

@@ -1,8 +1,8 @@
-use Prim.Native.Nat.{ℕ, _≤_, _<_, _+_, _-_}
-use mathlib.Core.Path.{_≡_, sym, _∙_, ap}
+use Prim.Native.Nat.{_≤_, _+_, _-_}
+use mathlib.Core.Path.{_≡_, sym, _∙_}
 use native.Mathlib.Omega.{arith}
 use borrow.Author.Needs.{needs}
-use Rattle.choice.specs.Fences.{fencesOf, better, fenceOverlap}
+use Rattle.choice.specs.Fences.{fencesOf}
 use Rattle.choice.proofs.Choose.{choiceAmong, choose-first, choose-more, choose-all, fenced-run}
 use Rattle.choice.proofs.choose_run.Statement.{statement}
 use Rattle.choice.proofs.choose_run.Tie as tie

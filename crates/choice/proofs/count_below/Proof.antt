@@ -1,7 +1,6 @@
-use Prim.Native.Nat.{ℕ, _≤_, _<_, _+_, _-_, _/_}
-use mathlib.Core.Path.{_≡_}
+use Prim.Native.Nat.{_≤_, _+_, _-_, _/_}
 use native.Mathlib.Omega.{arith}
-use lib.ListN.{length, take}
+use lib.ListN.{take}
 use borrow.Author.Needs.{needs}
 use Rattle.choice.specs.Fences.{countBelow}
 use Rattle.choice.proofs.Count.{search-past, search-stop, search-room}
@@ -43,7 +42,8 @@ loop-less c = search needs
 loop-again : tie.Need-loop-again Inv-loop μ-loop
 loop-again c =
     let l = c .before .before .before .loop in
-    let p = search-past _ _ _ (c .before .before .before .before .pre .0) (c .before .before .before .before .pre .1) (l .low + (l .high - l .low) / 2) (omega arith) (c .if1 .taken) in
+    let s = c .before .before .before .before in
+    let p = search-past (s .args .bound) (s .args .n) (s .args .keys .now) (s .pre .0) (s .pre .1) (l .low + (l .high - l .low) / 2) (omega arith) (omega arith) in
     (omega arith, (l .inv .1 .0, l .inv .1 .1))
 
 loop-less-2 : tie.Need-loop-less-2 Inv-loop μ-loop
@@ -52,7 +52,8 @@ loop-less-2 c = search needs
 loop-again-2 : tie.Need-loop-again-2 Inv-loop μ-loop
 loop-again-2 c =
     let l = c .before .before .before .loop in
-    let p = search-stop _ _ _ (c .before .before .before .before .pre .0) (c .before .before .before .before .pre .1) (l .low + (l .high - l .low) / 2) (omega arith) (c .if1 .left) in
+    let s = c .before .before .before .before in
+    let p = search-stop (s .args .bound) (s .args .n) (s .args .keys .now) (s .pre .0) (s .pre .1) (l .low + (l .high - l .low) / 2) (omega arith) (omega arith) in
     (l .inv .0, (p, omega arith))
 
 returns : tie.Need-returns Inv-loop μ-loop

@@ -1,5 +1,4 @@
 use mathlib.Core.Path.{sym}
-use native.Mathlib.Omega.{arith}
 use Rattle.choice.proofs.Lists.{length-each}
 use Rattle.choice.proofs.Choose.{stretch-order, overlap-stretch}
 use borrow.Author.Needs.{needs}

@@ -1,4 +1,7 @@
-use mathlib.Core.Path.{_∙_}
+use Prim.Native.Nat.{ℕ}
+use mathlib.Core.Path.{ap, _∙_}
+use lib.ListN.{take}
+use Rattle.choice.specs.Fences.{countBelow}
 use native.Mathlib.Numerals.{add-one}
 use borrow.Author.Needs.{needs}
 use Rattle.choice.proofs.starts_at_most.Statement.{statement}
@@ -14,7 +17,7 @@ count-below-requires : tie.Need-count-below-requires
 count-below-requires c κs = search needs
 
 returns : tie.Need-returns
-returns c = c .count-below .ensures ∙ rw (add-one (c .before .before .args .key))
+returns c = let a = c .before .before .args in c .count-below .ensures ∙ ap (λ (k : ℕ). countBelow k (take (a .n) (a .firsts .now))) (add-one (a .key))
 
 pub starts-at-most-spec : {M : Type 1} → statement M
 starts-at-most-spec = tie.close (tie.spec add-count-below count-below-requires returns)
