@@ -1,6 +1,6 @@
 -- The choice of a run by fences is the choice by blocks, and what the code counts is what the choice asks for.
 use Prim.Native.Nat.{ℕ, zero, suc, _+_, _-_, _≤_, _<_}
-use mathlib.Core.Path.{_≡_, refl, ap, _∙_}
+use mathlib.Core.Path.{_≡_, refl, sym, ap, _∙_}
 use mathlib.Core.Bool.{Bool, true, false, _&&_, and-eq-true-iff}
 use mathlib.Core.List.{List, [], _∷_, _++_, map}
 use native.Mathlib.Numerals.{add-one}
@@ -54,6 +54,11 @@ pub choose-fences : (w : ℕ) (above under : Level) → choose w above under ≡
 unfolding chooseFences overlapsOf
 choose-fences w above under =
     rw (runs-fences w above, map-of-map (fenceOverlap (map fenceOf under)) (map fenceOf) (overlap under) (overlap-fences under) (runs w above))
+
+-- the same, for lists of keys that hold the fences of the two levels
+pub choice-fences : (firsts lasts starts ends : List ℕ) (a n w : ℕ) (above under : Level) → fencesOf firsts lasts a ≡ map fenceOf above → fencesOf starts ends n ≡ map fenceOf under
+    → choiceOf (chooseFences w (fencesOf firsts lasts a) (fencesOf starts ends n)) ≡ choiceOf (choose w above under)
+choice-fences firsts lasts starts ends a n w above under e d = rw (e, d) (ap choiceOf (sym (choose-fences w above under)))
 
 -- Blocks in key order.
 
@@ -173,9 +178,18 @@ ordered-take low (suc n) (f ∷ fs) o = (o .0, (o .1 .0, ordered-take (suc (f .l
 -- Fences kept as two lists of keys.
 
 pub run-from : (firsts lasts : List ℕ) (a i w : ℕ) → i + w ≤ a → take w (drop i (fencesOf firsts lasts a)) ≡ fencesFrom firsts lasts i w
+unfolding fencesFrom
 run-from firsts lasts a i w h =
     let e : 0 + i ≡ i = omega arith in
     rw (each-drop (fenceAt firsts lasts) 0 i a, e) (each-take (fenceAt firsts lasts) i w (a - i) (omega arith))
+
+fences-length : (firsts lasts : List ℕ) (i n : ℕ) → length (fencesFrom firsts lasts i n) ≡ n
+unfolding fencesFrom
+fences-length firsts lasts i n = length-each (fenceAt firsts lasts) i n
+
+-- a run has a block
+pub run-filled : (firsts lasts : List ℕ) (i w : ℕ) → 1 ≤ w → 1 ≤ length (fencesFrom firsts lasts i w)
+run-filled firsts lasts i w p = rw (fences-length firsts lasts i w) p
 
 pub fenced-run : (firsts lasts : List ℕ) (a i w : ℕ) → Fenced firsts lasts 0 a → i + w ≤ a → Fenced firsts lasts i w
 fenced-run firsts lasts a i w k h = record {
@@ -184,19 +198,25 @@ fenced-run firsts lasts a i w k h = record {
   ordered = rw (← run-from firsts lasts a i w h) (ordered-take 0 w (drop i (fencesOf firsts lasts a)) (ordered-drop 0 i (fencesOf firsts lasts a) (k .ordered)));
 }
 
+-- what a caller has whose lists hold the fences of a level in key order
+pub level-fenced : (firsts lasts : List ℕ) (n : ℕ) (l : Level) → n ≤ length firsts → n ≤ length lasts → fencesOf firsts lasts n ≡ map fenceOf l → Ordered 0 (map fenceOf l) → Fenced firsts lasts 0 n
+level-fenced firsts lasts n l p q e o = record { first-room = omega arith; last-room = omega arith; ordered = rw e o }
+
 pub first-keys-are : (firsts lasts : List ℕ) (n : ℕ) → n ≤ length firsts → firstKeys (fencesOf firsts lasts n) ≡ take n firsts
+unfolding fencesFrom
 first-keys-are firsts lasts n h = map-each (λ (f : Fence). f .first) (fenceAt firsts lasts) 0 n ∙ each-getD 0 firsts n h
 
 pub last-keys-are : (firsts lasts : List ℕ) (n : ℕ) → n ≤ length lasts → lastKeys (fencesOf firsts lasts n) ≡ take n lasts
+unfolding fencesFrom
 last-keys-are firsts lasts n h = map-each (λ (f : Fence). f .last) (fenceAt firsts lasts) 0 n ∙ each-getD 0 lasts n h
 
 pub low-at : (firsts lasts : List ℕ) (i w : ℕ) → 1 ≤ w → lowOf (fencesFrom firsts lasts i w) ≡ getD firsts i 0
-unfolding lowOf
+unfolding lowOf fencesFrom
 low-at firsts lasts i zero h = absurd (omega arith)
 low-at firsts lasts i (suc w) h = refl
 
 pub high-at : (firsts lasts : List ℕ) (i w : ℕ) → 1 ≤ w → highOf (fencesFrom firsts lasts i w) ≡ getD lasts (i + w - 1) 0
-unfolding highOf
+unfolding highOf fencesFrom
 high-at firsts lasts i zero h = absurd (omega arith)
 high-at firsts lasts i (suc zero) h = let e : i + 1 - 1 ≡ i = omega arith in rw e
 high-at firsts lasts i (suc (suc w)) h =
@@ -323,12 +343,12 @@ among-all i w above under p h = rw (take-all i (overlapsOf w above under) (omega
 module _ (firsts lasts starts ends : List ℕ) (a n w : ℕ) (p : 1 ≤ w) where
   pub choose-first : w ≤ a → choiceAmong 1 w (fencesOf firsts lasts a) (fencesOf starts ends n) ≡ record { first = 0; overlap = fenceOverlap (fencesOf starts ends n) (fencesFrom firsts lasts 0 w) }
   choose-first h =
-      rw (← each-take (fenceAt firsts lasts) 0 w a h) (among-first w (fencesOf firsts lasts a) (fencesOf starts ends n) p (rw (length-each (fenceAt firsts lasts) 0 a) h))
+      rw (← run-from firsts lasts a 0 w (omega arith)) (among-first w (fencesOf firsts lasts a) (fencesOf starts ends n) p (rw (fences-length firsts lasts 0 a) h))
 
   pub choose-more : (i : ℕ) → 1 ≤ i → i + w ≤ a
       → choiceAmong (i + 1) w (fencesOf firsts lasts a) (fencesOf starts ends n) ≡ better (choiceAmong i w (fencesOf firsts lasts a) (fencesOf starts ends n)) i (fenceOverlap (fencesOf starts ends n) (fencesFrom firsts lasts i w))
   choose-more i l h =
-      rw (← run-from firsts lasts a i w h) (among-more i w (fencesOf firsts lasts a) (fencesOf starts ends n) p l (rw (length-each (fenceAt firsts lasts) 0 a) h))
+      rw (← run-from firsts lasts a i w h) (among-more i w (fencesOf firsts lasts a) (fencesOf starts ends n) p l (rw (fences-length firsts lasts 0 a) h))
 
   pub choose-all : (i : ℕ) → a < i + w → choiceAmong i w (fencesOf firsts lasts a) (fencesOf starts ends n) ≡ choiceOf (chooseFences w (fencesOf firsts lasts a) (fencesOf starts ends n))
-  choose-all i h = among-all i w (fencesOf firsts lasts a) (fencesOf starts ends n) p (rw (length-each (fenceAt firsts lasts) 0 a) h)
+  choose-all i h = among-all i w (fencesOf firsts lasts a) (fencesOf starts ends n) p (rw (fences-length firsts lasts 0 a) h)

@@ -14,7 +14,7 @@ use Rattle.geometry.specs.Geometry.{Valid, capacityOf, topCapacityOf, keysStart
 use Rattle.geometry.proofs.Laws.{keys-end, pays-end, list-inside, places-first, place-inside, place-word-inside}
 use Rattle.levels.specs.Record.{Rec, Block, firstKey, lastKey, new, pack, pages}
 use Rattle.words.specs.Layout.{word, each, keysOf, slotsAt, pageSlots, topSlots, topRecs, topCountAt, blockSlots, blockAt, recordCount}
-use Rattle.choice.specs.Fences.{Fence, fenceOf, fenceAt, fencesOf, fill, listedFence, pageFence, Readable}
+use Rattle.choice.specs.Fences.{Fence, fenceOf, fenceAt, fencesFrom, fencesOf, fill, listedFence, pageFence, Readable}
 use Rattle.choice.proofs.Lists.{length-each, each-add, each-take, each-drop, getD-each, each-same, each-getD, map-each, map-take, map-drop, fill-same, fill-inside}
 
 map-append : {A B : Type 0} (f : A → B) (xs ys : List A) → map f (xs ++ ys) ≡ map f xs ++ map f ys
@@ -166,19 +166,21 @@ module _ (g : Geometry) (ws xs : List ℕ) (n keys b : ℕ) (e : keys ≡ keysSt
   pub pages-lasts : fill (λ j. word ws (keys + j * b + b - 1)) n xs ≡ fill (λ j. pageFence g ws j .last) n xs
   pages-lasts = fill-same _ _ n xs (λ j k. sym (ap (λ (f : Fence). f .last) (page j k)))
 
--- Fences that were filled in are the fences of the blocks.
+-- Lists that were filled with fences hold the fences of the blocks.
 
-fill-fences : (f : ℕ → Fence) (n : ℕ) (xs ys : List ℕ) → fencesOf (fill (λ i. f i .first) n xs) (fill (λ i. f i .last) n ys) n ≡ each f 0 n
-fill-fences f n xs ys =
-    each-same (fenceAt (fill (λ i. f i .first) n xs) (fill (λ i. f i .last) n ys)) f 0 n
-    (λ j l. let k : j < n = omega arith in rw (fill-inside (λ i. f i .first) n xs j k, fill-inside (λ i. f i .last) n ys j k))
+fill-fences : (f : ℕ → Fence) (n : ℕ) (xs ys firsts lasts : List ℕ) → firsts ≡ fill (λ i. f i .first) n xs → lasts ≡ fill (λ i. f i .last) n ys → fencesOf firsts lasts n ≡ each f 0 n
+unfolding fencesFrom
+fill-fences f n xs ys firsts lasts e d =
+    each-same (fenceAt firsts lasts) f 0 n
+    (λ j l. let k : j < n = omega arith in rw (e, d, fill-inside (λ i. f i .first) n xs j k, fill-inside (λ i. f i .last) n ys j k))
 
 -- the listed blocks: with the list of a level, `levelAt`
-pub listed-fences : (g : Geometry) (ws list : List ℕ) (n : ℕ) (xs ys : List ℕ) → n ≤ length list
-    → fencesOf (fill (λ i. listedFence g ws list i .first) n xs) (fill (λ i. listedFence g ws list i .last) n ys) n ≡ map fenceOf (map (blockAt g ws) (take n list))
+pub listed-fences : (g : Geometry) (ws list : List ℕ) (n : ℕ) (xs ys firsts lasts : List ℕ)
+    → firsts ≡ fill (λ i. listedFence g ws list i .first) n xs → lasts ≡ fill (λ i. listedFence g ws list i .last) n ys → n ≤ length list
+    → fencesOf firsts lasts n ≡ map fenceOf (map (blockAt g ws) (take n list))
 unfolding listedFence
-listed-fences g ws list n xs ys h =
-    fill-fences (listedFence g ws list) n xs ys
+listed-fences g ws list n xs ys firsts lasts e d h =
+    fill-fences (listedFence g ws list) n xs ys firsts lasts e d
     ∙ sym (ap (map fenceOf) (ap (map (blockAt g ws)) (sym (each-getD 0 list n h)) ∙ map-each (blockAt g ws) (word list) 0 n) ∙ map-each fenceOf (λ (i : ℕ). blockAt g ws (word list i)) 0 n)
 
 pages-length : (B n : ℕ) (rs : List Rec) → 1 ≤ B → length rs ≡ n * B → length (pages B rs) ≡ n
@@ -187,11 +189,13 @@ pages-length B zero (r ∷ rs) p e = absurd (omega arith)
 pages-length B (suc n) rs p e = rw (pages-first B rs p (omega arith)) (ap suc (pages-length B n (drop B rs) p (omega (arith, length-drop B rs))))
 
 -- the pages of a level 0 of n full pages
-pub page-fences : (g : Geometry) (ws : List ℕ) (n : ℕ) (xs ys : List ℕ) → 1 ≤ g .b → topCountAt ws ≡ n * g .b → topCountAt ws ≤ topCapacityOf g
-    → fencesOf (fill (λ i. pageFence g ws i .first) n xs) (fill (λ i. pageFence g ws i .last) n ys) n ≡ map fenceOf (pages (g .b) (topRecs g ws))
+pub page-fences : (g : Geometry) (ws : List ℕ) (n : ℕ) (xs ys firsts lasts : List ℕ)
+    → firsts ≡ fill (λ i. pageFence g ws i .first) n xs → lasts ≡ fill (λ i. pageFence g ws i .last) n ys
+    → 1 ≤ g .b → topCountAt ws ≡ n * g .b → topCountAt ws ≤ topCapacityOf g
+    → fencesOf firsts lasts n ≡ map fenceOf (pages (g .b) (topRecs g ws))
 unfolding pageFence
-page-fences g ws n xs ys p e l =
+page-fences g ws n xs ys firsts lasts a b p e l =
     let ps = pages (g .b) (topRecs g ws) in
     let m : length ps ≡ n = pages-length (g .b) n (topRecs g ws) p (top-length g ws l ∙ e) in
-    fill-fences (pageFence g ws) n xs ys
+    fill-fences (pageFence g ws) n xs ys firsts lasts a b
     ∙ sym (ap (map fenceOf) (sym (each-getD (new []) ps n (omega arith) ∙ take-all n ps (omega arith))) ∙ map-each fenceOf (λ (i : ℕ). getD ps i (new [])) 0 n)

@@ -24,7 +24,7 @@ fenceOf b = record { first = firstKey (b .recs); last = lastKey (b .recs) }
 abbrev pub fenceAt : List ℕ → List ℕ → ℕ → Fence
 fenceAt firsts lasts i = record { first = getD firsts i 0; last = getD lasts i 0 }
 
-abbrev pub fencesFrom : List ℕ → List ℕ → ℕ → ℕ → List Fence
+unfoldable pub fencesFrom : List ℕ → List ℕ → ℕ → ℕ → List Fence
 fencesFrom firsts lasts i n = each (fenceAt firsts lasts) i n
 
 -- the first n fences

@@ -34,8 +34,7 @@ starts-at-most-requires c κs = fenced-firsts _ _ _ (c .before .before .before .
 
 returns : tie.Need-returns
 returns c =
-    let a = c .before .before .before .before .before .before .before .before .args in
-    rw (c .starts-at-most .ensures, c .before .ends-below .ensures) (sym (stretch-at (a .firsts .now) (a .lasts .now) (a .starts .now) (a .ends .now) (a .first) (a .w) (a .n) (c .before .before .before .before .before .before .before .before .pre .0) (c .before .before .before .before .before .before .before .before .pre .1 .1)))
+    rw (c .starts-at-most .ensures, c .before .ends-below .ensures) (sym (stretch-at _ _ _ _ _ _ _ (c .before .before .before .before .before .before .before .before .pre .0) (c .before .before .before .before .before .before .before .before .pre .1 .1)))
 
 pub below-run-spec : {M : Type 1} → statement M
 below-run-spec =

@@ -28,8 +28,7 @@ add-i-end c = search needs
 
 loop-holds : tie.Need-loop-holds Inv-loop μ-loop
 loop-holds c =
-    let a = c .before .before .before .before .before .args in
-    (omega arith, (omega arith, rw (c .overlap-of .ensures) (sym (choose-first (a .firsts .now) (a .lasts .now) (a .starts .now) (a .ends .now) (a .a) (a .n) (a .w) (c .before .before .before .before .before .pre .0) (c .before .before .before .before .before .pre .1 .0)))))
+    (omega arith, (omega arith, rw (c .overlap-of .ensures) (sym (choose-first _ _ _ _ _ _ _ (c .before .before .before .before .before .pre .0) (c .before .before .before .before .before .pre .1 .0)))))
 
 overlap-of-requires-2 : tie.Need-overlap-of-requires-2 Inv-loop μ-loop
 overlap-of-requires-2 c κs = (c .before .before .before .before .before .before .before .pre .0, (fenced-run _ _ _ _ _ (c .before .before .before .before .before .before .before .pre .1 .1 .0) (omega (arith, c .before .before .before .before .before .before .before .pre .1 .0)), c .before .before .before .before .before .before .before .pre .1 .1 .1))
@@ -45,15 +44,13 @@ loop-less c = search needs
 
 loop-again : tie.Need-loop-again Inv-loop μ-loop
 loop-again c =
-    let a = c .before .before .before .before .before .before .before .before .before .args in
     let l = c .before .before .before .loop in
-    (omega arith, (omega arith, rw (c .lower .ensures, c .before .overlap-of2 .ensures, l .inv .1 .1) (sym (choose-more (a .firsts .now) (a .lasts .now) (a .starts .now) (a .ends .now) (a .a) (a .n) (a .w) (c .before .before .before .before .before .before .before .before .before .pre .0) (l .i) (l .inv .0) (omega arith)))))
+    (omega arith, (omega arith, rw (c .lower .ensures, c .before .overlap-of2 .ensures, l .inv .1 .1) (sym (choose-more _ _ _ _ _ _ _ (c .before .before .before .before .before .before .before .before .before .pre .0) (l .i) (l .inv .0) (omega arith)))))
 
 returns : tie.Need-returns Inv-loop μ-loop
 returns c =
-    let a = c .before .before .before .before .before .before .before .args in
     let l = c .before .loop in
-    l .inv .1 .1 ∙ choose-all (a .firsts .now) (a .lasts .now) (a .starts .now) (a .ends .now) (a .a) (a .n) (a .w) (c .before .before .before .before .before .before .before .pre .0) (l .i) (omega arith)
+    l .inv .1 .1 ∙ choose-all _ _ _ _ _ _ _ (c .before .before .before .before .before .before .before .pre .0) (l .i) (omega arith)
 
 pub choose-run-spec : {M : Type 1} → statement M
 choose-run-spec =

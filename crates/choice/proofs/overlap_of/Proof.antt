@@ -1,6 +1,5 @@
 use mathlib.Core.Path.{sym}
-use Rattle.choice.proofs.Lists.{length-each}
-use Rattle.choice.proofs.Choose.{stretch-order, overlap-stretch}
+use Rattle.choice.proofs.Choose.{stretch-order, overlap-stretch, run-filled}
 use borrow.Author.Needs.{needs}
 use Rattle.choice.proofs.overlap_of.Statement.{statement}
 use Rattle.choice.proofs.overlap_of.Tie as tie
@@ -12,7 +11,7 @@ below-run-requires : tie.Need-below-run-requires
 below-run-requires c κs = search needs
 
 sub-result : tie.Need-sub-result
-sub-result c = rw (c .before .below-run .ensures) (stretch-order _ _ (c .before .before .before .before .before .before .pre .1 .0 .ordered) (rw length-each (c .before .before .before .before .before .before .pre .0)) (c .before .before .before .before .before .before .pre .1 .1 .ordered))
+sub-result c = rw (c .before .below-run .ensures) (stretch-order _ _ (c .before .before .before .before .before .before .pre .1 .0 .ordered) (run-filled _ _ _ _ (c .before .before .before .before .before .before .pre .0)) (c .before .before .before .before .before .before .pre .1 .1 .ordered))
 
 returns : tie.Need-returns
 returns c = rw (c .before .below-run .ensures) (sym (overlap-stretch _ _ (c .before .before .before .before .before .before .pre .1 .1 .ordered)))
