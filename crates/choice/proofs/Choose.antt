@@ -352,3 +352,43 @@ module _ (firsts lasts starts ends : List ℕ) (a n w : ℕ) (p : 1 ≤ w) where
 
   pub choose-all : (i : ℕ) → a < i + w → choiceAmong i w (fencesOf firsts lasts a) (fencesOf starts ends n) ≡ choiceOf (chooseFences w (fencesOf firsts lasts a) (fencesOf starts ends n))
   choose-all i h = among-all i w (fencesOf firsts lasts a) (fencesOf starts ends n) p (rw (fences-length firsts lasts 0 a) h)
+
+-- The chosen run.
+
+-- the least of a list is one of its numbers
+abbrev Stands : List ℕ → Least → Type 0
+Stands qs r = (r .at < length qs) × (getD qs (r .at) 0 ≡ r .value)
+
+least-stands : (q : ℕ) (qs : List ℕ) → Stands (q ∷ qs) (least q qs)
+least-stands q [] = (omega arith, refl)
+least-stands q (p ∷ ps) = go (leb q (least p ps .value)) refl (least-stands p ps)
+  where
+    go : (t : Bool) → leb q (least p ps .value) ≡ t → Stands (p ∷ ps) (least p ps) → Stands (q ∷ p ∷ ps) (least q (p ∷ ps))
+    go true e s = rw e (omega arith, refl)
+    go false e s = rw e (omega (arith, s .0), s .1)
+
+least-of : (qs : List ℕ) → 0 < length qs → Stands qs (leastOf qs)
+least-of [] h = absurd (omega arith)
+least-of (q ∷ qs) h = least-stands q qs
+
+module _ (w : ℕ) (above under : List Fence) (p : 1 ≤ w) (h : w ≤ length above) where
+  chosen : Stands (overlapsOf w above under) (chooseFences w above under)
+  unfolding chooseFences
+  chosen = least-of (overlapsOf w above under) (omega (arith, overlaps-length w above under p))
+
+  -- it lies in the level above
+  pub chosen-inside : chooseFences w above under .at + w ≤ length above
+  chosen-inside = omega (arith, chosen .0, overlaps-length w above under p)
+
+  -- its overlap is the length of the stretch below it
+  pub chosen-overlap : Ordered 0 under
+      → chooseFences w above under .value ≡ stretchOf (take w (drop (chooseFences w above under .at) above)) under .end - stretchOf (take w (drop (chooseFences w above under .at) above)) under .start
+  chosen-overlap u =
+      sym (chosen .1)
+      ∙ overlaps-at w above under (chooseFences w above under .at) p chosen-inside
+      ∙ overlap-stretch (take w (drop (chooseFences w above under .at) above)) under u
+
+-- the same, for fences kept as lists of keys: the chosen run can be asked for its stretch
+pub chosen-run : (firsts lasts : List ℕ) (a w : ℕ) (under : List Fence) → 1 ≤ w → w ≤ a → chooseFences w (fencesOf firsts lasts a) under .at + w ≤ a
+chosen-run firsts lasts a w under p h =
+    rw (fences-length firsts lasts 0 a) at (chosen-inside w (fencesOf firsts lasts a) under p (rw (fences-length firsts lasts 0 a) h))
