@@ -14,7 +14,9 @@ use Rattle.choice.specs.declared.Stretch.{Stretch}
 use Rattle.choice.specs.Fences.{Fence, fenceOf, fencesFrom, fencesOf, Ordered, countBelow, countAtMost, Rising, firstKeys, lastKeys, stretchOf}
 use Rattle.choice.proofs.Lists.{map-take, map-drop, map-of-map}
 use Rattle.choice.proofs.Count.{count-in, count-none, count-high, count-drop, rising-drop}
-use Rattle.choice.proofs.Choose.{run-from, low-fences, high-fences, lasts-rise, firsts-rise, stretch-order, ordered-take, ordered-drop}
+use Rattle.choice.proofs.Levels.{low-fences, high-fences}
+use Rattle.choice.proofs.Order.{lasts-rise, firsts-rise, stretch-order, ordered-take, ordered-drop}
+use Rattle.choice.proofs.Keys.{run-from}
 
 -- The longest start of a level whose blocks have a rising key below a bound has as many blocks as there are such keys.
 -- F gives that start: `below` and `notAbove` do.

@@ -1,5 +1,5 @@
 use mathlib.Core.Path.{sym}
-use Rattle.choice.proofs.Choose.{fenced-firsts, fenced-lasts, stretch-at}
+use Rattle.choice.proofs.Keys.{fenced-firsts, fenced-lasts, stretch-at}
 use borrow.Author.Needs.{needs}
 use Rattle.choice.proofs.below_run.Statement.{statement}
 use Rattle.choice.proofs.below_run.Tie as tie

@@ -3,7 +3,8 @@ use mathlib.Core.Path.{_≡_, sym, _∙_}
 use native.Mathlib.Omega.{arith}
 use borrow.Author.Needs.{needs}
 use Rattle.choice.specs.Fences.{fencesOf}
-use Rattle.choice.proofs.Choose.{choiceAmong, choose-first, choose-more, choose-all, fenced-run}
+use Rattle.choice.proofs.Keys.{fenced-run}
+use Rattle.choice.proofs.Choose.{choiceAmong, choose-first, choose-more, choose-all}
 use Rattle.choice.proofs.choose_run.Statement.{statement}
 use Rattle.choice.proofs.choose_run.Tie as tie
 use Rattle.choice.proofs.choose_run.Reads as reads

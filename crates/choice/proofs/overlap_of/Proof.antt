@@ -1,5 +1,6 @@
 use mathlib.Core.Path.{sym}
-use Rattle.choice.proofs.Choose.{stretch-order, overlap-stretch, run-filled}
+use Rattle.choice.proofs.Order.{stretch-order, overlap-stretch}
+use Rattle.choice.proofs.Keys.{run-filled}
 use borrow.Author.Needs.{needs}
 use Rattle.choice.proofs.overlap_of.Statement.{statement}
 use Rattle.choice.proofs.overlap_of.Tie as tie
