@@ -10,7 +10,7 @@ use lib.ListN.{length, getD, take, drop, length-map}
 use lib.Seq.{take-suc, take-all, length-take-le}
 use borrow.Author.Tests.{leb-true, leb-false, ltb-true, ltb-false, le-leb, lt-leb, lt-ltb, le-ltb}
 use Rattle.levels.specs.Basics.{if_then_else_}
-use Rattle.levels.specs.Choose.{runs, overlap, Least, least, leastOf}
+use Rattle.levels.specs.Choose.{Least, least, leastOf}
 use Rattle.choice.specs.declared.Choice.{Choice}
 use Rattle.choice.specs.Fences.{Fence, fencesFrom, fencesOf, Ordered, fenceRuns, fenceOverlap, overlapsOf, chooseFences, choiceOf, better, stretchOf}
 use Rattle.choice.proofs.Lists.{getD-map-in}

@@ -64,7 +64,7 @@ Filled (b ∷ bs) = (1 ≤ size b) × Filled bs
 block-range : (low : ℕ) (rs ys : List Rec) → 1 ≤ length rs → rising low (rs ++ ys) ≡ true → (low ≤ firstKey rs) × ((firstKey rs ≤ lastKey rs) × (rising (suc (lastKey rs)) ys ≡ true))
 block-range low [] ys h e = absurd (omega arith)
 block-range low (r ∷ []) ys h e =
-    let k = simp and-eq-true-iff at e in
+    let k = and-eq-true-iff _ _ .0 e in
     (leb-true low (r .key) (k .0), (omega arith, k .1))
 block-range low (r ∷ s ∷ rs) ys h e =
     let k : (leb low (r .key) ≡ true) × (rising (suc (r .key)) ((s ∷ rs) ++ ys) ≡ true) = and-eq-true-iff _ _ .0 e in

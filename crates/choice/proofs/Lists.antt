@@ -5,8 +5,8 @@ use mathlib.Core.List.{List, [], _∷_, _++_, map}
 use native.Mathlib.Nat.{add-zero, zero-add, add-suc, suc-add}
 use native.Mathlib.Numerals.{add-one}
 use native.Mathlib.Omega.{arith}
-use lib.ListN.{length, getD, take, drop, set, length-append, length-drop, List·getD-append}
-use lib.Seq.{set-at, drop-cons, append-snoc}
+use lib.ListN.{length, getD, take, drop, set, List·getD-append}
+use lib.Seq.{set-at, drop-cons, append-snoc, getD-append-add, getD-drop}
 use Rattle.words.specs.Layout.{each}
 use Rattle.choice.specs.Fences.{fill}
 
@@ -62,6 +62,7 @@ fill-more f i xs h =
     rw (drop-cons xs i 0 h, set-at (each f 0 i) (getD xs i 0) (drop (suc i) xs) (f i) i (length-each f 0 i))
     (sym (ap (λ r. r ++ drop (suc i) xs) (each-more f i) ∙ append-snoc (each f 0 i) (f i) (drop (suc i) xs)))
 
+-- a step of a loop that fills a list
 pub fill-step : (f : ℕ → ℕ) (i : ℕ) (xs ys : List ℕ) (v : ℕ) → i < length xs → ys ≡ fill f i xs → v ≡ f i → set ys i v ≡ fill f (i + 1) xs
 fill-step f i xs ys v h e d = rw (e, d, add-one i) (fill-more f i xs h)
 
@@ -73,14 +74,18 @@ pub fill-none : (f : ℕ → ℕ) (xs : List ℕ) → fill f 0 xs ≡ xs
 unfolding fill
 fill-none f xs = refl
 
-pub fill-length : (f : ℕ → ℕ) (n : ℕ) (xs : List ℕ) → n ≤ length xs → length (fill f n xs) ≡ length xs
-unfolding fill
-fill-length f n xs h = omega (arith, length-append (each f 0 n) (drop n xs), length-each f 0 n, length-drop n xs)
-
+-- what was filled in, and what stays as it was
 pub fill-inside : (f : ℕ → ℕ) (n : ℕ) (xs : List ℕ) (i : ℕ) → i < n → getD (fill f n xs) i 0 ≡ f i
 unfolding fill
 fill-inside f n xs i h =
     List·getD-append (each f 0 n) (drop n xs) 0 i (rw (length-each f 0 n) h) ∙ getD-each f 0 n i 0 h ∙ ap f (zero-add i)
+
+pub fill-outside : (f : ℕ → ℕ) (n : ℕ) (xs : List ℕ) (i : ℕ) → n ≤ i → getD (fill f n xs) i 0 ≡ getD xs i 0
+unfolding fill
+fill-outside f n xs i h =
+    let e : i ≡ length (each f 0 n) + (i - n) = omega (arith, length-each f 0 n) in
+    let d : n + (i - n) ≡ i = omega arith in
+    ap (λ (k : ℕ). getD (each f 0 n ++ drop n xs) k 0) e ∙ getD-append-add (each f 0 n) (drop n xs) (i - n) 0 ∙ getD-drop n xs (i - n) 0 ∙ ap (λ (k : ℕ). getD xs k 0) d
 
 -- parts of a mapped list
 pub map-take : {A B : Type 0} (f : A → B) (n : ℕ) (xs : List A) → map f (take n xs) ≡ take n (map f xs)

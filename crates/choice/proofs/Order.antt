@@ -8,7 +8,6 @@ use lib.Dec.{leb, ltb}
 use lib.ListN.{length, take, drop}
 use borrow.Author.Tests.{leb-true, leb-false, ltb-true, ltb-false}
 use Rattle.levels.specs.Basics.{if_then_else_}
-use Rattle.levels.specs.Choose.{overlap}
 use Rattle.choice.specs.Fences.{Fence, Ordered, lowOf, highOf, countOver, fenceOverlap, countBelow, countAtMost, Rising, firstKeys, lastKeys, stretchOf}
 use Rattle.choice.proofs.Count.{count-in, count-out, count-none, rising-weak}
 
