@@ -1,0 +1,8 @@
+pub mod Lists
+pub mod Count
+pub mod Levels
+pub mod Order
+pub mod Keys
+pub mod Choose
+pub mod Cut
+pub mod Words
