@@ -1,0 +1,1 @@
+-- Computed cases of `lineOf` and of the printed lines.
