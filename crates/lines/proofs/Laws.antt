@@ -7,7 +7,8 @@ use native.Mathlib.Numerals.{add-one}
 use native.Mathlib.Omega.{arith}
 use borrow.Author.Tests.{ltb-true, ltb-false, leb-true, lt-ltb, le-ltb, ne-eqb, eqb-true}
 use lib.Dec.{leb, ltb, eqb}
-use lib.ListN.{length, getD, length-append}
+use lib.ListN.{length, getD, drop, length-append, drop-of-length-le}
+use lib.Seq.{drop-cons}
 use Rattle.lines.specs.declared.Line.{Line}
 use Rattle.lines.specs.declared.Line.the-variants.{Format, Put, Delete, Get, Unreadable}
 use Rattle.lines.specs.declared.Numbers.{Numbers}
@@ -364,3 +365,12 @@ line-is (x ∷ xs) = go (isLetter x) refl
     go : (t : Bool) → isLetter x ≡ t → lineAfter (run Start (x ∷ xs)) ≡ lineOf (x ∷ xs)
     go true e = rw (run-cons, after-start-letter x e) (letter-line x (letter-no-space x e) xs)
     go false e = rw (run-cons, after-start-other x e, spoiled-line xs, other-line x xs e)
+
+-- The same over a slice, by index: one byte more, and the end.
+pub run-more : (r : Reading) (s : List ℕ) (i : ℕ) → i < length s → run r (drop i s) ≡ run (step r (getD s i 0)) (drop (i + 1) s)
+unfolding run
+run-more r s i h = rw (add-one i, drop-cons s i 0 h)
+
+pub run-end : (r : Reading) (s : List ℕ) (i : ℕ) → length s ≤ i → run r (drop i s) ≡ r
+unfolding run
+run-end r s i h = rw (drop-of-length-le s h)

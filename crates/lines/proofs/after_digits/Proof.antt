@@ -1,3 +1,7 @@
+use mathlib.Core.Path.{sym, _∙_}
+use borrow.Author.Tests.{eq-eqb, ne-eqb}
+use Rattle.lines.specs.Machine.{afterDigits}
+use Rattle.lines.proofs.Laws.{digit-low}
 use borrow.Author.Needs.{needs}
 use Rattle.lines.proofs.after_digits.Statement.{statement}
 use Rattle.lines.proofs.after_digits.Tie as tie
@@ -6,29 +10,26 @@ use Rattle.lines.proofs.after_digits.Lts as lts
 use Rattle.lines.proofs.grow.Reads as grow-reads
 use Rattle.lines.proofs.is_digit.Reads as is-digit-reads
 
--- src/lib.rt:185:9
 returns : tie.Need-returns
-returns c = ?
+unfolding afterDigits
+returns c = rw (eq-eqb _ _ (c .if1 .taken))
 
--- src/lib.rt:187:8
 is-digit-requires : tie.Need-is-digit-requires
 is-digit-requires c κs = search needs
 
--- src/lib.rt:188:38
 sub-grow : tie.Need-sub-grow
-sub-grow c = ?
+sub-grow c = digit-low _ (sym (c .before .is-digit .ensures) ∙ c .if2 .taken)
 
--- src/lib.rt:188:9
 grow-requires : tie.Need-grow-requires
 grow-requires c κs = search needs
 
--- src/lib.rt:188:9
 returns-2 : tie.Need-returns-2
-returns-2 c = ?
+unfolding afterDigits
+returns-2 c = rw (ne-eqb _ _ (c .before .before .before .if1 .left), ← c .before .before .is-digit .ensures, c .before .if2 .taken) (c .grow .ensures)
 
--- src/lib.rt:181:1
 returns-3 : tie.Need-returns-3
-returns-3 c = ?
+unfolding afterDigits
+returns-3 c = rw (ne-eqb _ _ (c .before .before .if1 .left), ← c .before .is-digit .ensures, c .if2 .left)
 
 pub after-digits-spec : {M : Type 1} → statement M
 after-digits-spec =

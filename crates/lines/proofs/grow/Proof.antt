@@ -1,3 +1,5 @@
+use borrow.Author.Tests.{lt-ltb, le-ltb}
+use Rattle.lines.specs.Machine.{grown}
 use borrow.Author.Needs.{needs}
 use Rattle.lines.proofs.grow.Statement.{statement}
 use Rattle.lines.proofs.grow.Tie as tie
@@ -5,33 +7,28 @@ use Rattle.lines.proofs.grow.Reads as reads
 use Rattle.lines.proofs.grow.Lts as lts
 use Rattle.lines.proofs.Numbers.change_last.Reads as change-last-reads
 
--- src/lib.rt:174:13
 cast-v : tie.Need-cast-v
 cast-v c = search needs
 
--- src/lib.rt:174:13
 mul-v : tie.Need-mul-v
 mul-v c = search needs
 
--- src/lib.rt:174:13
 add-v : tie.Need-add-v
 add-v c = search needs
 
--- src/lib.rt:176:60
 cast-change-last : tie.Need-cast-change-last
 cast-change-last c = search needs
 
--- src/lib.rt:176:40
 change-last-requires : tie.Need-change-last-requires
 change-last-requires c κs = search needs
 
--- src/lib.rt:176:9
 returns : tie.Need-returns
-returns c = ?
+unfolding grown
+returns c = rw (lt-ltb _ _ (c .before .if1 .taken), c .change-last .ensures)
 
--- src/lib.rt:170:1
 returns-2 : tie.Need-returns-2
-returns-2 c = ?
+unfolding grown
+returns-2 c = rw (le-ltb _ _ (c .if1 .left))
 
 pub grow-spec : {M : Type 1} → statement M
 grow-spec =

@@ -1,3 +1,5 @@
+use mathlib.Core.Path.{_∙_}
+use Rattle.lines.specs.Machine.{step}
 use borrow.Author.Needs.{needs}
 use Rattle.lines.proofs.Reading.take.Statement.{statement}
 use Rattle.lines.proofs.Reading.take.Tie as tie
@@ -8,61 +10,52 @@ use Rattle.lines.proofs.after_letter.Reads as after-letter-reads
 use Rattle.lines.proofs.after_space.Reads as after-space-reads
 use Rattle.lines.proofs.after_start.Reads as after-start-reads
 
--- src/lib.rt:206:31
 enum-told : tie.Need-enum-told
 enum-told c = search needs
 
--- src/lib.rt:206:31
 after-start-requires : tie.Need-after-start-requires
 after-start-requires c κs = search needs
 
--- src/lib.rt:207:29
 enum-known-self : tie.Need-enum-known-self
 enum-known-self c = search needs
 
--- src/lib.rt:207:40
 after-letter-requires : tie.Need-after-letter-requires
 after-letter-requires c κs = search needs
 
--- src/lib.rt:208:28
 enum-known-self-2 : tie.Need-enum-known-self-2
 enum-known-self-2 c = search needs
 
--- src/lib.rt:208:48
 after-space-requires : tie.Need-after-space-requires
 after-space-requires c κs = search needs
 
--- src/lib.rt:209:29
 enum-known-self-3 : tie.Need-enum-known-self-3
 enum-known-self-3 c = search needs
 
--- src/lib.rt:209:49
 after-digits-requires : tie.Need-after-digits-requires
 after-digits-requires c κs = search needs
 
--- src/lib.rt:210:33
 enum-told-2 : tie.Need-enum-told-2
 enum-told-2 c = search needs
 
--- src/lib.rt:202:5
 returns : tie.Need-returns
-returns c = ?
+unfolding step
+returns c = rw (c .before .enum-told .given .1) (c .after-start .ensures)
 
--- src/lib.rt:202:5
 returns-2 : tie.Need-returns-2
-returns-2 c = ?
+unfolding step
+returns-2 c = rw (c .before .before .self .given .1) (c .after-letter .ensures)
 
--- src/lib.rt:202:5
 returns-3 : tie.Need-returns-3
-returns-3 c = ?
+unfolding step
+returns-3 c = rw (c .before .before .self2 .given .1) (c .after-space .ensures)
 
--- src/lib.rt:202:5
 returns-4 : tie.Need-returns-4
-returns-4 c = ?
+unfolding step
+returns-4 c = rw (c .before .before .self3 .given .1) (c .after-digits .ensures)
 
--- src/lib.rt:202:5
 returns-5 : tie.Need-returns-5
-returns-5 c = ?
+unfolding step
+returns-5 c = rw (c .enum-told2 .given .1)
 
 pub take-spec : {M : Type 1} → statement M
 take-spec =
