@@ -1,5 +1,6 @@
 -- Bytes that document 01's call list names, by their ASCII codes, and small helpers that no rule names.
-use Prim.Native.Nat.{ℕ, _+_}
+use Prim.Native.Nat.{ℕ, _+_, _≤_}
+use mathlib.Core.Path.{_≡_}
 use Prim.Native.Char.{code}
 use Prim.Native.String.{String, [] as ε, _∷_ as _▸_}
 use mathlib.Core.Bool.{Bool, true, false, _&&_}
@@ -49,6 +50,18 @@ every p (x ∷ xs) = p x && every p xs
 -- xs with bs put over what stands there from place i on
 unfoldable pub written : List ℕ → ℕ → List ℕ → List ℕ
 written xs i bs = take i xs ++ (bs ++ drop (i + length bs) xs)
+
+-- Printing bs from place i on made `after` of `before`, and stopped at place r.
+pub record Printed (before after : List ℕ) (i r : ℕ) (bs : List ℕ) : Type 0 where
+  pub ends : r ≡ i + length bs
+  pub inside : r ≤ length before
+  pub words : after ≡ written before i bs
+
+-- The first r bytes are bs now, and the others are as they were.
+pub record Filled (before after : List ℕ) (r : ℕ) (bs : List ℕ) : Type 0 where
+  pub inside : r ≤ length before
+  pub front : take r after ≡ bs
+  pub back : drop r after ≡ drop r before
 
 -- a quoted text as bytes, for the computed cases
 unfoldable pub bytes : String → List ℕ

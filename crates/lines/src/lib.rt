@@ -2,8 +2,9 @@
 
 ghost use mathlib.Core.Path.{_≡_};
 ghost use Prim.Native.Nat.{_+_, _-_, _*_, _≤_, _<_};
-ghost use lib.ListN.{length, take, drop};
-ghost use Rattle.lines.specs.Bytes.{isDigit, written};
+ghost use mathlib.Core.List.{[], _∷_};
+ghost use lib.ListN.{length};
+ghost use Rattle.lines.specs.Bytes.{isDigit, space, Printed, Filled};
 ghost use Rattle.lines.specs.Lines.{lineOf, decimal, field, formatLine, getLine, changeLine, unreadableLine};
 ghost use Rattle.lines.specs.Machine.{noNumbers, pushed, relast, isLetter, afterStart, afterLetter, afterSpace, grown, afterDigits, step, run, said, lineAfter, isStart};
 
@@ -248,4 +249,84 @@ pub fn read_line(s: &[u8]) -> Line
         reading = reading.take(byte);
     }
     reading.line()
+}
+
+// Writes the digits of n from place `at` on and answers the place after them. The digits before the last are those of
+// n / 10 and are written first, so that none has to be counted or turned round.
+pub fn print_number(out: &mut [u8], at: usize, n: u32) -> usize
+    requires { ⌜ at + length (decimal n) ≤ length (now out) ⌝ }
+    ensures { λ r. ⌜ Printed (now (out .entry)) (now (out .exit)) at r (decimal n) ⌝ }
+{
+    if n < 10 {
+        out[at] = b'0' + n as u8;
+        return at + 1;
+    }
+    let end = print_number(out, at, n / 10);
+    out[end] = b'0' + (n % 10) as u8;
+    end + 1
+}
+
+// A number and the byte after it: a space, or the line end. No number has more than ten digits.
+fn print_field(out: &mut [u8], at: usize, n: u32, after: u8) -> usize
+    requires { ⌜ at + 11 ≤ length (now out) ⌝ }
+    ensures { λ r. ⌜ (r ≤ at + 11) × Printed (now (out .entry)) (now (out .exit)) at r (field n after) ⌝ }
+{
+    let end = print_number(out, at, n);
+    out[end] = after;
+    end + 1
+}
+
+fn print_letter(out: &mut [u8], letter: u8) -> usize
+    requires { ⌜ 2 ≤ length (now out) ⌝ }
+    ensures { λ r. ⌜ (r ≤ 2) × Printed (now (out .entry)) (now (out .exit)) 0 r (letter ∷ space ∷ []) ⌝ }
+{
+    out[0] = letter;
+    out[1] = b' ';
+    2
+}
+
+// The line for f, from the buffer's start; the answer is its length.
+pub fn print_format(out: &mut [u8; 64], reason: u32, limit: u32) -> usize
+    ensures { λ r. ⌜ Filled (now (out .entry)) (now (out .exit)) r (formatLine reason limit) ⌝ }
+{
+    let a = print_letter(out, b'f');
+    let b = print_field(out, a, reason, b' ');
+    print_field(out, b, limit, b'\n')
+}
+
+// The line for g.
+pub fn print_get(out: &mut [u8; 64], reason: u32, found: u32, payload: u32) -> usize
+    ensures { λ r. ⌜ Filled (now (out .entry)) (now (out .exit)) r (getLine reason found payload) ⌝ }
+{
+    let a = print_letter(out, b'g');
+    let b = print_field(out, a, reason, b' ');
+    let c = print_field(out, b, found, b' ');
+    print_field(out, c, payload, b'\n')
+}
+
+// The line for p and d, as `letter` says.
+pub fn print_change(
+    out: &mut [u8; 64],
+    letter: u8,
+    reason: u32,
+    live: u32,
+    merged: u32,
+    compacted: u32,
+) -> usize
+    ensures { λ r. ⌜ Filled (now (out .entry)) (now (out .exit)) r (changeLine letter reason live merged compacted) ⌝ }
+{
+    let a = print_letter(out, letter);
+    let b = print_field(out, a, reason, b' ');
+    let c = print_field(out, b, live, b' ');
+    let d = print_field(out, c, merged, b' ');
+    print_field(out, d, compacted, b'\n')
+}
+
+// The line for an unreadable line.
+pub fn print_unreadable(out: &mut [u8; 64]) -> usize
+    ensures { λ r. ⌜ Filled (now (out .entry)) (now (out .exit)) r unreadableLine ⌝ }
+{
+    out[0] = b'?';
+    out[1] = b'\n';
+    2
 }
