@@ -133,3 +133,10 @@ within-lead (suc k) n h p = go (λ (l : 10 ≤ n). within-lead k (n / 10) (omega
 pub decimal-lead : (n : ℕ) → 0 < n → 49 ≤ getD (decimal n) 0 0
 unfolding decimal
 decimal-lead n p = within-lead n n (omega arith) p .1
+
+-- the number of digits, clause by clause
+pub length-small : (n : ℕ) → n < 10 → length (decimal n) ≡ 1
+length-small n h = rw (decimal-small n h)
+
+pub length-more : (n : ℕ) → 10 ≤ n → length (decimal n) ≡ length (decimal (n / 10)) + 1
+length-more n h = rw (decimal-more n h) (simp length-append (omega arith))

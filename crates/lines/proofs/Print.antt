@@ -5,7 +5,7 @@ use mathlib.Core.List.{List, [], _∷_, _++_, append-assoc}
 use native.Mathlib.Nat.{add-assoc, zero-add}
 use native.Mathlib.Numerals.{add-one}
 use native.Mathlib.Omega.{arith}
-use lib.ListN.{length, take, drop, set, length-append, length-take, length-drop}
+use lib.ListN.{length, take, drop, set, length-append, length-drop, length-set}
 use lib.Seq.{take-at, drop-at, drop-drop, length-take-le, set-split}
 use Rattle.lines.specs.Bytes.{written, Printed, Filled}
 
@@ -54,3 +54,10 @@ printed-filled xs ys r bs p =
       front = rw (p .words, zero-add (length bs)) (take-at bs (drop (length bs) xs) r (sym e));
       back = rw (p .words, zero-add (length bs), ← e) (drop-at bs (drop r xs) r (sym e));
     }
+
+-- two bytes, the start of a line with a letter
+pub printed-pair : (xs : List ℕ) (a b : ℕ) → 2 ≤ length xs → Printed xs (set (set xs 0 a) 1 b) 0 2 (a ∷ b ∷ [])
+printed-pair xs a b h =
+    let p : Printed xs (set xs 0 a) 0 1 (a ∷ []) = printed-one xs 0 a (omega arith) in
+    let l : 1 < length (set xs 0 a) = simp length-set (omega arith) in
+    printed-then xs (set xs 0 a) (set (set xs 0 a) 1 b) 0 1 2 (a ∷ []) (b ∷ []) p (printed-one (set xs 0 a) 1 b l)

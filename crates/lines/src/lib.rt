@@ -4,7 +4,7 @@ ghost use mathlib.Core.Path.{_≡_};
 ghost use Prim.Native.Nat.{_+_, _-_, _*_, _≤_, _<_};
 ghost use mathlib.Core.List.{[], _∷_};
 ghost use lib.ListN.{length};
-ghost use Rattle.lines.specs.Bytes.{isDigit, space, Printed, Filled};
+ghost use Rattle.lines.specs.Bytes.{isDigit, Printed, Filled};
 ghost use Rattle.lines.specs.Lines.{lineOf, decimal, field, formatLine, getLine, changeLine, unreadableLine};
 ghost use Rattle.lines.specs.Machine.{noNumbers, pushed, relast, isLetter, afterStart, afterLetter, afterSpace, grown, afterDigits, step, run, said, lineAfter, isStart};
 
@@ -276,12 +276,13 @@ fn print_field(out: &mut [u8], at: usize, n: u32, after: u8) -> usize
     end + 1
 }
 
-fn print_letter(out: &mut [u8], letter: u8) -> usize
+// The two bytes that a line begins with.
+fn print_pair(out: &mut [u8], a: u8, b: u8) -> usize
     requires { ⌜ 2 ≤ length (now out) ⌝ }
-    ensures { λ r. ⌜ (r ≤ 2) × Printed (now (out .entry)) (now (out .exit)) 0 r (letter ∷ space ∷ []) ⌝ }
+    ensures { λ r. ⌜ (r ≤ 2) × Printed (now (out .entry)) (now (out .exit)) 0 r (a ∷ b ∷ []) ⌝ }
 {
-    out[0] = letter;
-    out[1] = b' ';
+    out[0] = a;
+    out[1] = b;
     2
 }
 
@@ -289,7 +290,7 @@ fn print_letter(out: &mut [u8], letter: u8) -> usize
 pub fn print_format(out: &mut [u8; 64], reason: u32, limit: u32) -> usize
     ensures { λ r. ⌜ Filled (now (out .entry)) (now (out .exit)) r (formatLine reason limit) ⌝ }
 {
-    let a = print_letter(out, b'f');
+    let a = print_pair(out, b'f', b' ');
     let b = print_field(out, a, reason, b' ');
     print_field(out, b, limit, b'\n')
 }
@@ -298,7 +299,7 @@ pub fn print_format(out: &mut [u8; 64], reason: u32, limit: u32) -> usize
 pub fn print_get(out: &mut [u8; 64], reason: u32, found: u32, payload: u32) -> usize
     ensures { λ r. ⌜ Filled (now (out .entry)) (now (out .exit)) r (getLine reason found payload) ⌝ }
 {
-    let a = print_letter(out, b'g');
+    let a = print_pair(out, b'g', b' ');
     let b = print_field(out, a, reason, b' ');
     let c = print_field(out, b, found, b' ');
     print_field(out, c, payload, b'\n')
@@ -315,7 +316,7 @@ pub fn print_change(
 ) -> usize
     ensures { λ r. ⌜ Filled (now (out .entry)) (now (out .exit)) r (changeLine letter reason live merged compacted) ⌝ }
 {
-    let a = print_letter(out, letter);
+    let a = print_pair(out, letter, b' ');
     let b = print_field(out, a, reason, b' ');
     let c = print_field(out, b, live, b' ');
     let d = print_field(out, c, merged, b' ');
@@ -326,7 +327,5 @@ pub fn print_change(
 pub fn print_unreadable(out: &mut [u8; 64]) -> usize
     ensures { λ r. ⌜ Filled (now (out .entry)) (now (out .exit)) r unreadableLine ⌝ }
 {
-    out[0] = b'?';
-    out[1] = b'\n';
-    2
+    print_pair(out, b'?', b'\n')
 }
