@@ -24,7 +24,7 @@ written-then xs i bs cs h =
     let d : drop (i + length bs + length cs) (p ++ q) ≡ drop (i + length bs + length cs) xs =
       sym (drop-drop (length cs) (i + length bs) (p ++ q)) ∙ ap (drop (length cs)) (drop-at p q (i + length bs) l) ∙ drop-drop (length cs) (i + length bs) xs
     in
-    rw (a, t, d, length-append bs cs, ← add-assoc i (length bs) (length cs), append-assoc, append-assoc)
+    rw (a, t, d, length-append bs cs, ← add-assoc i (length bs) (length cs), append-assoc (take i xs) bs (cs ++ drop (i + length bs + length cs) xs), append-assoc bs cs (drop (i + length bs + length cs) xs))
 
 pub written-one : (xs : List ℕ) (i b : ℕ) → i < length xs → set xs i b ≡ written xs i (b ∷ [])
 unfolding written
