@@ -276,6 +276,7 @@ within-step x xs rest letter ns v h b = go (eqb x space) refl (isDigit x) refl
     grow-on false k =
         let l = ltb-false _ _ k in
         rw (grown-above letter (pushed (held ns) v) (v * 10 + (x - 48)) l, spoiled-line xs, digits-line-high letter ns (v * 10 + (x - 48)) xs l)
+
     go : (s : Bool) → eqb x space ≡ s → (t : Bool) → isDigit x ≡ t → lineAfter (run (Digits letter (pushed (held ns) v)) (x ∷ xs)) ≡ digitsLine letter ns v (x ∷ xs)
     go true e t k =
         let l : length (ns ++ (v ∷ [])) ≤ 6 = simp length-append (omega arith) in

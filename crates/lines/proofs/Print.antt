@@ -22,7 +22,7 @@ written-then xs i bs cs h =
     let a : take i xs ++ (bs ++ q) ≡ p ++ q = sym (append-assoc (take i xs) bs q) in
     let t : take (i + length bs) (p ++ q) ≡ p = take-at p q (i + length bs) l in
     let d : drop (i + length bs + length cs) (p ++ q) ≡ drop (i + length bs + length cs) xs =
-      sym (drop-drop (length cs) (i + length bs) (p ++ q)) ∙ ap (drop (length cs)) (drop-at p q (i + length bs) l) ∙ drop-drop (length cs) (i + length bs) xs
+    sym (drop-drop (length cs) (i + length bs) (p ++ q)) ∙ ap (drop (length cs)) (drop-at p q (i + length bs) l) ∙ drop-drop (length cs) (i + length bs) xs
     in
     rw (a, t, d, length-append bs cs, ← add-assoc i (length bs) (length cs), append-assoc (take i xs) bs (cs ++ drop (i + length bs + length cs) xs), append-assoc bs cs (drop (i + length bs + length cs) xs))
 

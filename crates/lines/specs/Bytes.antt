@@ -41,7 +41,6 @@ if_then_else_ true a b = a
 if_then_else_ false a b = b
 
 infix 10 if_then_else_
-
 -- the test holds of every element
 abbrev pub every : {A : Type 0} → (A → Bool) → List A → Bool
 every p [] = true

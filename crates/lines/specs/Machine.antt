@@ -63,13 +63,13 @@ said letter ns =
     if eqb (ns .count) 6 && eqb letter letterF
     then Format (ns .n6) (ns .n5) (ns .n4) (ns .n3) (ns .n2) (ns .n1)
     else (
-      if eqb (ns .count) 2 && eqb letter letterP
-      then Put (ns .n2) (ns .n1)
-      else (
-        if eqb (ns .count) 1 && eqb letter letterD
-        then Delete (ns .n1)
-        else (if eqb (ns .count) 1 && eqb letter letterG then Get (ns .n1) else Unreadable)
-      )
+    if eqb (ns .count) 2 && eqb letter letterP
+    then Put (ns .n2) (ns .n1)
+    else (
+    if eqb (ns .count) 1 && eqb letter letterD
+    then Delete (ns .n1)
+    else (if eqb (ns .count) 1 && eqb letter letterG then Get (ns .n1) else Unreadable)
+    )
     )
 
 -- what the line says if it ends here: only the end of a number ends a line

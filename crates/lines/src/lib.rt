@@ -158,11 +158,12 @@ fn after_letter(letter: u8, byte: u8) -> Reading
 fn after_space(letter: u8, numbers: Numbers, byte: u8) -> Reading
     ensures { λ r. ⌜ r ≡ afterSpace letter numbers byte ⌝ }
 {
+    if !is_digit(byte) {
+        return Reading::Spoiled;
+    }
     let count = numbers.count;
     if count < 6 {
-        if is_digit(byte) {
-            return Reading::Digits(letter, numbers.push((byte - b'0') as u32));
-        }
+        return Reading::Digits(letter, numbers.push((byte - b'0') as u32));
     }
     Reading::Spoiled
 }

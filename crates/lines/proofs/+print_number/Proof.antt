@@ -69,7 +69,7 @@ print-number-returns : (t : ℕ) → print-number-lts.Need-returns (
   print-number-below t,
   print-number.Post,
 ) (print-number-at t) print-number.Post
-print-number-returns t c = 
+print-number-returns t c =
     let l : c .before .before .args .at < length (c .before .before .args .out .now) = omega (arith, length-small _ (c .if1 .taken)) in
     rw (decimal-small _ (c .if1 .taken)) (printed-one _ _ _ l)
 
@@ -120,7 +120,7 @@ print-number-returns-2 : (t : ℕ) → print-number-lts.Need-returns-2 (
   print-number-below t,
   print-number.Post,
 ) (print-number-at t) print-number.Post
-print-number-returns-2 t c = 
+print-number-returns-2 t c =
     let k = c .before .before .print-number in
     let l : k .result < length (k .last .0) = omega (arith, length-more _ (c .before .before .before .before .if1 .left), k .kept .0) in
     rw (decimal-more _ (c .before .before .before .before .if1 .left)) (printed-then _ _ _ _ _ _ _ _ (k .ensures) (printed-one _ _ _ l))
