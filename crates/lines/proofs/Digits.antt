@@ -8,7 +8,7 @@ use native.Mathlib.Omega.{arith}
 use borrow.Author.Tests.{ltb-true, ltb-false, lt-ltb, le-ltb, le-leb}
 use lib.Dec.{leb, ltb, lit<}
 use lib.ListN.{length, getD, length-append, List·getD-append}
-use Rattle.lines.specs.Bytes.{digit, isDigit, every}
+use Rattle.lines.specs.Bytes.{digit, digitNine, isDigit, every}
 use Rattle.lines.specs.Lines.{valueFrom, valueOf, wordLimit, isNumber, decimalWithin, decimal}
 
 -- the two clauses, whatever the bound
@@ -100,7 +100,7 @@ every-append (x ∷ xs) ys = go (isDigit x) (every-append xs ys)
     go false e = refl
 
 digit-is : (d : ℕ) → d < 10 → isDigit (digit d) ≡ true
-digit-is d h = rw (le-leb 48 (48 + d) (omega arith), le-leb (48 + d) 57 (omega arith))
+digit-is d h = rw (le-leb 48 (digit d) (omega arith), le-leb (digit d) digitNine (omega arith))
 
 within-digits : (k n : ℕ) → n ≤ k → every isDigit (decimalWithin k n) ≡ true
 within-digits zero n h = rw (within-small zero n (omega arith), digit-is n (omega arith))
@@ -140,3 +140,20 @@ length-small n h = rw (decimal-small n h)
 
 pub length-more : (n : ℕ) → 10 ≤ n → length (decimal n) ≡ length (decimal (n / 10)) + 1
 length-more n h = rw (decimal-more n h) (simp length-append (omega arith))
+
+decimal-some : (n : ℕ) → 0 < length (decimal n)
+decimal-some n = go (ltb n 10) refl
+  where
+    go : (t : Bool) → ltb n 10 ≡ t → 0 < length (decimal n)
+    go true e = omega (arith, length-small n (ltb-true _ _ e))
+    go false e = omega (arith, length-more n (ltb-false _ _ e))
+
+number-of : (xs : List ℕ) → 0 < length xs → every isDigit xs ≡ true → valueOf xs < wordLimit → isNumber xs ≡ true
+number-of [] p e h = absurd (omega arith)
+number-of (x ∷ xs) p e h = simp and-eq-true-iff (simp and-eq-true-iff at e, lt-ltb _ _ h)
+
+-- what is printed of a word can be read again, and says the same (`decimal-value`)
+pub decimal-number : (n : ℕ) → n < wordLimit → isNumber (decimal n) ≡ true
+decimal-number n h =
+    let l : valueOf (decimal n) < wordLimit = rw (decimal-value n) h in
+    number-of (decimal n) (decimal-some n) (decimal-digits n) l

@@ -14,7 +14,7 @@ use Rattle.lines.specs.declared.Line.the-variants.{Format, Put, Delete, 
 use Rattle.lines.specs.declared.Numbers.{Numbers}
 use Rattle.lines.specs.declared.Reading.{Reading}
 use Rattle.lines.specs.declared.Reading.the-variants.{Start, Letter, Space, Digits, Spoiled}
-use Rattle.lines.specs.Bytes.{space, letterD, letterF, letterG, letterP, isDigit, if_then_else_, every}
+use Rattle.lines.specs.Bytes.{digitNine, space, letterD, letterF, letterG, letterP, isDigit, if_then_else_, every}
 use Rattle.lines.specs.Lines.{firstField, furtherFields, valueFrom, valueOf, wordLimit, isNumber, spoken, named, lineOf}
 use Rattle.lines.specs.Machine.{noNumbers, pushed, relast, isLetter, afterStart, afterLetter, afterSpace, grown, afterDigits, step, run, said, lineAfter}
 
@@ -40,7 +40,7 @@ or-right-no false t e = e
 pub digit-low : (x : ℕ) → isDigit x ≡ true → 48 ≤ x
 digit-low x e = let k = simp and-eq-true-iff at e in leb-true _ _ (k .0)
 
-pub digit-high : (x : ℕ) → isDigit x ≡ true → x ≤ 57
+pub digit-high : (x : ℕ) → isDigit x ≡ true → x ≤ digitNine
 digit-high x e = let k = simp and-eq-true-iff at e in leb-true _ _ (k .1)
 
 pub digit-no-space : (x : ℕ) → isDigit x ≡ true → eqb x space ≡ false
@@ -375,3 +375,9 @@ run-more r s i h = rw (add-one i, drop-cons s i 0 h)
 pub run-end : (r : Reading) (s : List ℕ) (i : ℕ) → length s ≤ i → run r (drop i s) ≡ r
 unfolding run
 run-end r s i h = rw (drop-of-length-le s h)
+
+-- A line may come in pieces.
+pub run-append : (r : Reading) (xs ys : List ℕ) → run r (xs ++ ys) ≡ run (run r xs) ys
+unfolding run
+run-append r [] ys = refl
+run-append r (x ∷ xs) ys = run-append (step r x) xs ys

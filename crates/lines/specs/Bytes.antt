@@ -29,9 +29,12 @@ letterG = 103
 abbrev pub letterP : ℕ
 letterP = 112
 
+abbrev pub digitNine : ℕ
+digitNine = 57
+
 -- 0 to 9 are the bytes 48 to 57
 abbrev pub isDigit : ℕ → Bool
-isDigit x = leb 48 x && leb x 57
+isDigit x = leb 48 x && leb x digitNine
 
 abbrev pub digit : ℕ → ℕ
 digit n = 48 + n
@@ -40,7 +43,7 @@ abbrev pub if_then_else_ : {A : Type 0} → Bool → A → A → A
 if_then_else_ true a b = a
 if_then_else_ false a b = b
 
-infix 10 if_then_else_
+infixr 10 if_then_else_
 -- the test holds of every element
 abbrev pub every : {A : Type 0} → (A → Bool) → List A → Bool
 every p [] = true

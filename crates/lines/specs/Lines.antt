@@ -40,15 +40,13 @@ unfoldable pub spoken : ℕ → List ℕ → Line
 spoken letter ns =
     if eqb (length ns) 6 && eqb letter letterF
     then Format (getD ns 0 0) (getD ns 1 0) (getD ns 2 0) (getD ns 3 0) (getD ns 4 0) (getD ns 5 0)
-    else (
-    if eqb (length ns) 2 && eqb letter letterP
+    else if eqb (length ns) 2 && eqb letter letterP
     then Put (getD ns 0 0) (getD ns 1 0)
-    else (
-    if eqb (length ns) 1 && eqb letter letterD
+    else if eqb (length ns) 1 && eqb letter letterD
     then Delete (getD ns 0 0)
-    else (if eqb (length ns) 1 && eqb letter letterG then Get (getD ns 0 0) else Unreadable)
-    )
-    )
+    else if eqb (length ns) 1 && eqb letter letterG
+    then Get (getD ns 0 0)
+    else Unreadable
 
 -- the first field is one letter, alone
 unfoldable pub named : List ℕ → List ℕ → Line

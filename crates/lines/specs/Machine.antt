@@ -42,7 +42,7 @@ grown letter ns v = if ltb v wordLimit then Digits letter (relast ns v) else Spo
 
 unfoldable pub afterDigits : ℕ → Numbers → ℕ → Reading
 afterDigits letter ns x =
-    if eqb x space then Space letter ns else (if isDigit x then grown letter ns (ns .n1 * 10 + (x - 48)) else Spoiled)
+    if eqb x space then Space letter ns else if isDigit x then grown letter ns (ns .n1 * 10 + (x - 48)) else Spoiled
 
 -- one byte that is no line end
 unfoldable pub step : Reading → ℕ → Reading
@@ -62,15 +62,13 @@ unfoldable pub said : ℕ → Numbers → Line
 said letter ns =
     if eqb (ns .count) 6 && eqb letter letterF
     then Format (ns .n6) (ns .n5) (ns .n4) (ns .n3) (ns .n2) (ns .n1)
-    else (
-    if eqb (ns .count) 2 && eqb letter letterP
+    else if eqb (ns .count) 2 && eqb letter letterP
     then Put (ns .n2) (ns .n1)
-    else (
-    if eqb (ns .count) 1 && eqb letter letterD
+    else if eqb (ns .count) 1 && eqb letter letterD
     then Delete (ns .n1)
-    else (if eqb (ns .count) 1 && eqb letter letterG then Get (ns .n1) else Unreadable)
-    )
-    )
+    else if eqb (ns .count) 1 && eqb letter letterG
+    then Get (ns .n1)
+    else Unreadable
 
 -- what the line says if it ends here: only the end of a number ends a line
 unfoldable pub lineAfter : Reading → Line

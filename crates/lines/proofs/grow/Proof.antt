@@ -1,3 +1,6 @@
+use native.Mathlib.Omega.{arith}
+use Prim.Native.Nat.{_+_, _*_, _<_, _≤_}
+use Rattle.lines.specs.Lines.{wordLimit}
 use borrow.Author.Tests.{lt-ltb, le-ltb}
 use Rattle.lines.specs.Machine.{grown}
 use borrow.Author.Needs.{needs}
@@ -24,11 +27,17 @@ change-last-requires c κs = search needs
 
 returns : tie.Need-returns
 unfolding grown
-returns c = rw (lt-ltb _ _ (c .before .if1 .taken), c .change-last .ensures)
+returns c =
+    let a = c .before .before .args in
+    let l : a .numbers .n1 * 10 + a .digit < wordLimit = omega arith in
+    rw (lt-ltb _ _ l, c .change-last .ensures)
 
 returns-2 : tie.Need-returns-2
 unfolding grown
-returns-2 c = rw (le-ltb _ _ (c .if1 .left))
+returns-2 c =
+    let a = c .before .args in
+    let l : wordLimit ≤ a .numbers .n1 * 10 + a .digit = omega arith in
+    rw (le-ltb _ _ l)
 
 pub grow-spec : {M : Type 1} → statement M
 grow-spec =
