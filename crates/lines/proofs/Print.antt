@@ -49,8 +49,11 @@ pub printed-filled : (xs ys : List ℕ) (r : ℕ) (bs : List ℕ) → Printed xs
 unfolding written
 printed-filled xs ys r bs p =
     let e : r ≡ length bs = omega arith in
+    let l : length ys ≡ length xs = rw (p .words) (written-length xs 0 bs (omega arith)) in
+    let i : r ≤ length ys = omega arith in
     record {
-      inside = omega arith;
+      inside = i;
+      count = sym (length-take-le r ys i);
       front = rw (p .words, zero-add (length bs)) (take-at bs (drop (length bs) xs) r (sym e));
       back = rw (p .words, zero-add (length bs), ← e) (drop-at bs (drop r xs) r (sym e));
     }

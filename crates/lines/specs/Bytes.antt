@@ -59,9 +59,11 @@ pub record Printed (before after : List ℕ) (i r : ℕ) (bs : List ℕ) : Type 
   pub inside : r ≤ length before
   pub words : after ≡ written before i bs
 
--- The first r bytes are bs now, and the others are as they were.
+-- The first r bytes are bs now, and the others are as they were. The first two facts follow from r's being the length of bs;
+-- they are stated because a caller that hands on `&out[..r]` is asked for them.
 pub record Filled (before after : List ℕ) (r : ℕ) (bs : List ℕ) : Type 0 where
-  pub inside : r ≤ length before
+  pub inside : r ≤ length after
+  pub count : r ≡ length (take r after)
   pub front : take r after ≡ bs
   pub back : drop r after ≡ drop r before
 
