@@ -25,3 +25,5 @@ pub mod Room
 pub mod Every
 pub mod Pages
 pub mod Sound
+pub mod StoreRows
+pub mod MergeRun
