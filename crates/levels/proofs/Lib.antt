@@ -27,3 +27,5 @@ pub mod Pages
 pub mod Sound
 pub mod StoreRows
 pub mod MergeRun
+pub mod Inside
+pub mod MergeInside

@@ -14,19 +14,13 @@ use Rattle.levels.specs.Call.{enoughSteps}
 use Rattle.levels.proofs.Basics.{and-left, and-right, and-both}
 use Rattle.levels.proofs.Compaction.{pages-records}
 
--- what holds of the level at index i after another was put at index j
-pub set-at : (P : Level → Type 0) (ls : List Level) (j : ℕ) (l : Level) (i : ℕ) → (i ≡ j → P l) → P (getD ls i []) → P (getD (set ls j l) i [])
-set-at P [] j l i a b = b
-set-at P (c ∷ ls) zero l zero a b = a refl
-set-at P (c ∷ ls) zero l (suc i) a b = b
-set-at P (c ∷ ls) (suc j) l zero a b = b
-set-at P (c ∷ ls) (suc j) l (suc i) a b = set-at P ls j l i (λ e. a (ap suc e)) b
-
--- the level at index i is the one put there
-pub set-here : (ls : List Level) (j : ℕ) (l : Level) → j < length ls → getD (set ls j l) j [] ≡ l
-set-here [] j l h = absurd (omega arith)
-set-here (c ∷ ls) zero l h = refl
-set-here (c ∷ ls) (suc j) l h = set-here ls j l (omega arith)
+-- what holds of the element at index i after another was put at index j
+pub set-at : {A : Type 0} (d : A) (P : A → Type 0) (ls : List A) (j : ℕ) (l : A) (i : ℕ) → (i ≡ j → P l) → P (getD ls i d) → P (getD (set ls j l) i d)
+set-at d P [] j l i a b = b
+set-at d P (c ∷ ls) zero l zero a b = a refl
+set-at d P (c ∷ ls) zero l (suc i) a b = b
+set-at d P (c ∷ ls) (suc j) l zero a b = b
+set-at d P (c ∷ ls) (suc j) l (suc i) a b = set-at d P ls j l i (λ e. a (ap suc e)) b
 
 map-set : (ls : List Level) (j : ℕ) (l : Level) → map records (set ls j l) ≡ set (map records ls) j (records l)
 map-set [] j l = refl
@@ -58,7 +52,7 @@ levels-with (suc j) l s = length-set (s .levels) j l
 -- what holds of a listed level after level i was replaced
 pub level-with : (P : Level → Type 0) (i : ℕ) (l : Level) (s : Store) (j : ℕ) → (suc j ≡ i → P l) → P (getD (s .levels) j []) → P (getD (withBlocks i l s .levels) j [])
 level-with P zero l s j a b = b
-level-with P (suc i) l s j a b = set-at P (s .levels) i l j (λ e. a (ap suc e)) b
+level-with P (suc i) l s j a b = set-at [] P (s .levels) i l j (λ e. a (ap suc e)) b
 
 -- a test of every row
 pub all-row : (p : List Rec → Bool) (ls : List (List Rec)) (i : ℕ) → p [] ≡ true → all p ls ≡ true → p (getD ls i []) ≡ true
