@@ -29,3 +29,4 @@ pub mod StoreRows
 pub mod MergeRun
 pub mod Inside
 pub mod MergeInside
+pub mod CompactInside

@@ -22,6 +22,12 @@ set-at d P (c ∷ ls) zero l (suc i) a b = b
 set-at d P (c ∷ ls) (suc j) l zero a b = b
 set-at d P (c ∷ ls) (suc j) l (suc i) a b = set-at d P ls j l i (λ e. a (ap suc e)) b
 
+-- the element at index j is the one put there
+pub set-here : {A : Type 0} (d : A) (ls : List A) (j : ℕ) (l : A) → j < length ls → getD (set ls j l) j d ≡ l
+set-here d [] j l h = absurd (omega arith)
+set-here d (c ∷ ls) zero l h = refl
+set-here d (c ∷ ls) (suc j) l h = set-here d ls j l (omega arith)
+
 map-set : (ls : List Level) (j : ℕ) (l : Level) → map records (set ls j l) ≡ set (map records ls) j (records l)
 map-set [] j l = refl
 map-set (a ∷ ls) zero l = refl
