@@ -131,11 +131,21 @@ module _ (g : Geometry) (e s : Store) (j : ℕ) (v : Valid g) (low : j < g .h) (
           writes = written-length (g .p) (allocationOf s) l ∙ compact-fresh (g .b) o ∙ compact-length (g .b) o (omega arith);
         }
 
+-- each compaction finds the store as the one before it left it
+abbrev pub Follows : Store → List Compaction → Type 0
+Follows s [] = Unit {0}
+Follows s (c ∷ cs) = (c .start ≡ s) × Follows (c .finish) cs
+
 -- What compactions leave: all about each, and what holds after them. Level 0 is not touched, and no row changes.
 pub record Stepped (g : Geometry) (e s : Store) (cs : List Compaction) : Type 0 where
   pub facts : Every (CompactionFacts g e) cs
+  pub follows : Follows s cs
   pub inside : Inside g e (afterCompactions s cs)
   pub same-rows : rows (afterCompactions s cs) ≡ rows s
+
+compact-start : (g : Geometry) (i : ℕ) (s : Store) → compactLevel g i s .start ≡ s
+unfolding compactLevel
+compact-start g i s = refl
 
 -- a level compacted if it needs it: then it keeps the level rule, and another as before
 pub needed-stepped : (g : Geometry) (e s : Store) (j : ℕ) → Valid g → j < g .h → Inside g e s
@@ -147,10 +157,10 @@ needed-stepped g e s j v low n = go (needsCompact (g .b) (getD (s .levels) j [])
         Stepped g e s cs × ((i : ℕ) → (i ≢ j → needsCompact (g .b) (getD (s .levels) i []) ≡ false) → needsCompact (g .b) (getD (afterCompactions s cs .levels) i []) ≡ false)
     go true q = (
       (let f = compact-facts g e s j v low n q in
-      record { facts = (f, tt); inside = f .finish-inside; same-rows = compact-rows g e s j v low n }),
+      record { facts = (f, tt); follows = (compact-start g (suc j) s, tt); inside = f .finish-inside; same-rows = compact-rows g e s j v low n }),
       compact-ruled g e s j v low n,
     )
-    go false q = (record { facts = tt; inside = n; same-rows = refl }, λ i h. other i h (ℕ-discrete i j))
+    go false q = (record { facts = tt; follows = tt; inside = n; same-rows = refl }, λ i h. other i h (ℕ-discrete i j))
       where
         other : (i : ℕ) → (i ≢ j → needsCompact (g .b) (getD (s .levels) i []) ≡ false) → Dec (i ≡ j) → needsCompact (g .b) (getD (s .levels) i []) ≡ false
         other i h (yes z) = ap (λ (m : ℕ). needsCompact (g .b) (getD (s .levels) m [])) z ∙ q
@@ -160,11 +170,16 @@ after-append : (s : Store) (cs ds : List Compaction) → afterCompactions s (cs 
 after-append s [] ds = refl
 after-append s (c ∷ cs) ds = after-append (c .finish) cs ds
 
+follows-append : (s : Store) (cs ds : List Compaction) → Follows s cs → Follows (afterCompactions s cs) ds → Follows s (cs ++ ds)
+follows-append s [] ds a b = b
+follows-append s (c ∷ cs) ds a b = (a .0, follows-append (c .finish) cs ds (a .1) b)
+
 stepped-append : (g : Geometry) (e s : Store) (cs ds : List Compaction) → Stepped g e s cs → Stepped g e (afterCompactions s cs) ds → Stepped g e s (cs ++ ds)
 stepped-append g e s cs ds a b =
     let q = after-append s cs ds in
     record {
       facts = every-append (CompactionFacts g e) cs ds (a .facts) (b .facts);
+      follows = follows-append s cs ds (a .follows) (b .follows);
       inside = subst (Inside g e) (sym q) (b .inside);
       same-rows = ap rows q ∙ b .same-rows ∙ a .same-rows;
     }

@@ -30,3 +30,4 @@ pub mod MergeRun
 pub mod Inside
 pub mod MergeInside
 pub mod CompactInside
+pub mod InCall
