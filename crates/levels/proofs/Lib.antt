@@ -31,3 +31,4 @@ pub mod Inside
 pub mod MergeInside
 pub mod CompactInside
 pub mod InCall
+pub mod Entry
