@@ -32,3 +32,4 @@ pub mod MergeInside
 pub mod CompactInside
 pub mod InCall
 pub mod Entry
+pub mod CallMerges
