@@ -160,7 +160,7 @@ module _ (g : Geometry) (s : Store) (v : Valid g) (f : Fits g s) (o : Sound g s)
               subst (λ (m : ℕ). length (blocksOf g m (afterMerges s (mergesFrom g s))) ≤ capacityOf g m) (sym z) (inside-bottom g s (afterMerges s (mergesFrom g s)) (d .inside) v (entry-of g s v f o) (d .ruled))
           last (no z) = deepest-says g (afterMerges s (mergesFrom g s)) (g .h - 1) 0 (from-ends (full-top k e)) .0 i (omega arith) (omega arith)
 
-  -- the key stands in level 0 then, or level 0 has room for a record
+  -- where a call merges, level 0 then has room for a record
   pub call-top : (k : ℕ) → (isSome (find k (s .top)) || ltb (length (s .top)) (topCapacityOf g)) ≡ false → length (afterMerges s (mergesFor g s k) .top) < topCapacityOf g
   call-top k e =
       let q = full-top k e in

@@ -17,7 +17,7 @@ use Rattle.levels.specs.Waste.{needsCompact}
 use Rattle.levels.specs.Place.{placesOf}
 use Rattle.levels.specs.Store.{Store, rows, blocksOf, usedIn, allocationOf}
 use Rattle.levels.specs.Call.{Compaction, Merge, mergeRun, mergeLevel, afterCompactions, stepFive, afterMerge, afterMerges, deepestOver, mergesBelow, mergesFrom, enoughSteps}
-use Rattle.levels.specs.Count.{aboveOf, underOf}
+use Rattle.levels.specs.Count.{aboveOf, underOf, runOf, overlapOf}
 use Rattle.levels.proofs.Merged.{Mergeable, upper-fewer}
 use Rattle.levels.proofs.Chosen.{Due}
 use Rattle.levels.proofs.Places.{Changed}
@@ -25,7 +25,7 @@ use Rattle.levels.proofs.Every.{Every, every-turn}
 use Rattle.levels.proofs.StoreRows.{row-blocks, load, load-enough}
 use Rattle.levels.proofs.MergeRun.{upperLeft, lowerMade, run-rows, run-level, run-written, run-places}
 use Rattle.levels.proofs.Inside.{Inside, Entry, Ruled, inside-sorted, inside-bottom}
-use Rattle.levels.proofs.MergeInside.{chosenAt, chosen-can, chosen-room, chosen-changed, chosen-load, merge-inside}
+use Rattle.levels.proofs.MergeInside.{chosenAt, chosen-can, chosen-writes, chosen-writes-top, chosen-overlap, chosen-room, chosen-changed, chosen-load, merge-inside}
 use Rattle.levels.proofs.CompactInside.{Stepped, five-stepped}
 
 -- All about one merge of a call that began with the store e.
@@ -46,6 +46,9 @@ pub record MergeFacts (g : Geometry) (e : Store) (m : Merge) : Type 0 where
   pub room : length (usedIn (m .start)) + length (m .written) < g .p
   pub changed : Changed (g .p) (allocationOf (m .start)) (usedIn (m .finish)) (placesOf (m .written))
   pub takes-each : length (placesOf (m .written)) ≡ length (m .written)
+  -- it writes at most w + q + 1 blocks, and out of level 0 at most w + q
+  pub writes : length (m .written) ≤ m .window + overlapOf g m + 1
+  pub writes-top : m .level ≡ 0 → length (m .written) ≤ m .window + overlapOf g m
   -- step 5: all about its compactions; afterwards no level needs compacting
   pub five : Stepped g e (m .finish) (m .compactions)
   pub after-ruled : Ruled g (afterMerge m)
@@ -55,7 +58,7 @@ pub record MergeFacts (g : Geometry) (e : Store) (m : Merge) : Type 0 where
 -- one merge of the chosen run, where every level keeps the level rule and the levels below are within their capacities
 pub merge-facts : (g : Geometry) (e s : Store) (i : ℕ) → Valid g → i < g .h → Inside g e s → Ruled g s → Due g i (blocksOf g i s) (blocksOf g (suc i) s)
     → ((k : ℕ) → i < k → k ≤ g .h → length (blocksOf g k s) ≤ capacityOf g k) → MergeFacts g e (mergeLevel g i s)
-unfolding mergeLevel mergeRun aboveOf underOf
+unfolding mergeLevel mergeRun aboveOf underOf runOf overlapOf
 merge-facts g e s i v low n r d b =
     let w : ℕ = windowOf g i in
     let f : ℕ = chosenAt g i s in
@@ -75,6 +78,8 @@ merge-facts g e s i v low n r d b =
       room = omega (arith, chosen-room g e s i v low n d, run-written g i w f s);
       changed = chosen-changed g e s i v low n d;
       takes-each = run-places g i w f s ∙ sym (run-written g i w f s);
+      writes = omega (arith, chosen-writes g e s i v low n d, run-written g i w f s, chosen-overlap g e s i v low n d);
+      writes-top = λ z. omega (arith, chosen-writes-top g e s i v low n d z, run-written g i w f s, chosen-overlap g e s i v low n d);
       five = five .0;
       after-ruled = five .1;
       falls = omega (arith, chosen-load g e s i v low n d, ap load (five .0 .same-rows));

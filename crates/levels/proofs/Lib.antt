@@ -33,3 +33,4 @@ pub mod CompactInside
 pub mod InCall
 pub mod Entry
 pub mod CallMerges
+pub mod MergeBounds

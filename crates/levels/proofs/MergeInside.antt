@@ -6,22 +6,22 @@ use mathlib.Core.List.{List, [], _∷_}
 use mathlib.Core.Option.{Option}
 use native.Mathlib.Omega.{arith}
 use lib.Dec.{eqb}
-use lib.ListN.{length, getD, set}
+use lib.ListN.{length, getD, set, take, drop}
 use borrow.Author.Tests.{eqb-true, eqb-false, eq-eqb}
 use Rattle.geometry.specs.declared.Geometry.{Geometry}
 use Rattle.geometry.specs.Geometry.{Valid, capacityOf, windowOf}
 use Rattle.levels.specs.Basics.{all, orElse}
 use Rattle.levels.specs.Record.{Rec, Level, records, hasTombstone, cleanTombstones}
 use Rattle.levels.specs.Map.{find, present, lookUp}
-use Rattle.levels.specs.Choose.{choose, cutAt}
+use Rattle.levels.specs.Choose.{overlap, choose, cutAt}
 use Rattle.levels.specs.Place.{placesOf}
 use Rattle.levels.specs.Store.{Store, rows, blocksOf, usedIn, allocationOf}
 use Rattle.levels.specs.Call.{mergeLevel}
-use Rattle.levels.proofs.Levels.{Well}
+use Rattle.levels.proofs.Levels.{Well, sized-filled, rising-ordered}
+use Rattle.levels.proofs.Cut.{over-length}
 use Rattle.levels.proofs.View.{Risings}
 use Rattle.levels.proofs.Rows.{risings-set, look-up-pair, look-up-last}
 use Rattle.levels.proofs.Fresh.{fresh}
-use Rattle.levels.proofs.Levels.{sized-least}
 use Rattle.levels.proofs.Merged.{Mergeable, upperOf, lowerOf, upper-well, lower-well, upper-rising, lower-rising, upper-all, lower-all, lower-clean, pair-find, pair-present, upper-count, upper-fewer, lower-count, upper-length, upper-writes, lower-writes}
 use Rattle.levels.proofs.Settling.{settle-length, settle-placed, settle-well}
 use Rattle.levels.proofs.Places.{Changed, changed-distinct, changed-inside}
@@ -62,6 +62,21 @@ module _ (g : Geometry) (e s : Store) (i : ℕ) (v : Valid g) (low : i < g .h) (
       up : (i : ℕ) → Mergeable (g .b) (windowOf g i) (chosenAt g i s) (blocksOf g i s) (blocksOf g (suc i) s) → newAbove i (upperLeft g i (windowOf g i) (chosenAt g i s) s) ≤ 1
       up zero h = omega arith
       up (suc j) h = upper-writes (g .b) (windowOf g (suc j)) (chosenAt g (suc j) s) (blocksOf g (suc j) s) (blocksOf g (suc (suc j)) s) h j (n .placed j)
+
+  pub chosen-writes-top : i ≡ 0 → newBlocks g i (windowOf g i) (chosenAt g i s) s ≤ windowOf g i + length (cutOf g i (windowOf g i) (chosenAt g i s) s .over)
+  chosen-writes-top q =
+      let l = lower-writes (g .b) (windowOf g i) (chosenAt g i s) (blocksOf g i s) (blocksOf g (suc i) s) chosen-can (eqb (suc i) (g .h)) (n .placed i) in
+      omega (arith, l, none i q)
+    where
+      none : (i : ℕ) → i ≡ 0 → newAbove i (upperLeft g i (windowOf g i) (chosenAt g i s) s) ≡ 0
+      none zero q = refl
+      none (suc j) q = absurd (omega (arith, q))
+
+  -- q, the overlap of the chosen run, is the length of Y
+  pub chosen-overlap : length (cutOf g i (windowOf g i) (chosenAt g i s) s .over) ≡ overlap (blocksOf g (suc i) s) (take (windowOf g i) (drop (chosenAt g i s) (blocksOf g i s)))
+  chosen-overlap =
+      over-length (windowOf g i) (chosenAt g i s) 0 (blocksOf g i s) (blocksOf g (suc i) s)
+      (rising-ordered 0 (blocksOf g (suc i) s) (sized-filled (g .b) (blocksOf g (suc i) s) (d .under-well .sized)) (d .under-sorted))
 
   -- a free place is left at each taking: the places in use and those taken are together below P
   pub chosen-room : length (usedIn s) + newBlocks g i (windowOf g i) (chosenAt g i s) s < g .p
