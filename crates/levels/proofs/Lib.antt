@@ -34,3 +34,4 @@ pub mod InCall
 pub mod Entry
 pub mod CallMerges
 pub mod MergeBounds
+pub mod Insert
