@@ -35,3 +35,4 @@ pub mod Entry
 pub mod CallMerges
 pub mod MergeBounds
 pub mod Insert
+pub mod PutDelete
