@@ -36,3 +36,4 @@ pub mod CallMerges
 pub mod MergeBounds
 pub mod Insert
 pub mod PutDelete
+pub mod Stays
