@@ -2,8 +2,8 @@
 use Prim.Native.Nat.{ℕ, zero, suc, _+_, _*_, _<_, _≤_}
 use mathlib.Core.Path.{_≡_, refl, sym, _∙_, ap, subst}
 use mathlib.Core.Bool.{Bool, true, false}
-use mathlib.Core.List.{List, [], _∷_, _++_}
-use mathlib.Core.Logic.{_≢_}
+use mathlib.Core.List.{List, [], _∷_, _++_, List·Memᴰ}
+use mathlib.Core.Logic.{_≢_, _⊎_, inl}
 use native.Mathlib.Omega.{arith}
 use native.Mathlib.Decide.{ℕ-discrete}
 use lib.ListN.{length, getD, set, length-set}
@@ -26,7 +26,10 @@ use Rattle.levels.proofs.Settling.{settle-records, settle-length, settl
 use Rattle.levels.proofs.Places.{Changed, changed-distinct, changed-inside, changed-newly}
 use Rattle.levels.proofs.Written.{replaced-changed, compact-old}
 use Rattle.levels.proofs.Room.{compact-room}
-use Rattle.levels.proofs.Every.{Every, every-append}
+use Rattle.levels.proofs.Every.{Every, every-make, every-append, allBlocks}
+use Rattle.levels.proofs.Sound.{BlockFits}
+use Rattle.levels.proofs.Stays.{old-fresh, settled-old, every-set, written-sized}
+use Rattle.levels.proofs.Entry.{taken-fit}
 use Rattle.levels.proofs.StoreRows.{set-at, set-here, row-blocks, rows-with, recordsAbove}
 use Rattle.levels.proofs.Inside.{Inside, Ruled, inside-doubled}
 
@@ -45,6 +48,9 @@ pub record CompactionFacts (g : Geometry) (e : Store) (c : Compaction) : Type 0 
   pub room : length (usedIn (c .start)) + length (c .written) < g .p
   pub changed : Changed (g .p) (allocationOf (c .start)) (usedIn (c .finish)) (placesOf (c .written))
   pub takes-each : length (placesOf (c .written)) ≡ length (c .written)
+  -- each block at the end is one that was there, or is written; and those written are fit to be listed
+  pub stays : Every (λ b. List·Memᴰ b (allBlocks (c .start .levels)) ⊎ List·Memᴰ b (c .written)) (allBlocks (c .finish .levels))
+  pub written-fit : Every (BlockFits g) (c .written)
   -- "all records anew, B to a block, the last with the rest"
   pub writes : length (c .written) ≡ ceilDiv (length (records (blocksOf g (c .level) (c .start)))) (g .b)
 
@@ -128,6 +134,11 @@ module _ (g : Geometry) (e s : Store) (j : ℕ) (v : Valid g) (low : j < g .h) (
           room = omega (arith, room-here, written-length (g .p) (allocationOf s) l);
           changed = compact-changed;
           takes-each = written-places (g .p) (allocationOf s) l ∙ sym (written-length (g .p) (allocationOf s) l);
+          stays = every-set (λ b. List·Memᴰ b (allBlocks (s .levels)) ⊎ List·Memᴰ b (settle (g .p) (allocationOf s) l .written)) (s .levels) j (settle (g .p) (allocationOf s) l .level)
+              (every-make _ (allBlocks (s .levels)) (λ b m. inl m))
+              (settled-old (λ b. List·Memᴰ b (allBlocks (s .levels))) (g .p) (allocationOf s) l (old-fresh (λ b. List·Memᴰ b (allBlocks (s .levels))) l (compact-fresh (g .b) o)));
+          written-fit = taken-fit g (allocationOf s) (settle (g .p) (allocationOf s) l .written) (written-sized (g .b) (g .p) (allocationOf s) l (compact-well (g .b) o (omega arith) .sized))
+              (written-places (g .p) (allocationOf s) l ∙ sym (written-length (g .p) (allocationOf s) l)) (compact-changed .takes);
           writes = written-length (g .p) (allocationOf s) l ∙ compact-fresh (g .b) o ∙ compact-length (g .b) o (omega arith);
         }
 

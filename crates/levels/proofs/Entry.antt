@@ -16,12 +16,15 @@ use Rattle.levels.specs.Basics.{all, ceilDiv}
 use Rattle.levels.specs.Record.{Rec, Block, Level, records, hasTombstone, rising, cleanTombstones}
 use Rattle.levels.specs.Map.{liveCount}
 use Rattle.levels.specs.Waste.{needsCompact}
-use Rattle.levels.specs.Place.{placesOf, inUse}
+use Rattle.levels.specs.Place.{Allocation, placesOf, inUse}
 use Rattle.levels.specs.Store.{Store, rows, blocksOf, usedIn}
 use Rattle.levels.proofs.Basics.{and-left, and-right, and-both}
 use Rattle.levels.proofs.View.{test-risings, risings-test}
 use Rattle.levels.proofs.Levels.{Sized, Well, well-nil, sized-most, test-pairs, pairs-test}
 use Rattle.levels.proofs.Fresh.{fresh}
+use Rattle.levels.proofs.Settling.{Takes}
+use Rattle.levels.proofs.Places.{total-inside, takes-inside}
+use Rattle.levels.proofs.Stays.{all-placed}
 use Rattle.levels.proofs.Fits.{Within}
 use Rattle.levels.proofs.Laid.{all-append, all-left, all-right}
 use Rattle.levels.proofs.Capacity.{capacity-sum-front}
@@ -61,6 +64,10 @@ blocks-fit g (b ∷ bs) s f a = go (b .place) refl f a (λ x y. blocks-fit g bs 
       record { at = p; placed-at = e; inside = ltb-true p (g .p) (and-left (ltb p (g .p)) _ a); filled = s .0; fits = s .1 },
       ih (omega (arith, f)) (and-right (ltb p (g .p)) _ a),
     )
+
+-- so a block of 1 to B records that takes a place is one
+pub taken-fit : (g : Geometry) (a : Allocation) (l : Level) → Sized (g .b) l → length (placesOf l) ≡ length l → Takes (g .p) a (placesOf l) → Every (BlockFits g) l
+taken-fit g a l s e t = blocks-fit g l s (all-placed l e) (total-inside (g .p) (placesOf l) (takes-inside (g .p) a (placesOf l) t))
 
 all-within : (g : Geometry) (ls : List Level) → Every (BlockFits g) (allBlocks ls) → all (λ (p : ℕ). ltb p (g .p)) (inUse ls) ≡ true
 all-within g [] h = refl

@@ -2,8 +2,8 @@
 use Prim.Native.Nat.{ℕ, zero, suc, _+_, _-_, _*_, _<_, _≤_}
 use mathlib.Core.Path.{_≡_, refl, sym, _∙_, ap, subst}
 use mathlib.Core.Bool.{Bool, true, false}
-use mathlib.Core.List.{List, [], _∷_}
-use mathlib.Core.Logic.{_≢_}
+use mathlib.Core.List.{List, [], _∷_, List·Memᴰ}
+use mathlib.Core.Logic.{_≢_, _⊎_}
 use native.Mathlib.Omega.{arith}
 use native.Mathlib.Decide.{ℕ-discrete}
 use lib.Dec.{ltb}
@@ -21,9 +21,11 @@ use Rattle.levels.specs.Count.{aboveOf, underOf, runOf, overlapOf}
 use Rattle.levels.proofs.Merged.{Mergeable, upper-fewer}
 use Rattle.levels.proofs.Chosen.{Due}
 use Rattle.levels.proofs.Places.{Changed}
-use Rattle.levels.proofs.Every.{Every, every-turn}
+use Rattle.levels.proofs.Every.{Every, allBlocks}
+use Rattle.levels.proofs.Sound.{BlockFits}
+use Rattle.levels.proofs.Entry.{taken-fit}
 use Rattle.levels.proofs.StoreRows.{row-blocks, load, load-enough}
-use Rattle.levels.proofs.MergeRun.{upperLeft, lowerMade, run-rows, run-level, run-written, run-places}
+use Rattle.levels.proofs.MergeRun.{upperLeft, lowerMade, run-rows, run-level, run-written, run-places, run-stays, run-sized}
 use Rattle.levels.proofs.Inside.{Inside, Entry, Ruled, inside-sorted, inside-bottom}
 use Rattle.levels.proofs.MergeInside.{chosenAt, chosen-can, chosen-writes, chosen-writes-top, chosen-overlap, chosen-room, chosen-changed, chosen-load, merge-inside}
 use Rattle.levels.proofs.CompactInside.{Stepped, five-stepped}
@@ -46,6 +48,9 @@ pub record MergeFacts (g : Geometry) (e : Store) (m : Merge) : Type 0 where
   pub room : length (usedIn (m .start)) + length (m .written) < g .p
   pub changed : Changed (g .p) (allocationOf (m .start)) (usedIn (m .finish)) (placesOf (m .written))
   pub takes-each : length (placesOf (m .written)) ≡ length (m .written)
+  -- each block at the end is one that was there, or is written; and those written are fit to be listed
+  pub stays : Every (λ b. List·Memᴰ b (allBlocks (m .start .levels)) ⊎ List·Memᴰ b (m .written)) (allBlocks (m .finish .levels))
+  pub written-fit : Every (BlockFits g) (m .written)
   -- it writes at most w + q + 1 blocks, and out of level 0 at most w + q
   pub writes : length (m .written) ≤ m .window + overlapOf g m + 1
   pub writes-top : m .level ≡ 0 → length (m .written) ≤ m .window + overlapOf g m
@@ -78,6 +83,8 @@ merge-facts g e s i v low n r d b =
       room = omega (arith, chosen-room g e s i v low n d, run-written g i w f s);
       changed = chosen-changed g e s i v low n d;
       takes-each = run-places g i w f s ∙ sym (run-written g i w f s);
+      stays = run-stays g i w f s;
+      written-fit = taken-fit g (allocationOf s) (mergeLevel g i s .written) (run-sized g i w f s (chosen-can g e s i v low n d)) (run-places g i w f s ∙ sym (run-written g i w f s)) (chosen-changed g e s i v low n d .takes);
       writes = omega (arith, chosen-writes g e s i v low n d, run-written g i w f s, chosen-overlap g e s i v low n d);
       writes-top = λ z. omega (arith, chosen-writes-top g e s i v low n d z, run-written g i w f s, chosen-overlap g e s i v low n d);
       five = five .0;

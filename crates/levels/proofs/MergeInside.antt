@@ -28,7 +28,7 @@ use Rattle.levels.proofs.Places.{Changed, changed-distinct, changed-ins
 use Rattle.levels.proofs.Chosen.{Due, due-mergeable, due-over, due-double}
 use Rattle.levels.proofs.Room.{merge-room-numbers}
 use Rattle.levels.proofs.StoreRows.{set-at, row-blocks, rows-count, all-row, all-set, recordsAbove, above-pair, load, load-pair}
-use Rattle.levels.proofs.MergeRun.{cutOf, upperLeft, lowerMade, newAbove, newBlocks, run-rows, run-many, run-level, run-live, run-written, run-changed, run-cursor}
+use Rattle.levels.proofs.MergeRun.{upper-well-at, upper-length-at, cutOf, upperLeft, lowerMade, newAbove, newBlocks, run-rows, run-many, run-level, run-live, run-written, run-changed, run-cursor}
 use Rattle.levels.proofs.Inside.{Inside, inside-used, inside-sorted}
 
 -- the number of the chosen run's first block
@@ -38,15 +38,6 @@ chosenAt g i s = choose (windowOf g i) (blocksOf g i s) (blocksOf g (suc i) s) .
 -- the record's own test of "the payloads of marks are 0"
 abbrev cleanRec : Rec → Bool
 cleanRec r = not (r .tombstone) || eqb (r .pay) 0
-
-module _ (B w first : ℕ) (above under : Level) (h : Mergeable B w first above under) where
-  upper-well-at : (i j : ℕ) → suc j ≡ i → Well B (upperOf B i (cutAt w first above under))
-  upper-well-at zero j e = absurd (omega (arith, e))
-  upper-well-at (suc i) j e = upper-well B w first above under h i
-
-  upper-length-at : (i j : ℕ) → suc j ≡ i → length (upperOf B i (cutAt w first above under)) + w ≤ length above
-  upper-length-at zero j e = absurd (omega (arith, e))
-  upper-length-at (suc i) j e = upper-length B w first above under h i
 
 module _ (g : Geometry) (e s : Store) (i : ℕ) (v : Valid g) (low : i < g .h) (n : Inside g e s) (d : Due g i (blocksOf g i s) (blocksOf g (suc i) s)) where
   -- the chosen run can be merged

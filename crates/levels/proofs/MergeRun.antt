@@ -2,7 +2,8 @@
 use Prim.Native.Nat.{ℕ, zero, suc, _+_, _<_, _≤_}
 use mathlib.Core.Path.{_≡_, refl, sym, _∙_, ap}
 use mathlib.Core.Bool.{Bool}
-use mathlib.Core.List.{List, [], _∷_, _++_}
+use mathlib.Core.List.{List, [], _∷_, _++_, List·Memᴰ}
+use mathlib.Core.Logic.{_⊎_, inl, inr, ⊎-elim}
 use native.Mathlib.Omega.{arith}
 use lib.Dec.{eqb}
 use lib.ListN.{length, length-append, getD, set}
@@ -13,13 +14,15 @@ use Rattle.levels.specs.Place.{Allocation, Settled, settle, placesOf}
 use Rattle.levels.specs.Store.{Store, rows, blocksOf, withBlocks, usedIn, allocationOf}
 use Rattle.levels.specs.Call.{Merge, settleUpper, mergeCut, mergeRun}
 use Rattle.levels.specs.Count.{blocksMerged}
-use Rattle.levels.proofs.Levels.{Well}
+use Rattle.levels.proofs.Levels.{Well, Sized}
 use Rattle.levels.proofs.Fresh.{fresh}
-use Rattle.levels.proofs.Merged.{Mergeable, upperOf, lowerOf, upper-length, upper-well, upper-writes}
+use Rattle.levels.proofs.Merged.{Mergeable, upperOf, lowerOf, upper-length, upper-well, lower-well}
 use Rattle.levels.proofs.Compaction.{pages-fresh}
 use Rattle.levels.proofs.Settling.{settle-records, settle-length, settle-placed, settle-well, written-length, written-places, settle-cursor, settle-used}
 use Rattle.levels.proofs.Places.{places-append, Changed, changed-newly}
 use Rattle.levels.proofs.Written.{merge-changed, top-changed}
+use Rattle.levels.proofs.Every.{Every, every-make, every-turn, allBlocks}
+use Rattle.levels.proofs.Stays.{Old, old-of-every, old-fresh, upper-old, lower-old, settled-old, mem-left, mem-right, level-mem, every-set, written-sized}
 use Rattle.levels.proofs.StoreRows.{rows-with, levels-with, level-with}
 
 -- the cut of levels i and i + 1 of a store
@@ -51,6 +54,20 @@ upper-kept g (suc j) a l = settle-records (g .p) a l
 upper-turns : (P : Level → Type 0) (g : Geometry) (i j : ℕ) (a : Allocation) (l : Level) → suc j ≡ i → P (settle (g .p) a l .level) → P (settleUpper g i a l .level)
 upper-turns P g zero j a l e h = absurd (omega (arith, e))
 upper-turns P g (suc i) j a l e h = h
+
+sized-append : (B : ℕ) (k l : Level) → Sized B k → Sized B l → Sized B (k ++ l)
+sized-append B [] l h i = i
+sized-append B (b ∷ bs) l h i = (h .0, h .1, sized-append B bs l (h .2) i)
+
+-- what step 2 leaves of a listed level: the sizes and the pair rule, and at least w blocks fewer
+module _ (B w first : ℕ) (above under : Level) (h : Mergeable B w first above under) where
+  pub upper-well-at : (i j : ℕ) → suc j ≡ i → Well B (upperOf B i (cutAt w first above under))
+  upper-well-at zero j e = absurd (omega (arith, e))
+  upper-well-at (suc i) j e = upper-well B w first above under h i
+
+  pub upper-length-at : (i j : ℕ) → suc j ≡ i → length (upperOf B i (cutAt w first above under)) + w ≤ length above
+  upper-length-at zero j e = absurd (omega (arith, e))
+  upper-length-at (suc i) j e = upper-length B w first above under h i
 
 module _ (g : Geometry) (i w first : ℕ) (s : Store) where
   -- the rows at the end
@@ -125,6 +142,46 @@ module _ (g : Geometry) (i w first : ℕ) (s : Store) where
             written-places (g .p) (allocationOf s) (upperLeft g (suc j) w first s),
             written-places (g .p) (u .allocation) (lowerMade g (suc j) w first s),
           )
+
+  -- each block at the end is one that was there, or is written
+  pub run-stays : Every (λ b. List·Memᴰ b (allBlocks (s .levels)) ⊎ List·Memᴰ b (mergeRun g i w first s .written)) (allBlocks (mergeRun g i w first s .finish .levels))
+  unfolding mergeRun mergeCut
+  run-stays = go i
+    where
+      here : (j : ℕ) → Old (λ b. List·Memᴰ b (allBlocks (s .levels))) (getD (s .levels) j [])
+      here j = old-of-every (λ b. List·Memᴰ b (allBlocks (s .levels))) (getD (s .levels) j []) (level-mem (s .levels) j)
+
+      go : (i : ℕ) → Every (λ b. List·Memᴰ b (allBlocks (s .levels)) ⊎ List·Memᴰ b (mergeRun g i w first s .written)) (allBlocks (mergeRun g i w first s .finish .levels))
+      go zero =
+          let l : Settled = settle (g .p) (allocationOf s) (lowerMade g 0 w first s) in
+          every-set (λ b. List·Memᴰ b (allBlocks (s .levels)) ⊎ List·Memᴰ b (l .written)) (s .levels) 0 (l .level)
+          (every-make _ (allBlocks (s .levels)) (λ b m. inl m))
+          (settled-old (λ b. List·Memᴰ b (allBlocks (s .levels))) (g .p) (allocationOf s) (lowerMade g 0 w first s)
+          (lower-old (λ b. List·Memᴰ b (allBlocks (s .levels))) (g .b) w first (eqb 1 (g .h)) (blocksOf g 0 s) (blocksOf g 1 s) (old-fresh (λ b. List·Memᴰ b (allBlocks (s .levels))) (blocksOf g 0 s) (pages-fresh (g .b) (s .top))) (here 0)))
+      go (suc j) =
+          let u : Settled = settle (g .p) (allocationOf s) (upperLeft g (suc j) w first s) in
+          let l : Settled = settle (g .p) (u .allocation) (lowerMade g (suc j) w first s) in
+          every-set (λ b. List·Memᴰ b (allBlocks (s .levels)) ⊎ List·Memᴰ b (u .written ++ l .written)) (set (s .levels) j (u .level)) (suc j) (l .level)
+          (every-set (λ b. List·Memᴰ b (allBlocks (s .levels)) ⊎ List·Memᴰ b (u .written ++ l .written)) (s .levels) j (u .level)
+          (every-make _ (allBlocks (s .levels)) (λ b m. inl m))
+          (every-turn (λ b. List·Memᴰ b (allBlocks (s .levels)) ⊎ List·Memᴰ b (u .written)) _ (u .level) (λ b m. ⊎-elim inl (λ x. inr (mem-left b (u .written) (l .written) x)) m)
+          (settled-old (λ b. List·Memᴰ b (allBlocks (s .levels))) (g .p) (allocationOf s) (upperLeft g (suc j) w first s)
+          (upper-old (λ b. List·Memᴰ b (allBlocks (s .levels))) (g .b) (suc j) w first (blocksOf g (suc j) s) (blocksOf g (suc (suc j)) s) (here j)))))
+          (every-turn (λ b. List·Memᴰ b (allBlocks (s .levels)) ⊎ List·Memᴰ b (l .written)) _ (l .level) (λ b m. ⊎-elim inl (λ x. inr (mem-right b (u .written) (l .written) x)) m)
+          (settled-old (λ b. List·Memᴰ b (allBlocks (s .levels))) (g .p) (u .allocation) (lowerMade g (suc j) w first s)
+          (lower-old (λ b. List·Memᴰ b (allBlocks (s .levels))) (g .b) w first (eqb (suc (suc j)) (g .h)) (blocksOf g (suc j) s) (blocksOf g (suc (suc j)) s) (here j) (here (suc j)))))
+
+  -- the blocks written hold 1 to B records
+  pub run-sized : Mergeable (g .b) w first (blocksOf g i s) (blocksOf g (suc i) s) → Sized (g .b) (mergeRun g i w first s .written)
+  unfolding mergeRun mergeCut
+  run-sized h = go i (λ j q. upper-well-at (g .b) w first (blocksOf g i s) (blocksOf g (suc i) s) h i j q .sized) (lower-well (g .b) w first (blocksOf g i s) (blocksOf g (suc i) s) h (eqb (suc i) (g .h)) .sized)
+    where
+      go : (i : ℕ) → ((j : ℕ) → suc j ≡ i → Sized (g .b) (upperLeft g i w first s)) → Sized (g .b) (lowerMade g i w first s) → Sized (g .b) (mergeRun g i w first s .written)
+      go zero a b = written-sized (g .b) (g .p) (allocationOf s) (lowerMade g 0 w first s) b
+      go (suc j) a b =
+          let u : Settled = settle (g .p) (allocationOf s) (upperLeft g (suc j) w first s) in
+          sized-append (g .b) (u .written) _ (written-sized (g .b) (g .p) (allocationOf s) (upperLeft g (suc j) w first s) (a j refl))
+          (written-sized (g .b) (g .p) (u .allocation) (lowerMade g (suc j) w first s) b)
 
 -- What is in use at the end is part of what was and the places taken, each the first free one after the cursor; the cursor stays below P.
 module _ (g : Geometry) (w first : ℕ) (s : Store) (low : s .cursor < g .p) where
