@@ -62,6 +62,19 @@ into-one : (ms : List Merge) → Every (λ m. 1 ≤ m .level) ms → totalInto 1
 into-one [] h = refl
 into-one (m ∷ ms) h = rw (ne-eqb (suc (m .level)) 1 (λ e. omega (arith, e, h .0))) (omega (arith, into-one ms (h .1)))
 
+-- the first merge is out of level 0, and no other is
+abbrev pub FirstOut : List Merge → Type 0
+FirstOut [] = Unit {0}
+FirstOut (m ∷ ms) = (m .level ≡ 0) × Every (λ m. 1 ≤ m .level) ms
+
+first-one : (ms : List Merge) → FirstOut ms → totalInto 1 (λ m. 1) ms ≤ 1
+first-one [] h = omega arith
+first-one (m ∷ ms) h = pick (eqb (suc (m .level)) 1) (into-one ms (h .1))
+  where
+    pick : (t : Bool) → totalInto 1 (λ m. 1) ms ≡ 0 → (if t then 1 else 0) + totalInto 1 (λ m. 1) ms ≤ 1
+    pick true z = omega arith
+    pick false z = omega arith
+
 -- the clauses of mergesFor, as laws: "a key found in level 0 is overwritten there; otherwise, if c = K(0)×B, level 0 is merged first"
 pub for-none : (g : Geometry) (s : Store) (k : ℕ) → (isSome (find k (s .top)) || ltb (length (s .top)) (topCapacityOf g)) ≡ true → mergesFor g s k ≡ []
 unfolding mergesFor
@@ -166,19 +179,14 @@ module _ (g : Geometry) (s : Store) (v : Valid g) (f : Fits g s) (o : Sound g s)
       let q = full-top k e in
       omega (arith, ap (λ (ms : List Merge). length (afterMerges s ms .top)) (for-full g s k e), from-top q, q)
 
+  -- "The first, if there is one, is out of level 0", and no other is
+  pub first-out : (k : ℕ) → FirstOut (mergesFor g s k)
+  first-out k = go (isSome (find k (s .top)) || ltb (length (s .top)) (topCapacityOf g)) refl
+    where
+      go : (t : Bool) → (isSome (find k (s .top)) || ltb (length (s .top)) (topCapacityOf g)) ≡ t → FirstOut (mergesFor g s k)
+      go true e = subst FirstOut (sym (for-none g s k e)) tt
+      go false e = subst FirstOut (sym (for-full g s k e ∙ from-is g s)) (merge-level g 0 s, below-levels (enoughSteps g s) g (afterMerge (mergeLevel g 0 s)))
+
   -- "A put makes at most one merge into level 1."
   pub one-into-one : (k : ℕ) → totalInto 1 (λ m. 1) (mergesFor g s k) ≤ 1
-  one-into-one k = go (isSome (find k (s .top)) || ltb (length (s .top)) (topCapacityOf g)) refl
-    where
-      go : (t : Bool) → (isSome (find k (s .top)) || ltb (length (s .top)) (topCapacityOf g)) ≡ t → totalInto 1 (λ m. 1) (mergesFor g s k) ≤ 1
-      go true e = subst (λ (ms : List Merge). totalInto 1 (λ m. 1) ms ≤ 1) (sym (for-none g s k e)) (omega arith)
-      go false e =
-          subst (λ (ms : List Merge). totalInto 1 (λ m. 1) ms ≤ 1) (sym (for-full g s k e ∙ from-is g s))
-          (one (mergeLevel g 0 s) (mergesBelow (enoughSteps g s) g (afterMerge (mergeLevel g 0 s))) (into-one (mergesBelow (enoughSteps g s) g (afterMerge (mergeLevel g 0 s))) (below-levels (enoughSteps g s) g (afterMerge (mergeLevel g 0 s)))))
-        where
-          one : (m : Merge) (ms : List Merge) → totalInto 1 (λ m. 1) ms ≡ 0 → totalInto 1 (λ m. 1) (m ∷ ms) ≤ 1
-          one m ms z = pick (eqb (suc (m .level)) 1)
-            where
-              pick : (t : Bool) → (if t then 1 else 0) + totalInto 1 (λ m. 1) ms ≤ 1
-              pick true = omega arith
-              pick false = omega arith
+  one-into-one k = first-one (mergesFor g s k) (first-out k)

@@ -7,3 +7,4 @@ pub mod Lists
 pub mod State
 pub mod Form
 pub mod Reason
+pub mod Steps
