@@ -8,3 +8,4 @@ pub mod State
 pub mod Form
 pub mod Reason
 pub mod Steps
+pub mod Demand
