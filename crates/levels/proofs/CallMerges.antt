@@ -1,17 +1,17 @@
 -- The merges that a put or delete makes on a store that passes the form check: all about each, and about the store after them.
-use Prim.Native.Nat.{ℕ, zero, suc, _+_, _-_, _*_, _<_, _≤_}
+use Prim.Native.Nat.{ℕ, zero, suc, _+_, _-_, _<_, _≤_}
 use mathlib.Core.Path.{_≡_, refl, sym, _∙_, ap, subst}
 use mathlib.Core.Bool.{Bool, true, false, _||_}
 use mathlib.Core.List.{List, [], _∷_}
 use native.Mathlib.Omega.{arith}
 use native.Mathlib.Decide.{ℕ-discrete}
 use lib.Dec.{ltb, eqb}
-use lib.ListN.{length, getD, set}
-use borrow.Author.Tests.{ltb-true, ltb-false, eqb-true, eqb-false, ne-eqb}
+use lib.ListN.{length, getD}
+use borrow.Author.Tests.{ltb-false, ne-eqb}
 use Rattle.geometry.specs.declared.Geometry.{Geometry}
 use Rattle.geometry.specs.Geometry.{Valid, capacityOf, topCapacityOf, windowOf}
-use Rattle.levels.specs.Basics.{if_then_else_, isSome, total}
-use Rattle.levels.specs.Record.{Rec, Level, records, pages}
+use Rattle.levels.specs.Basics.{if_then_else_, isSome}
+use Rattle.levels.specs.Record.{Rec}
 use Rattle.levels.specs.Map.{find}
 use Rattle.levels.specs.Store.{Store, rows, blocksOf}
 use Rattle.levels.specs.Call.{Merge, mergeRun, mergeLevel, afterMerge, afterMerges, deepestOver, mergesBelow, mergesFrom, enoughSteps}
@@ -28,7 +28,7 @@ use Rattle.levels.proofs.MergeRun.{run-rows}
 use Rattle.levels.proofs.Inside.{Inside, Entry, Ruled, inside-sorted, inside-bottom}
 use Rattle.levels.proofs.MergeInside.{chosenAt}
 use Rattle.levels.proofs.Entry.{entry-ruled, entry-of, entry-inside}
-use Rattle.levels.proofs.InCall.{MergeFacts, merge-facts, deepest-says, next-facts, Chained, ListFacts, merge-start, merge-level, below-stop, below-go, below-none, below-facts, below-ends}
+use Rattle.levels.proofs.InCall.{MergeFacts, merge-facts, deepest-says, next-facts, ListFacts, merge-start, merge-level, below-stop, below-go, below-none, below-facts, below-ends}
 
 merge-top : (g : Geometry) (j : ℕ) (s : Store) → mergeLevel g (suc j) s .finish .top ≡ s .top
 unfolding mergeLevel mergeRun

@@ -14,7 +14,7 @@ use Rattle.levels.specs.Record.{Rec, Level, records, hasTombstone, clean
 use Rattle.levels.specs.Map.{lookUp}
 use Rattle.levels.specs.Waste.{needsCompact, compact}
 use Rattle.levels.specs.Place.{Settled, settle, placesOf}
-use Rattle.levels.specs.Store.{Store, rows, blocksOf, withBlocks, usedIn, allocationOf}
+use Rattle.levels.specs.Store.{Store, rows, blocksOf, usedIn, allocationOf}
 use Rattle.levels.specs.Call.{Compaction, compactLevel, compactIfNeeded, afterCompactions, stepFive}
 use Rattle.levels.specs.Count.{blocksCompacted}
 use Rattle.levels.proofs.View.{Risings}
@@ -168,7 +168,7 @@ needed-stepped g e s j v low n = go (needsCompact (g .b) (getD (s .levels) j [])
         Stepped g e s cs × ((i : ℕ) → (i ≢ j → needsCompact (g .b) (getD (s .levels) i []) ≡ false) → needsCompact (g .b) (getD (afterCompactions s cs .levels) i []) ≡ false)
     go true q = (
       (let f = compact-facts g e s j v low n q in
-      record { facts = (f, tt); follows = (compact-start g (suc j) s, tt); inside = f .finish-inside; same-rows = compact-rows g e s j v low n }),
+          record { facts = (f, tt); follows = (compact-start g (suc j) s, tt); inside = f .finish-inside; same-rows = compact-rows g e s j v low n }),
       compact-ruled g e s j v low n,
     )
     go false q = (record { facts = tt; follows = tt; inside = n; same-rows = refl }, λ i h. other i h (ℕ-discrete i j))

@@ -1,8 +1,8 @@
 -- A store that passes the form check is inside a call that has just begun; and a store inside a call whose levels are within their capacities passes it again.
 use Prim.Native.Nat.{ℕ, zero, suc, _+_, _-_, _*_, _<_, _≤_}
-use mathlib.Core.Path.{_≡_, refl, sym, _∙_, ap, subst}
-use mathlib.Core.Bool.{Bool, true, false, true≢false}
-use mathlib.Core.List.{List, [], _∷_, _++_, map}
+use mathlib.Core.Path.{_≡_, refl, sym, _∙_, ap}
+use mathlib.Core.Bool.{true, false}
+use mathlib.Core.List.{List, [], _∷_, map}
 use mathlib.Core.Option.{Option, none, some}
 use native.Mathlib.Omega.{arith}
 use native.Mathlib.Nat.{mul-le-mul-right}
@@ -11,16 +11,15 @@ use lib.Dec.{ltb}
 use lib.ListN.{length, getD}
 use borrow.Author.Tests.{ltb-true, lt-ltb, le-ltb}
 use Rattle.geometry.specs.declared.Geometry.{Geometry}
-use Rattle.geometry.specs.Geometry.{Valid, capacityOf, capacitySum, topCapacityOf, keyLimitOf}
+use Rattle.geometry.specs.Geometry.{Valid, capacityOf, capacitySum, topCapacityOf}
 use Rattle.levels.specs.Basics.{all, ceilDiv}
-use Rattle.levels.specs.Record.{Rec, Block, Level, records, hasTombstone, rising, cleanTombstones}
-use Rattle.levels.specs.Map.{liveCount}
+use Rattle.levels.specs.Record.{Block, Level, records, hasTombstone}
 use Rattle.levels.specs.Waste.{needsCompact}
 use Rattle.levels.specs.Place.{Allocation, placesOf, inUse}
-use Rattle.levels.specs.Store.{Store, rows, blocksOf, usedIn}
+use Rattle.levels.specs.Store.{Store, rows}
 use Rattle.levels.proofs.Basics.{and-left, and-right, and-both}
-use Rattle.levels.proofs.View.{test-risings, risings-test}
-use Rattle.levels.proofs.Levels.{Sized, Well, well-nil, sized-most, test-pairs, pairs-test}
+use Rattle.levels.proofs.View.{test-risings}
+use Rattle.levels.proofs.Levels.{Sized, Well, sized-most, test-pairs, pairs-test}
 use Rattle.levels.proofs.Fresh.{fresh}
 use Rattle.levels.proofs.Settling.{Takes}
 use Rattle.levels.proofs.Places.{total-inside, takes-inside}

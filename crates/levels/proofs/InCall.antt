@@ -1,31 +1,30 @@
 -- The merges of a call: what holds of each of them, and of the store between them. They end, and then every level is within its capacity.
-use Prim.Native.Nat.{ℕ, zero, suc, _+_, _-_, _*_, _<_, _≤_}
+use Prim.Native.Nat.{ℕ, zero, suc, _+_, _-_, _<_, _≤_}
 use mathlib.Core.Path.{_≡_, refl, sym, _∙_, ap, subst}
 use mathlib.Core.Bool.{Bool, true, false}
 use mathlib.Core.List.{List, [], _∷_, List·Memᴰ}
-use mathlib.Core.Logic.{_≢_, _⊎_}
+use mathlib.Core.Logic.{_⊎_}
 use native.Mathlib.Omega.{arith}
 use native.Mathlib.Decide.{ℕ-discrete}
 use lib.Dec.{ltb}
-use lib.ListN.{length, getD, set}
+use lib.ListN.{length}
 use borrow.Author.Tests.{ltb-true, ltb-false}
 use Rattle.geometry.specs.declared.Geometry.{Geometry}
 use Rattle.geometry.specs.Geometry.{Valid, capacityOf, windowOf}
-use Rattle.levels.specs.Record.{Rec, Level, records}
 use Rattle.levels.specs.Choose.{choose}
 use Rattle.levels.specs.Waste.{needsCompact}
 use Rattle.levels.specs.Place.{placesOf}
 use Rattle.levels.specs.Store.{Store, rows, blocksOf, usedIn, allocationOf}
-use Rattle.levels.specs.Call.{Compaction, Merge, mergeRun, mergeLevel, afterCompactions, stepFive, afterMerge, afterMerges, deepestOver, mergesBelow, mergesFrom, enoughSteps}
+use Rattle.levels.specs.Call.{Merge, mergeRun, mergeLevel, afterMerge, afterMerges, deepestOver, mergesBelow}
 use Rattle.levels.specs.Count.{aboveOf, underOf, runOf, overlapOf}
-use Rattle.levels.proofs.Merged.{Mergeable, upper-fewer}
+use Rattle.levels.proofs.Merged.{Mergeable}
 use Rattle.levels.proofs.Chosen.{Due}
 use Rattle.levels.proofs.Places.{Changed}
 use Rattle.levels.proofs.Every.{Every, allBlocks}
 use Rattle.levels.proofs.Sound.{BlockFits}
 use Rattle.levels.proofs.Entry.{taken-fit}
-use Rattle.levels.proofs.StoreRows.{row-blocks, load, load-enough}
-use Rattle.levels.proofs.MergeRun.{upperLeft, lowerMade, run-rows, run-level, run-written, run-places, run-stays, run-sized}
+use Rattle.levels.proofs.StoreRows.{load}
+use Rattle.levels.proofs.MergeRun.{run-level, run-written, run-places, run-stays, run-sized}
 use Rattle.levels.proofs.Inside.{Inside, Entry, Ruled, inside-sorted, inside-bottom}
 use Rattle.levels.proofs.MergeInside.{chosenAt, chosen-can, chosen-writes, chosen-writes-top, chosen-overlap, chosen-room, chosen-changed, chosen-load, merge-inside}
 use Rattle.levels.proofs.CompactInside.{Stepped, five-stepped}
@@ -122,14 +121,14 @@ next-facts g e s j v t n r q =
     let d = deepest-says g s (g .h - 1) (suc j) q in
     let low : suc j < g .h = omega (arith, d .1) in
     merge-facts g e s (suc j) v low n r (
-      record {
-        above-well = n .wells j;
-        under-well = n .wells (suc j);
-        above-sorted = inside-sorted g e s n (suc j);
-        under-sorted = inside-sorted g e s n (suc (suc j));
-        full = omega (arith, d .2 (omega arith));
-        roomy = within (suc (suc j)) (omega arith) (omega arith);
-      }
+    record {
+      above-well = n .wells j;
+      under-well = n .wells (suc j);
+      above-sorted = inside-sorted g e s n (suc j);
+      under-sorted = inside-sorted g e s n (suc (suc j));
+      full = omega (arith, d .2 (omega arith));
+      roomy = within (suc (suc j)) (omega arith) (omega arith);
+    }
     ) within
   where
     within : (i : ℕ) → suc j < i → i ≤ g .h → length (blocksOf g i s) ≤ capacityOf g i

@@ -2,18 +2,18 @@
 -- The map, live and the number of records above level h are those of the store `e` at the call's entry.
 use Prim.Native.Nat.{ℕ, zero, suc, _+_, _-_, _*_, _<_, _≤_}
 use mathlib.Core.Path.{_≡_, refl, sym, _∙_, ap}
-use mathlib.Core.Bool.{Bool, true, false}
+use mathlib.Core.Bool.{true, false}
 use mathlib.Core.List.{List, [], _∷_}
 use native.Mathlib.Omega.{arith}
 use lib.Dec.{ltb}
 use lib.ListN.{length, getD}
 use Rattle.geometry.specs.declared.Geometry.{Geometry}
-use Rattle.geometry.specs.Geometry.{Valid, capacityOf, capacitySum, keyLimitOf, topCapacityOf, flashCapacityOf}
-use Rattle.levels.specs.Basics.{all, total}
-use Rattle.levels.specs.Record.{Rec, Level, records, hasTombstone, cleanTombstones}
-use Rattle.levels.specs.Map.{lookUp, mapOf, liveCount, next}
-use Rattle.levels.specs.Waste.{wasteful, needsCompact}
-use Rattle.levels.specs.Place.{inUse, distinct}
+use Rattle.geometry.specs.Geometry.{Valid, capacityOf, capacitySum, keyLimitOf, flashCapacityOf}
+use Rattle.levels.specs.Basics.{all}
+use Rattle.levels.specs.Record.{Level, records, hasTombstone, cleanTombstones}
+use Rattle.levels.specs.Map.{lookUp, mapOf, liveCount}
+use Rattle.levels.specs.Waste.{needsCompact}
+use Rattle.levels.specs.Place.{distinct}
 use Rattle.levels.specs.Store.{Store, rows, blocksOf, usedIn}
 use Rattle.levels.proofs.Rising.{Rising}
 use Rattle.levels.proofs.View.{Risings, same-map, same-live}
@@ -88,5 +88,9 @@ module _ (g : Geometry) (e s : Store) (n : Inside g e s) where
           let f = last-fits-records (rows s) (g .h) (omega (arith, rows-count s, n .many)) (n .bottom) in
           let q = same-live (rows s) (rows e) (n .sorted) (t .sorted) (n .looks) in
           let a = ap length (row-blocks g (suc m) s ∙ ap (λ (k : ℕ). getD (rows s) k []) (sym d)) in
-          omega (arith, ap (capacityOf g) d, bottom-fits g (length (blocksOf g (suc m) s)) (length (records (blocksOf g (suc m) s))) (e .live) (recordsAbove (g .h) (rows e)) v (r m)
-          (omega (arith, f, q, a, t .live-exact, n .above)) (t .live-fits) (t .above-fits))
+          omega (
+            arith,
+            ap (capacityOf g) d,
+            bottom-fits g (length (blocksOf g (suc m) s)) (length (records (blocksOf g (suc m) s))) (e .live) (recordsAbove (g .h) (rows e)) v (r m)
+                (omega (arith, f, q, a, t .live-exact, n .above)) (t .live-fits) (t .above-fits),
+          )

@@ -1,22 +1,21 @@
 -- Demand 3's claims about each merge of a call: the chosen run, its overlap, the blocks written; the lengths of the lists; the map.
-use Prim.Native.Nat.{ℕ, zero, suc, _+_, _*_, _/_, _<_, _≤_}
-use mathlib.Core.Path.{_≡_, refl, sym, _∙_, ap}
-use mathlib.Core.List.{List, [], _∷_}
+use Prim.Native.Nat.{ℕ, suc, _+_, _*_, _/_, _<_, _≤_}
+use mathlib.Core.Path.{_≡_, sym, _∙_, ap}
+use mathlib.Core.List.{List, []}
 use native.Mathlib.Omega.{arith}
 use lib.ListN.{length, take, drop, getD}
 use Rattle.geometry.specs.declared.Geometry.{Geometry}
-use Rattle.geometry.specs.Geometry.{Valid, capacityOf, windowOf}
+use Rattle.geometry.specs.Geometry.{Valid, capacityOf}
 use Rattle.geometry.proofs.Laws.{window-low, window-grows}
 use Rattle.levels.specs.Basics.{ceilDiv}
 use Rattle.levels.specs.Record.{records}
-use Rattle.levels.specs.Map.{mapOf, next, liveCount}
+use Rattle.levels.specs.Map.{mapOf}
 use Rattle.levels.specs.Choose.{overlap, choose}
 use Rattle.levels.specs.Place.{placesOf}
 use Rattle.levels.specs.Store.{Store, rows, blocksOf, usedIn, allocationOf}
 use Rattle.levels.specs.Call.{Compaction, Merge, afterMerge, afterMerges}
-use Rattle.levels.specs.Put.{mergesFor}
 use Rattle.levels.specs.Count.{aboveOf, underOf, aboveCount, underCount, runOf, overlapOf, blocksMerged, blocksCompacted}
-use Rattle.levels.proofs.View.{Risings, same-map}
+use Rattle.levels.proofs.View.{same-map}
 use Rattle.levels.proofs.Levels.{sized-filled, rising-ordered}
 use Rattle.levels.proofs.Choice.{IsChoice, choose-is}
 use Rattle.levels.proofs.Overlap.{window-fits, choose-bound, choose-window}

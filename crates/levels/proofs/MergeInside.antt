@@ -2,18 +2,17 @@
 use Prim.Native.Nat.{ℕ, zero, suc, _+_, _-_, _*_, _<_, _≤_}
 use mathlib.Core.Path.{_≡_, refl, sym, _∙_, ap, subst}
 use mathlib.Core.Bool.{Bool, true, false, not, _||_}
-use mathlib.Core.List.{List, [], _∷_}
-use mathlib.Core.Option.{Option}
+use mathlib.Core.List.{List, []}
 use native.Mathlib.Omega.{arith}
 use lib.Dec.{eqb}
 use lib.ListN.{length, getD, set, take, drop}
-use borrow.Author.Tests.{eqb-true, eqb-false, eq-eqb}
+use borrow.Author.Tests.{eqb-true, eq-eqb}
 use Rattle.geometry.specs.declared.Geometry.{Geometry}
 use Rattle.geometry.specs.Geometry.{Valid, capacityOf, windowOf}
 use Rattle.levels.specs.Basics.{all, orElse}
 use Rattle.levels.specs.Record.{Rec, Level, records, hasTombstone, cleanTombstones}
 use Rattle.levels.specs.Map.{find, present, lookUp}
-use Rattle.levels.specs.Choose.{overlap, choose, cutAt}
+use Rattle.levels.specs.Choose.{overlap, choose}
 use Rattle.levels.specs.Place.{placesOf}
 use Rattle.levels.specs.Store.{Store, rows, blocksOf, usedIn, allocationOf}
 use Rattle.levels.specs.Call.{mergeLevel}
@@ -22,14 +21,14 @@ use Rattle.levels.proofs.Cut.{over-length}
 use Rattle.levels.proofs.View.{Risings}
 use Rattle.levels.proofs.Rows.{risings-set, look-up-pair, look-up-last}
 use Rattle.levels.proofs.Fresh.{fresh}
-use Rattle.levels.proofs.Merged.{Mergeable, upperOf, lowerOf, upper-well, lower-well, upper-rising, lower-rising, upper-all, lower-all, lower-clean, pair-find, pair-present, upper-count, upper-fewer, lower-count, upper-length, upper-writes, lower-writes}
+use Rattle.levels.proofs.Merged.{Mergeable, lowerOf, lower-well, upper-rising, lower-rising, upper-all, lower-all, lower-clean, pair-find, pair-present, upper-count, upper-fewer, lower-count, upper-writes, lower-writes}
 use Rattle.levels.proofs.Settling.{settle-length, settle-placed, settle-well}
 use Rattle.levels.proofs.Places.{Changed, changed-distinct, changed-inside}
 use Rattle.levels.proofs.Chosen.{Due, due-mergeable, due-over, due-double}
 use Rattle.levels.proofs.Room.{merge-room-numbers}
 use Rattle.levels.proofs.StoreRows.{set-at, row-blocks, rows-count, all-row, all-set, recordsAbove, above-pair, load, load-pair}
-use Rattle.levels.proofs.MergeRun.{upper-well-at, upper-length-at, cutOf, upperLeft, lowerMade, newAbove, newBlocks, run-rows, run-many, run-level, run-live, run-written, run-changed, run-cursor}
-use Rattle.levels.proofs.Inside.{Inside, inside-used, inside-sorted}
+use Rattle.levels.proofs.MergeRun.{upper-well-at, upper-length-at, cutOf, upperLeft, lowerMade, newAbove, newBlocks, run-rows, run-many, run-level, run-live, run-changed, run-cursor}
+use Rattle.levels.proofs.Inside.{Inside, inside-used}
 
 -- the number of the chosen run's first block
 abbrev pub chosenAt : Geometry → ℕ → Store → ℕ

@@ -1,24 +1,23 @@
 -- A merge of any run out of level i, level 0 or a listed level, on the whole store: its rows, its levels and its places at the end.
 use Prim.Native.Nat.{ℕ, zero, suc, _+_, _<_, _≤_}
-use mathlib.Core.Path.{_≡_, refl, sym, _∙_, ap}
-use mathlib.Core.Bool.{Bool}
+use mathlib.Core.Path.{_≡_, refl, _∙_, ap}
 use mathlib.Core.List.{List, [], _∷_, _++_, List·Memᴰ}
 use mathlib.Core.Logic.{_⊎_, inl, inr, ⊎-elim}
 use native.Mathlib.Omega.{arith}
 use lib.Dec.{eqb}
 use lib.ListN.{length, length-append, getD, set}
 use Rattle.geometry.specs.declared.Geometry.{Geometry}
-use Rattle.levels.specs.Record.{Rec, Block, Level, records}
+use Rattle.levels.specs.Record.{Rec, Level, records}
 use Rattle.levels.specs.Choose.{Cut, cutAt}
 use Rattle.levels.specs.Place.{Allocation, Settled, settle, placesOf}
 use Rattle.levels.specs.Store.{Store, rows, blocksOf, withBlocks, usedIn, allocationOf}
-use Rattle.levels.specs.Call.{Merge, settleUpper, mergeCut, mergeRun}
+use Rattle.levels.specs.Call.{settleUpper, mergeCut, mergeRun}
 use Rattle.levels.specs.Count.{blocksMerged}
 use Rattle.levels.proofs.Levels.{Well, Sized}
 use Rattle.levels.proofs.Fresh.{fresh}
 use Rattle.levels.proofs.Merged.{Mergeable, upperOf, lowerOf, upper-length, upper-well, lower-well}
 use Rattle.levels.proofs.Compaction.{pages-fresh}
-use Rattle.levels.proofs.Settling.{settle-records, settle-length, settle-placed, settle-well, written-length, written-places, settle-cursor, settle-used}
+use Rattle.levels.proofs.Settling.{settle-records, written-length, written-places, settle-cursor, settle-used}
 use Rattle.levels.proofs.Places.{places-append, Changed, changed-newly}
 use Rattle.levels.proofs.Written.{merge-changed, top-changed}
 use Rattle.levels.proofs.Every.{Every, every-make, every-turn, allBlocks}

@@ -1,31 +1,29 @@
 -- Put and delete on a store that passes the form check: the map afterwards, the store passes the form check again, and refusal 5.
-use Prim.Native.Nat.{ℕ, zero, suc, _+_, _-_, _*_, _<_, _≤_}
+use Prim.Native.Nat.{ℕ, suc, _-_, _≤_}
 use mathlib.Core.Path.{_≡_, refl, sym, _∙_, ap, subst}
 use mathlib.Core.Bool.{Bool, true, false, not, _||_, true≢false}
 use mathlib.Core.List.{List, [], _∷_, map}
-use mathlib.Core.Option.{Option, none, some, Option·none-ne-some}
+use mathlib.Core.Option.{Option, none, some}
 use mathlib.Core.Logic.{_≢_}
 use native.Mathlib.Omega.{arith}
 use native.Mathlib.Decide.{ℕ-discrete}
 use lib.Dec.{ltb, eqb}
-use lib.ListN.{length, getD}
+use lib.ListN.{length}
 use borrow.Author.Tests.{ltb-true, eqb-true, eqb-false, eq-eqb}
 use Rattle.geometry.specs.declared.Geometry.{Geometry}
 use Rattle.geometry.specs.Geometry.{Valid, keyLimitOf, topCapacityOf}
-use Rattle.levels.specs.Basics.{if_then_else_, orElse, isSome, all}
-use Rattle.levels.specs.Record.{Rec, records, rising, cleanTombstones}
+use Rattle.levels.specs.Basics.{if_then_else_, orElse, isSome}
+use Rattle.levels.specs.Record.{Rec, records, cleanTombstones}
 use Rattle.levels.specs.Map.{find, decides, present, lookUp, isLive, mapOf, liveCount, firstFrom, next}
-use Rattle.levels.specs.Store.{Store, rows, blocksOf}
+use Rattle.levels.specs.Store.{Store, rows}
 use Rattle.levels.specs.Call.{Merge, afterMerges}
 use Rattle.levels.specs.Put.{Change, refused, absent, entered, insert, mergesFor, withRecord, enter, put, delete}
 use Rattle.levels.proofs.Basics.{and-left, and-right, and-both}
-use Rattle.levels.proofs.Rising.{Rising}
-use Rattle.levels.proofs.Overlay.{same-find, find-key}
-use Rattle.levels.proofs.View.{Risings, test-risings, risings-test, map-rising, look-up-find, same-live}
+use Rattle.levels.proofs.Overlay.{same-find}
+use Rattle.levels.proofs.View.{Risings, test-risings, risings-test, map-rising, look-up-find}
 use Rattle.levels.proofs.Sound.{Fits, Sound}
 use Rattle.levels.proofs.Inside.{Inside}
-use Rattle.levels.proofs.Entry.{entry-of, entry-inside, inside-fit, inside-tight, inside-unmarked}
-use Rattle.levels.proofs.InCall.{ListFacts}
+use Rattle.levels.proofs.Entry.{entry-of, inside-fit, inside-tight, inside-unmarked}
 use Rattle.levels.proofs.MergeBounds.{list-map}
 use Rattle.levels.proofs.CallMerges.{for-none, call-facts, call-within, call-top}
 use Rattle.levels.proofs.Insert.{insert-rising, find-insert, find-insert-other, insert-most, insert-new, insert-old, insert-all, without, without-rising, find-without, find-without-other, without-length}

@@ -1,6 +1,6 @@
 -- A block of the outcome of a merge or a compaction is a block that was there, untouched, or one of those written.
-use Prim.Native.Nat.{ℕ, zero, suc, _+_, _<_, _≤_}
-use mathlib.Core.Path.{_≡_, refl, sym, _∙_, ap, subst}
+use Prim.Native.Nat.{ℕ, zero, suc, _+_}
+use mathlib.Core.Path.{_≡_, refl, sym, subst}
 use mathlib.Core.Bool.{Bool, true, false, _&&_, true≢false}
 use mathlib.Core.List.{List, [], _∷_, _++_, tail, reverse, reverseAux, List·Memᴰ, List·Memᴰ·head, List·Memᴰ·tail, List·Memᴰ·not-nil}
 use mathlib.Core.Logic.{_⊎_, inl, inr}
@@ -10,9 +10,9 @@ use lib.Dec.{leb, ltb, eqb}
 use lib.ListN.{length, getD, set}
 use Rattle.levels.specs.Basics.{if_then_else_, iterate, member}
 use Rattle.levels.specs.Record.{Rec, Block, Level, size, new, placed, records, firstKey}
-use Rattle.levels.specs.Choose.{Cut, cutAt}
-use Rattle.levels.specs.Merge.{Out, State, reusable, flush, rest, headRec, reuse, gather, fromUpper, fromLower, fromBoth, stepOn, step, joinLeft, join, stream, merge, close}
-use Rattle.levels.specs.Place.{Allocation, Settled, firstFree, settle, placesOf, distinct}
+use Rattle.levels.specs.Choose.{cutAt}
+use Rattle.levels.specs.Merge.{Out, State, reusable, flush, rest, headRec, gather, fromUpper, fromLower, stepOn, step, joinLeft, join, stream, merge, close}
+use Rattle.levels.specs.Place.{Allocation, firstFree, settle, placesOf, distinct}
 use Rattle.levels.proofs.Basics.{if-either, or-false}
 use Rattle.levels.proofs.Levels.{Sized}
 use Rattle.levels.proofs.Fresh.{fresh, olds, count-all, places-olds}

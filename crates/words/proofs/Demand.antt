@@ -2,12 +2,12 @@
 use Prim.Native.Nat.{ℕ, zero, suc, _+_, _-_, _*_, _/_, _≤_}
 use mathlib.Core.Path.{_≡_, refl, sym, _∙_, ap, subst}
 use mathlib.Core.Bool.{Bool, true, false}
-use mathlib.Core.List.{List, [], _∷_}
+use mathlib.Core.List.{List, []}
 use mathlib.Core.Option.{Option, none, some}
 use native.Mathlib.Omega.{arith}
 use lib.Dec.{eqb}
 use borrow.Author.Tests.{eq-eqb, ne-eqb}
-use lib.ListN.{length, take, drop}
+use lib.ListN.{take, drop}
 use Rattle.geometry.specs.declared.Geometry.{Geometry}
 use Rattle.geometry.specs.Geometry.{Valid, windowOf, keyLimitOf}
 use Rattle.levels.specs.Basics.{total, ceilDiv}
@@ -23,9 +23,9 @@ use Rattle.levels.proofs.InCall.{MergeFacts, Chained, ListFacts}
 use Rattle.levels.proofs.MergeBounds.{run-fewest, overlap-most, merge-writes-most, merge-writes-growth}
 use Rattle.levels.proofs.CallMerges.{call-facts}
 use Rattle.levels.proofs.PutDelete.{putRec, deleteRec, livePut, EnterFacts, PutSays, DeleteSays, put-says, delete-says}
-use Rattle.words.specs.Layout.{geometryAt, storeAt, areaOf, writeBlocks, storeWords}
+use Rattle.words.specs.Layout.{geometryAt, storeAt, writeBlocks}
 use Rattle.words.specs.Form.{reasonOf}
-use Rattle.words.specs.Calls.{Outcome, ChangeAnswer, writtenBlocks, leftWords, changeOutcome, putOf, deleteOf}
+use Rattle.words.specs.Calls.{Outcome, ChangeAnswer, leftWords, changeOutcome, putOf, deleteOf}
 use Rattle.words.proofs.Reason.{Passed, reason-passed}
 use Rattle.words.proofs.Steps.{put-of, delete-of}
 

@@ -2,26 +2,23 @@
 -- so the words that a put or delete leaves pass the form check.
 use Prim.Native.Nat.{ℕ}
 use mathlib.Core.Path.{_≡_, refl, sym, _∙_, ap, subst}
-use mathlib.Core.Bool.{Bool, true, false}
+use mathlib.Core.Bool.{Bool}
 use mathlib.Core.List.{List, [], _∷_, _++_}
-use lib.Dec.{eqb}
 use borrow.Author.Tests.{eq-eqb}
 use Rattle.geometry.specs.declared.Geometry.{Geometry}
-use Rattle.geometry.specs.Geometry.{Valid}
-use Rattle.levels.specs.Record.{Rec, Block, Level}
+use Rattle.levels.specs.Record.{Rec, Block}
 use Rattle.levels.specs.Place.{placesOf}
 use Rattle.levels.specs.Store.{Store, usedIn, allocationOf}
 use Rattle.levels.specs.Call.{Compaction, Merge, afterCompactions, afterMerge, afterMerges}
-use Rattle.levels.specs.Put.{Change, refused, absent, entered, withRecord, put, delete}
+use Rattle.levels.specs.Put.{Change, refused, absent, entered, put, delete}
 use Rattle.levels.proofs.Every.{Every}
-use Rattle.levels.proofs.Sound.{Fits, Sound}
 use Rattle.levels.proofs.Stays.{takes-free, takes-distinct}
 use Rattle.levels.proofs.Entry.{inside-fit}
 use Rattle.levels.proofs.CompactInside.{CompactionFacts, Follows}
 use Rattle.levels.proofs.InCall.{MergeFacts, Chained, ListFacts}
 use Rattle.levels.proofs.CallMerges.{call-facts}
 use Rattle.levels.proofs.PutDelete.{EnterFacts, PutSays, DeleteSays, put-says, delete-says}
-use Rattle.words.specs.Layout.{geometryAt, storeAt, areaOf, writeBlocks, storeWords}
+use Rattle.words.specs.Layout.{geometryAt, storeAt, areaOf, writeBlocks}
 use Rattle.words.specs.Form.{reasonOf}
 use Rattle.words.specs.Calls.{Outcome, ChangeAnswer, compactedBlocks, writtenBlocks, leftWords, changeOutcome, putOf, deleteOf}
 use Rattle.words.proofs.Laid.{Laid, laid-levels, laid-step}
