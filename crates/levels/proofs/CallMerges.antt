@@ -21,13 +21,14 @@ use Rattle.levels.proofs.Basics.{or-false}
 use Rattle.levels.proofs.Compaction.{pages-well, pages-full, pages-records}
 use Rattle.levels.proofs.Merged.{upper-fewer}
 use Rattle.levels.proofs.Chosen.{Due, due-mergeable}
-use Rattle.levels.proofs.Every.{Every}
+use Rattle.levels.proofs.Every.{Every, every-turn}
 use Rattle.levels.proofs.Sound.{Fits, Sound}
 use Rattle.levels.proofs.StoreRows.{load, load-enough}
 use Rattle.levels.proofs.MergeRun.{run-rows}
 use Rattle.levels.proofs.Inside.{Inside, Entry, Ruled, inside-sorted, inside-bottom}
 use Rattle.levels.proofs.MergeInside.{chosenAt}
 use Rattle.levels.proofs.Entry.{entry-ruled, entry-of, entry-inside}
+use Rattle.levels.proofs.CompactInside.{CompactionFacts}
 use Rattle.levels.proofs.InCall.{MergeFacts, merge-facts, deepest-says, next-facts, ListFacts, merge-start, merge-level, below-stop, below-go, below-none, below-facts, below-ends}
 
 merge-top : (g : Geometry) (j : ℕ) (s : Store) → mergeLevel g (suc j) s .finish .top ≡ s .top
@@ -154,6 +155,13 @@ module _ (g : Geometry) (s : Store) (v : Valid g) (f : Fits g s) (o : Sound g s)
       go : (t : Bool) → (isSome (find k (s .top)) || ltb (length (s .top)) (topCapacityOf g)) ≡ t → ListFacts g s s (mergesFor g s k)
       go true e = subst (ListFacts g s s) (sym (for-none g s k e)) (record { facts = tt; chained = tt; inside = entry-inside g s v f o; ruled = entry-ruled g s v f o })
       go false e = subst (ListFacts g s s) (sym (for-full g s k e)) (from-facts (full-top k e))
+
+  -- all about each of them, and about each compaction of their step 5
+  pub call-merges : (k : ℕ) → Every (MergeFacts g s) (mergesFor g s k)
+  call-merges k = call-facts k .facts
+
+  pub call-compactions : (k : ℕ) → Every (λ m. Every (CompactionFacts g s) (m .compactions)) (mergesFor g s k)
+  call-compactions k = every-turn (MergeFacts g s) (λ m. Every (CompactionFacts g s) (m .compactions)) (mergesFor g s k) (λ m d. d .five .facts) (call-merges k)
 
   -- "at the call's end each fits its K(i) words again"
   pub call-within : (k i : ℕ) → 1 ≤ i → i ≤ g .h → length (blocksOf g i (afterMerges s (mergesFor g s k))) ≤ capacityOf g i

@@ -125,6 +125,10 @@ module _ (g : Geometry) (s : Store) (v : Valid g) (f : Fits g s) (o : Sound g s)
   pub entry-ruled : Ruled g s
   entry-ruled j = tight-at g (s .levels) j (o .tight) .compact
 
+  -- each listed level is within its capacity
+  pub entry-within : Within g 1 (s .levels)
+  entry-within = within-of g 1 (s .levels) (λ j k. let z : 1 + j ≡ suc j = omega arith in omega (arith, lens j, ap (capacityOf g) z)) sizes
+
   above-fits : recordsAbove (g .h) (rows s) ≤ g .b * capacitySum g 0 (g .h)
   unfolding topCapacityOf
   above-fits = go (g .h) (v .ranged .h-low)
@@ -132,8 +136,7 @@ module _ (g : Geometry) (s : Store) (v : Valid g) (f : Fits g s) (o : Sound g s)
       go : (h : ℕ) → 1 ≤ h → recordsAbove h (rows s) ≤ g .b * capacitySum g 0 h
       go zero l = absurd (omega arith)
       go (suc m) l =
-          let w = within-of g 1 (s .levels) (λ j k. let z : 1 + j ≡ suc j = omega arith in omega (arith, lens j, ap (capacityOf g) z)) sizes in
-          omega (arith, f .top-fits, within-above g 1 m (s .levels) w, ap (λ (n : ℕ). g .b * n) (capacity-sum-front g 0 m))
+          omega (arith, f .top-fits, within-above g 1 m (s .levels) entry-within, ap (λ (n : ℕ). g .b * n) (capacity-sum-front g 0 m))
 
   -- what the last level's bound needs of the entry
   pub entry-of : Entry g s

@@ -207,3 +207,29 @@ below-ends (suc n) g e s v t i r h = go (deepestOver g (g .h - 1) s) refl (λ x 
         let f = next-facts g e s j v t i r q in
         ap (λ (ms : List Merge). deepestOver g (g .h - 1) (afterMerges s ms)) (below-go n g s j q)
         ∙ ih (afterMerge m) (f .five .inside) (f .after-ruled) (omega (arith, f .falls, ap (λ (x : Store). load (rows x)) (merge-start g (suc j) s)))
+
+-- a merge that is due is made where there are so many steps
+pub below-next : (n : ℕ) (g : Geometry) (e s : Store) (j : ℕ) → Valid g → Entry g e → Inside g e s → Ruled g s → load (rows s) ≤ n → deepestOver g (g .h - 1) s ≡ suc j
+    → mergesBelow n g s ≡ mergeLevel g (suc j) s ∷ mergesBelow (n - 1) g (afterMerge (mergeLevel g (suc j) s))
+below-next zero g e s j v t i r h q = absurd (omega (arith, next-facts g e s j v t i r q .falls, ap (λ (x : Store). load (rows x)) (merge-start g (suc j) s)))
+below-next (suc n) g e s j v t i r h q =
+    let z : suc n - 1 ≡ n = omega arith in
+    below-go n g s j q ∙ ap (λ (k : ℕ). mergeLevel g (suc j) s ∷ mergesBelow k g (afterMerge (mergeLevel g (suc j) s))) (sym z)
+
+-- and more steps change nothing
+pub below-same : (n m : ℕ) (g : Geometry) (e s : Store) → Valid g → Entry g e → Inside g e s → Ruled g s → load (rows s) ≤ n → load (rows s) ≤ m → mergesBelow n g s ≡ mergesBelow m g s
+below-same zero m g e s v t i r h k = go (deepestOver g (g .h - 1) s) refl
+  where
+    go : (o : ℕ) → deepestOver g (g .h - 1) s ≡ o → mergesBelow 0 g s ≡ mergesBelow m g s
+    go zero q = below-none g s ∙ sym (below-stop m g s q)
+    go (suc j) q = absurd (omega (arith, next-facts g e s j v t i r q .falls, ap (λ (x : Store). load (rows x)) (merge-start g (suc j) s)))
+below-same (suc n) m g e s v t i r h k = go (deepestOver g (g .h - 1) s) refl (λ x y z a b. below-same n (m - 1) g e x v t y z a b)
+  where
+    go : (o : ℕ) → deepestOver g (g .h - 1) s ≡ o → ((x : Store) → Inside g e x → Ruled g x → load (rows x) ≤ n → load (rows x) ≤ m - 1 → mergesBelow n g x ≡ mergesBelow (m - 1) g x)
+        → mergesBelow (suc n) g s ≡ mergesBelow m g s
+    go zero q ih = below-stop (suc n) g s q ∙ sym (below-stop m g s q)
+    go (suc j) q ih =
+        let x : Merge = mergeLevel g (suc j) s in
+        let f = next-facts g e s j v t i r q in
+        let l = ap (λ (y : Store). load (rows y)) (merge-start g (suc j) s) in
+        below-go n g s j q ∙ ap (λ (ms : List Merge). x ∷ ms) (ih (afterMerge x) (f .five .inside) (f .after-ruled) (omega (arith, f .falls, l)) (omega (arith, f .falls, l))) ∙ sym (below-next m g e s j v t i r k q)

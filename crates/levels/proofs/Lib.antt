@@ -37,3 +37,4 @@ pub mod MergeBounds
 pub mod Insert
 pub mod PutDelete
 pub mod Stays
+pub mod CallCounts
