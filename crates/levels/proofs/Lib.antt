@@ -38,3 +38,4 @@ pub mod Insert
 pub mod PutDelete
 pub mod Stays
 pub mod CallCounts
+pub mod Empty
