@@ -9,3 +9,4 @@ pub mod Form
 pub mod Reason
 pub mod Steps
 pub mod Demand
+pub mod Formatted
