@@ -25,3 +25,17 @@ pub mod Room
 pub mod Every
 pub mod Pages
 pub mod Sound
+pub mod StoreRows
+pub mod MergeRun
+pub mod Inside
+pub mod MergeInside
+pub mod CompactInside
+pub mod InCall
+pub mod Entry
+pub mod CallMerges
+pub mod MergeBounds
+pub mod Insert
+pub mod PutDelete
+pub mod Stays
+pub mod CallCounts
+pub mod Empty

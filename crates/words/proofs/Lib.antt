@@ -7,3 +7,6 @@ pub mod Lists
 pub mod State
 pub mod Form
 pub mod Reason
+pub mod Steps
+pub mod Demand
+pub mod Formatted

@@ -1,0 +1,200 @@
+-- The merges that a put or delete makes on a store that passes the form check: all about each, and about the store after them.
+use Prim.Native.Nat.{ℕ, zero, suc, _+_, _-_, _<_, _≤_}
+use mathlib.Core.Path.{_≡_, refl, sym, _∙_, ap, subst}
+use mathlib.Core.Bool.{Bool, true, false, _||_}
+use mathlib.Core.List.{List, [], _∷_}
+use native.Mathlib.Omega.{arith}
+use native.Mathlib.Decide.{ℕ-discrete}
+use lib.Dec.{ltb, eqb}
+use lib.ListN.{length, getD}
+use borrow.Author.Tests.{ltb-false, ne-eqb}
+use Rattle.geometry.specs.declared.Geometry.{Geometry}
+use Rattle.geometry.specs.Geometry.{Valid, capacityOf, topCapacityOf, windowOf}
+use Rattle.levels.specs.Basics.{if_then_else_, isSome}
+use Rattle.levels.specs.Record.{Rec}
+use Rattle.levels.specs.Map.{find}
+use Rattle.levels.specs.Store.{Store, rows, blocksOf}
+use Rattle.levels.specs.Call.{Merge, mergeRun, mergeLevel, afterMerge, afterMerges, deepestOver, mergesBelow, mergesFrom, enoughSteps}
+use Rattle.levels.specs.Put.{mergesFor}
+use Rattle.levels.specs.Count.{totalInto}
+use Rattle.levels.proofs.Basics.{or-false}
+use Rattle.levels.proofs.Compaction.{pages-well, pages-full, pages-records}
+use Rattle.levels.proofs.Merged.{upper-fewer}
+use Rattle.levels.proofs.Chosen.{Due, due-mergeable}
+use Rattle.levels.proofs.Every.{Every, every-turn}
+use Rattle.levels.proofs.Sound.{Fits, Sound}
+use Rattle.levels.proofs.StoreRows.{load, load-enough}
+use Rattle.levels.proofs.MergeRun.{run-rows}
+use Rattle.levels.proofs.Inside.{Inside, Entry, Ruled, inside-sorted, inside-bottom}
+use Rattle.levels.proofs.MergeInside.{chosenAt}
+use Rattle.levels.proofs.Entry.{entry-ruled, entry-of, entry-inside}
+use Rattle.levels.proofs.CompactInside.{CompactionFacts}
+use Rattle.levels.proofs.InCall.{MergeFacts, merge-facts, deepest-says, next-facts, ListFacts, merge-start, merge-level, below-stop, below-go, below-none, below-facts, below-ends}
+
+merge-top : (g : Geometry) (j : ℕ) (s : Store) → mergeLevel g (suc j) s .finish .top ≡ s .top
+unfolding mergeLevel mergeRun
+merge-top g j s = refl
+
+-- the merges out of the listed levels leave level 0
+pub below-top : (n : ℕ) (g : Geometry) (e s : Store) → Valid g → Entry g e → Inside g e s → Ruled g s → afterMerges s (mergesBelow n g s) .top ≡ s .top
+below-top zero g e s v t i r = ap (λ (ms : List Merge). afterMerges s ms .top) (below-none g s)
+below-top (suc n) g e s v t i r = go (deepestOver g (g .h - 1) s) refl (λ x y z. below-top n g e x v t y z)
+  where
+    go : (o : ℕ) → deepestOver g (g .h - 1) s ≡ o → ((x : Store) → Inside g e x → Ruled g x → afterMerges x (mergesBelow n g x) .top ≡ x .top) → afterMerges s (mergesBelow (suc n) g s) .top ≡ s .top
+    go zero q ih = ap (λ (ms : List Merge). afterMerges s ms .top) (below-stop (suc n) g s q)
+    go (suc j) q ih =
+        let m : Merge = mergeLevel g (suc j) s in
+        let f = next-facts g e s j v t i r q in
+        ap (λ (ms : List Merge). afterMerges s ms .top) (below-go n g s j q) ∙ ih (afterMerge m) (f .five .inside) (f .after-ruled)
+        ∙ ap (λ (ls : List (List Rec)). getD ls 0 []) (f .five .same-rows) ∙ merge-top g j s
+
+-- none of them is out of level 0
+pub below-levels : (n : ℕ) (g : Geometry) (s : Store) → Every (λ m. 1 ≤ m .level) (mergesBelow n g s)
+below-levels zero g s = subst (Every (λ (m : Merge). 1 ≤ m .level)) (sym (below-none g s)) tt
+below-levels (suc n) g s = go (deepestOver g (g .h - 1) s) refl (λ x. below-levels n g x)
+  where
+    go : (o : ℕ) → deepestOver g (g .h - 1) s ≡ o → ((x : Store) → Every (λ m. 1 ≤ m .level) (mergesBelow n g x)) → Every (λ m. 1 ≤ m .level) (mergesBelow (suc n) g s)
+    go zero q ih = subst (Every (λ (m : Merge). 1 ≤ m .level)) (sym (below-stop (suc n) g s q)) tt
+    go (suc j) q ih =
+        subst (Every (λ (m : Merge). 1 ≤ m .level)) (sym (below-go n g s j q))
+        (omega (arith, merge-level g (suc j) s), ih (afterMerge (mergeLevel g (suc j) s)))
+
+into-one : (ms : List Merge) → Every (λ m. 1 ≤ m .level) ms → totalInto 1 (λ m. 1) ms ≡ 0
+into-one [] h = refl
+into-one (m ∷ ms) h = rw (ne-eqb (suc (m .level)) 1 (λ e. omega (arith, e, h .0))) (omega (arith, into-one ms (h .1)))
+
+-- the first merge is out of level 0, and no other is
+abbrev pub FirstOut : List Merge → Type 0
+FirstOut [] = Unit {0}
+FirstOut (m ∷ ms) = (m .level ≡ 0) × Every (λ m. 1 ≤ m .level) ms
+
+first-one : (ms : List Merge) → FirstOut ms → totalInto 1 (λ m. 1) ms ≤ 1
+first-one [] h = omega arith
+first-one (m ∷ ms) h = pick (eqb (suc (m .level)) 1) (into-one ms (h .1))
+  where
+    pick : (t : Bool) → totalInto 1 (λ m. 1) ms ≡ 0 → (if t then 1 else 0) + totalInto 1 (λ m. 1) ms ≤ 1
+    pick true z = omega arith
+    pick false z = omega arith
+
+-- the clauses of mergesFor, as laws: "a key found in level 0 is overwritten there; otherwise, if c = K(0)×B, level 0 is merged first"
+pub for-none : (g : Geometry) (s : Store) (k : ℕ) → (isSome (find k (s .top)) || ltb (length (s .top)) (topCapacityOf g)) ≡ true → mergesFor g s k ≡ []
+unfolding mergesFor
+for-none g s k e = rw (e, mergesFor)
+
+pub for-full : (g : Geometry) (s : Store) (k : ℕ) → (isSome (find k (s .top)) || ltb (length (s .top)) (topCapacityOf g)) ≡ false → mergesFor g s k ≡ mergesFrom g s
+unfolding mergesFor
+for-full g s k e = rw (e, mergesFor)
+
+pub from-is : (g : Geometry) (s : Store) → mergesFrom g s ≡ mergeLevel g 0 s ∷ mergesBelow (enoughSteps g s) g (afterMerge (mergeLevel g 0 s))
+unfolding mergesFrom
+from-is g s = refl
+
+module _ (g : Geometry) (s : Store) (v : Valid g) (f : Fits g s) (o : Sound g s) where
+  module _ (full : length (s .top) ≡ topCapacityOf g) where
+    -- level 0 is due: K(0) pages, and level 1 within K(1)
+    pub first-due : Due g 0 (blocksOf g 0 s) (blocksOf g 1 s)
+    unfolding topCapacityOf
+    first-due =
+        let n = entry-inside g s v f o in
+        let b = v .ranged .b-low in
+        let h = v .ranged .h-low in
+        record {
+          above-well = pages-well (g .b) (s .top) (omega arith);
+          under-well = n .wells 0;
+          above-sorted = inside-sorted g s s n 0;
+          under-sorted = inside-sorted g s s n 1;
+          full = omega (arith, pages-full (g .b) (capacityOf g 0) (s .top) (omega arith) full);
+          roomy = f .level-fits 0 (omega arith);
+        }
+
+    -- the first merge, out of a full level 0
+    pub first-facts : MergeFacts g s (mergeLevel g 0 s)
+    first-facts = let h = v .ranged .h-low in merge-facts g s s 0 v (omega arith) (entry-inside g s v f o) (entry-ruled g s v f o) first-due within
+      where
+        within : (i : ℕ) → 0 < i → i ≤ g .h → length (blocksOf g i s) ≤ capacityOf g i
+        within zero a b = absurd (omega arith)
+        within (suc j) a b = f .level-fits j (omega arith)
+
+    -- the whole list
+    pub from-facts : ListFacts g s s (mergesFrom g s)
+    from-facts =
+        let m : Merge = mergeLevel g 0 s in
+        let d = first-facts in
+        let l = below-facts (enoughSteps g s) g s (afterMerge m) v (entry-of g s v f o) (d .five .inside) (d .after-ruled) in
+        subst (ListFacts g s s) (sym (from-is g s)) (record { facts = (d, l .facts); chained = (merge-start g 0 s, l .chained); inside = l .inside; ruled = l .ruled })
+
+    -- "While a level holds more than K blocks, the deepest such merges next": the list goes on until no level above h is over its capacity
+    pub from-ends : deepestOver g (g .h - 1) (afterMerges s (mergesFrom g s)) ≡ 0
+    from-ends =
+        let m : Merge = mergeLevel g 0 s in
+        let d = first-facts in
+        ap (λ (ms : List Merge). deepestOver g (g .h - 1) (afterMerges s ms)) (from-is g s)
+        ∙ below-ends (enoughSteps g s) g s (afterMerge m) v (entry-of g s v f o) (d .five .inside) (d .after-ruled)
+        (omega (arith, d .falls, ap (λ (x : Store). load (rows x)) (merge-start g 0 s), load-enough g s (f .level-count)))
+
+    -- the first merge makes room in level 0, and the later ones leave it
+    pub from-top : length (afterMerges s (mergesFrom g s) .top) < length (s .top)
+    unfolding mergeLevel
+    from-top =
+        let m : Merge = mergeLevel g 0 s in
+        let d = first-facts in
+        let e = ap (λ (ms : List Merge). length (afterMerges s ms .top)) (from-is g s) in
+        let q = ap length (below-top (enoughSteps g s) g s (afterMerge m) v (entry-of g s v f o) (d .five .inside) (d .after-ruled)) in
+        let p = ap (λ (ls : List (List Rec)). length (getD ls 0 [])) (d .five .same-rows ∙ run-rows g 0 (windowOf g 0) (chosenAt g 0 s) s) in
+        let u = upper-fewer (g .b) (windowOf g 0) (chosenAt g 0 s) (blocksOf g 0 s) (blocksOf g 1 s) (due-mergeable g 0 (blocksOf g 0 s) (blocksOf g 1 s) (v .ranged) first-due) 0 in
+        omega (arith, e, q, p, u, ap length (pages-records (g .b) (s .top)))
+
+  -- level 0 is full where a call merges
+  pub full-top : (k : ℕ) → (isSome (find k (s .top)) || ltb (length (s .top)) (topCapacityOf g)) ≡ false → length (s .top) ≡ topCapacityOf g
+  full-top k e = omega (arith, f .top-fits, ltb-false (length (s .top)) (topCapacityOf g) (or-false (isSome (find k (s .top))) _ e .1))
+
+  -- All about the merges of a put or delete of k.
+  pub call-facts : (k : ℕ) → ListFacts g s s (mergesFor g s k)
+  call-facts k = go (isSome (find k (s .top)) || ltb (length (s .top)) (topCapacityOf g)) refl
+    where
+      go : (t : Bool) → (isSome (find k (s .top)) || ltb (length (s .top)) (topCapacityOf g)) ≡ t → ListFacts g s s (mergesFor g s k)
+      go true e = subst (ListFacts g s s) (sym (for-none g s k e)) (record { facts = tt; chained = tt; inside = entry-inside g s v f o; ruled = entry-ruled g s v f o })
+      go false e = subst (ListFacts g s s) (sym (for-full g s k e)) (from-facts (full-top k e))
+
+  -- all about each of them, and about each compaction of their step 5
+  pub call-merges : (k : ℕ) → Every (MergeFacts g s) (mergesFor g s k)
+  call-merges k = call-facts k .facts
+
+  pub call-compactions : (k : ℕ) → Every (λ m. Every (CompactionFacts g s) (m .compactions)) (mergesFor g s k)
+  call-compactions k = every-turn (MergeFacts g s) (λ m. Every (CompactionFacts g s) (m .compactions)) (mergesFor g s k) (λ m d. d .five .facts) (call-merges k)
+
+  -- "at the call's end each fits its K(i) words again"
+  pub call-within : (k i : ℕ) → 1 ≤ i → i ≤ g .h → length (blocksOf g i (afterMerges s (mergesFor g s k))) ≤ capacityOf g i
+  call-within k i l h = go (isSome (find k (s .top)) || ltb (length (s .top)) (topCapacityOf g)) refl
+    where
+      listed : (i : ℕ) → 1 ≤ i → i ≤ g .h → length (blocksOf g i s) ≤ capacityOf g i
+      listed zero l h = absurd (omega arith)
+      listed (suc j) l h = f .level-fits j (omega arith)
+
+      go : (t : Bool) → (isSome (find k (s .top)) || ltb (length (s .top)) (topCapacityOf g)) ≡ t → length (blocksOf g i (afterMerges s (mergesFor g s k))) ≤ capacityOf g i
+      go true e = subst (λ (ms : List Merge). length (blocksOf g i (afterMerges s ms)) ≤ capacityOf g i) (sym (for-none g s k e)) (listed i l h)
+      go false e = subst (λ (ms : List Merge). length (blocksOf g i (afterMerges s ms)) ≤ capacityOf g i) (sym (for-full g s k e)) (last (ℕ-discrete i (g .h)))
+        where
+          last : Dec (i ≡ g .h) → length (blocksOf g i (afterMerges s (mergesFrom g s))) ≤ capacityOf g i
+          last (yes z) =
+              let d = from-facts (full-top k e) in
+              subst (λ (m : ℕ). length (blocksOf g m (afterMerges s (mergesFrom g s))) ≤ capacityOf g m) (sym z) (inside-bottom g s (afterMerges s (mergesFrom g s)) (d .inside) v (entry-of g s v f o) (d .ruled))
+          last (no z) = deepest-says g (afterMerges s (mergesFrom g s)) (g .h - 1) 0 (from-ends (full-top k e)) .0 i (omega arith) (omega arith)
+
+  -- where a call merges, level 0 then has room for a record
+  pub call-top : (k : ℕ) → (isSome (find k (s .top)) || ltb (length (s .top)) (topCapacityOf g)) ≡ false → length (afterMerges s (mergesFor g s k) .top) < topCapacityOf g
+  call-top k e =
+      let q = full-top k e in
+      omega (arith, ap (λ (ms : List Merge). length (afterMerges s ms .top)) (for-full g s k e), from-top q, q)
+
+  -- "The first, if there is one, is out of level 0", and no other is
+  pub first-out : (k : ℕ) → FirstOut (mergesFor g s k)
+  first-out k = go (isSome (find k (s .top)) || ltb (length (s .top)) (topCapacityOf g)) refl
+    where
+      go : (t : Bool) → (isSome (find k (s .top)) || ltb (length (s .top)) (topCapacityOf g)) ≡ t → FirstOut (mergesFor g s k)
+      go true e = subst FirstOut (sym (for-none g s k e)) tt
+      go false e = subst FirstOut (sym (for-full g s k e ∙ from-is g s)) (merge-level g 0 s, below-levels (enoughSteps g s) g (afterMerge (mergeLevel g 0 s)))
+
+  -- "A put makes at most one merge into level 1."
+  pub one-into-one : (k : ℕ) → totalInto 1 (λ m. 1) (mergesFor g s k) ≤ 1
+  one-into-one k = first-one (mergesFor g s k) (first-out k)

@@ -1,0 +1,202 @@
+-- Demand 3, as one theorem about the whole list of merges that a put or delete makes, on any words that pass the form check, refused calls included.
+use Prim.Native.Nat.{ℕ, zero, suc, _+_, _-_, _*_, _/_, _≤_}
+use mathlib.Core.Path.{_≡_, refl, sym, _∙_, ap, subst}
+use mathlib.Core.Bool.{Bool, true, false}
+use mathlib.Core.List.{List, []}
+use mathlib.Core.Option.{Option, none, some}
+use native.Mathlib.Omega.{arith}
+use lib.Dec.{eqb}
+use borrow.Author.Tests.{eq-eqb, ne-eqb}
+use lib.ListN.{take, drop}
+use Rattle.geometry.specs.declared.Geometry.{Geometry}
+use Rattle.geometry.specs.Geometry.{Valid, windowOf, keyLimitOf}
+use Rattle.levels.specs.Basics.{total, ceilDiv}
+use Rattle.levels.specs.Record.{Rec}
+use Rattle.levels.specs.Map.{isLive}
+use Rattle.levels.specs.Choose.{overlap}
+use Rattle.levels.specs.Store.{Store, rows}
+use Rattle.levels.specs.Call.{Merge, mergeLevel, afterMerges}
+use Rattle.levels.specs.Put.{Change, refused, absent, entered, withRecord, put, delete, mergesOf}
+use Rattle.levels.specs.Count.{aboveOf, underOf, aboveCount, underCount, overlapOf, blocksMerged, Counts, totalInto, totalCompacted, countsOf}
+use Rattle.levels.proofs.Every.{Every, every-turn}
+use Rattle.levels.proofs.InCall.{MergeFacts, Chained, ListFacts}
+use Rattle.levels.proofs.MergeBounds.{run-fewest, overlap-most, merge-writes-most, merge-writes-growth}
+use Rattle.levels.proofs.CallMerges.{call-facts}
+use Rattle.levels.proofs.PutDelete.{putRec, deleteRec, livePut, EnterFacts, PutSays, DeleteSays, put-says, delete-says}
+use Rattle.words.specs.Layout.{geometryAt, storeAt, writeBlocks}
+use Rattle.words.specs.Form.{reasonOf}
+use Rattle.words.specs.Calls.{Outcome, ChangeAnswer, leftWords, changeOutcome, putOf, deleteOf}
+use Rattle.words.proofs.Reason.{Passed, reason-passed}
+use Rattle.words.proofs.Steps.{put-of, delete-of}
+
+-- What demand 3 claims of one merge, which takes a run of w blocks with overlap q, out of a level of a blocks, into a level of n.
+pub record MergeDemand (g : Geometry) (m : Merge) : Type 0 where
+  -- it is the merge of document 01 with its step 5, and "w is W(i)"
+  pub is : m ≡ mergeLevel g (m .level) (m .start)
+  pub window-is : m .window ≡ windowOf g (m .level)
+  -- "every other run of w neighbours in that level overlaps at least q blocks below"
+  pub fewest : (j : ℕ) → j + m .window ≤ aboveCount g m → overlapOf g m ≤ overlap (underOf g m) (take (m .window) (drop j (aboveOf g m)))
+  -- "q is at most n divided by the whole part of a/w, rounded up"
+  pub overlap-high : overlapOf g m ≤ ceilDiv (underCount g m) (aboveCount g m / m .window)
+  -- "and the merge writes at most w + q + 1 blocks, so never more than (G + 1) × w + 1"
+  pub writes-high : blocksMerged m ≤ m .window + overlapOf g m + 1
+  pub writes-growth : blocksMerged m ≤ (g .g + 1) * m .window + 1
+
+-- the call's own record, and live as it is then
+pub record Own : Type 0 where
+  pub recorded : Rec
+  pub live : ℕ
+
+-- what a put enters, if it is not refused: one key more is live if k was not
+abbrev pub ownPut : Geometry → Store → ℕ → ℕ → Option Own
+ownPut g s k v = elim (isLive k (rows s)) [
+  | true ↦ some (record { recorded = putRec k v; live = s .live })
+  | false ↦ elim (eqb (s .live) (keyLimitOf g)) [ true ↦ none | false ↦ some (record { recorded = putRec k v; live = suc (s .live) }) ]
+]
+
+-- what a delete enters, if its key is live: a mark, and one key fewer is live
+abbrev pub ownDelete : Geometry → Store → ℕ → Option Own
+ownDelete g s k = elim (isLive k (rows s)) [ true ↦ some (record { recorded = deleteRec k; live = s .live - 1 }) | false ↦ none ]
+
+-- the store with it entered
+abbrev pub withOwn : Option Own → Store → Store
+withOwn none s = s
+withOwn (some o) s = withRecord (o .recorded) (o .live) s
+
+-- the three counts of level 1, 2 or 3 in an answer
+abbrev pub countsAt : ChangeAnswer → ℕ → Counts
+countsAt a zero = record { merges = 0; written = 0; compacted = 0 }
+countsAt a (suc zero) = a .level1
+countsAt a (suc (suc zero)) = a .level2
+countsAt a (suc (suc (suc zero))) = a .level3
+countsAt a (suc (suc (suc (suc n)))) = record { merges = 0; written = 0; compacted = 0 }
+
+-- Demand 3: of the merges `ms` that a call makes on the words ws, its answer and the words `out` that it leaves; `own` is what it enters.
+pub record Demand (g : Geometry) (ws : List ℕ) (own : Option Own) (ms : List Merge) (answer : ChangeAnswer) (out : List ℕ) : Type 0 where
+  -- "this holds of the whole list of merges that the call makes"
+  pub each : Every (MergeDemand g) ms
+  -- "in their order": each finds the store as the one before it and its step 5 left it
+  pub in-order : Chained (storeAt g ws) ms
+  -- "Afterwards the lent store is, word for word, what this list with its compactings leaves, with the call's own record and live then entered"
+  pub words : out ≡ leftWords g ws ms (withOwn own (afterMerges (storeAt g ws) ms))
+  -- "the number of merges into it in that list"
+  pub merges-counted : (i : ℕ) → 1 ≤ i → i ≤ 3 → countsAt answer i .merges ≡ totalInto i (λ m. 1) ms
+  -- "the sum, over them, of the block places in use after the merge that were not in use before it"
+  pub written-counted : (i : ℕ) → 1 ≤ i → i ≤ 3 → countsAt answer i .written ≡ totalInto i blocksMerged ms
+  -- "the same sum over the compactings of that level"
+  pub compacted-counted : (i : ℕ) → 1 ≤ i → i ≤ 3 → countsAt answer i .compacted ≡ total (λ (m : Merge). totalCompacted i (m .compactions)) ms
+  -- "A call with no merge counts only zeros."
+  pub zeros : ms ≡ [] → (i : ℕ) → 1 ≤ i → i ≤ 3 → countsAt answer i ≡ record { merges = 0; written = 0; compacted = 0 }
+
+-- what holds of each merge
+merge-demand : (g : Geometry) (e : Store) (m : Merge) → Valid g → MergeFacts g e m → MergeDemand g m
+merge-demand g e m v f = record {
+  is = f .is;
+  window-is = f .window-is;
+  fewest = run-fewest g e m v f;
+  overlap-high = overlap-most g e m v f;
+  writes-high = merge-writes-most g e m v f;
+  writes-growth = merge-writes-growth g e m v f;
+}
+
+-- the counts of an answer that takes them from a list
+counted : (a : ChangeAnswer) (ms : List Merge) → a .level1 ≡ countsOf 1 ms → a .level2 ≡ countsOf 2 ms → a .level3 ≡ countsOf 3 ms → (i : ℕ) → 1 ≤ i → i ≤ 3 → countsAt a i ≡ countsOf i ms
+counted a ms x y z zero l h = absurd (omega arith)
+counted a ms x y z (suc zero) l h = x
+counted a ms x y z (suc (suc zero)) l h = y
+counted a ms x y z (suc (suc (suc zero))) l h = z
+counted a ms x y z (suc (suc (suc (suc n)))) l h = absurd (omega arith)
+
+counts-none : (i : ℕ) → countsOf i [] ≡ record { merges = 0; written = 0; compacted = 0 }
+unfolding countsOf
+counts-none i = refl
+
+-- the demand, from what holds of each merge, the words, and the counts
+demand-of : (g : Geometry) (ws : List ℕ) (own : Option Own) (ms : List Merge) (a : ChangeAnswer) (out : List ℕ) (e : Store) → Valid g → Every (MergeFacts g e) ms → Chained (storeAt g ws) ms
+    → out ≡ leftWords g ws ms (withOwn own (afterMerges (storeAt g ws) ms)) → ((i : ℕ) → 1 ≤ i → i ≤ 3 → countsAt a i ≡ countsOf i ms) → Demand g ws own ms a out
+unfolding countsOf
+demand-of g ws own ms a out e v f c w n = record {
+  each = every-turn (MergeFacts g e) (MergeDemand g) ms (λ m x. merge-demand g e m v x) f;
+  in-order = c;
+  words = w;
+  merges-counted = λ i l h. ap (λ (x : Counts). x .merges) (n i l h);
+  written-counted = λ i l h. ap (λ (x : Counts). x .written) (n i l h);
+  compacted-counted = λ i l h. ap (λ (x : Counts). x .compacted) (n i l h);
+  zeros = λ q i l h. n i l h ∙ ap (countsOf i) q ∙ counts-none i;
+}
+
+-- a call that enters nothing leaves the words
+left-none : (g : Geometry) (ws : List ℕ) → Passed g ws → ws ≡ leftWords g ws [] (storeAt g ws)
+unfolding leftWords writeBlocks
+left-none g ws p = sym (p .written)
+
+-- a call that is refused, or a delete of an absent key
+nothing-demand : (g : Geometry) (ws : List ℕ) (c : Change) → Passed g ws → mergesOf c ≡ [] → changeOutcome g ws c .words ≡ ws → ((i : ℕ) → 1 ≤ i → i ≤ 3 → countsAt (changeOutcome g ws c .answer) i ≡ countsOf i [])
+    → Demand g ws none (mergesOf c) (changeOutcome g ws c .answer) (changeOutcome g ws c .words)
+nothing-demand g ws c p q w n =
+    subst (λ (ms : List Merge). Demand g ws none ms (changeOutcome g ws c .answer) (changeOutcome g ws c .words)) (sym q)
+    (demand-of g ws none [] (changeOutcome g ws c .answer) (changeOutcome g ws c .words) (storeAt g ws) (p .valid) tt tt (w ∙ left-none g ws p) n)
+
+-- a call that enters a record
+entered-demand : (g : Geometry) (ws : List ℕ) (r : Rec) (was : Bool) (live : ℕ) (ms : List Merge) (t : Store) → Passed g ws → EnterFacts g (storeAt g ws) r was live ms t
+    → Demand g ws (some (record { recorded = r; live = live })) ms (changeOutcome g ws (entered was ms t) .answer) (changeOutcome g ws (entered was ms t) .words)
+unfolding changeOutcome
+entered-demand g ws r was live ms t p f =
+    let s : Store = storeAt g ws in
+    let a = subst (ListFacts g s s) (sym (f .merges)) (call-facts g s (p .valid) (p .fits) (p .sound) (r .key)) in
+    demand-of g ws (some (record { recorded = r; live = live })) ms _ _ s (p .valid) (a .facts) (a .chained) (ap (leftWords g ws ms) (f .store)) (counted _ ms refl refl refl)
+
+-- what a put enters, by its outcome
+own-full : (g : Geometry) (s : Store) (k v : ℕ) → isLive k (rows s) ≡ false → s .live ≡ keyLimitOf g → ownPut g s k v ≡ none
+own-full g s k v e q = rw (e, ownPut, eq-eqb (s .live) (keyLimitOf g) q, ownPut)
+
+own-put : (g : Geometry) (s : Store) (k v : ℕ) (was : Bool) (ms : List Merge) (t : Store) → EnterFacts g s (putRec k v) was (livePut was (s .live)) ms t
+    → ownPut g s k v ≡ some (record { recorded = putRec k v; live = livePut was (s .live) })
+own-put g s k v true ms t f = rw (f .was-live, ownPut)
+own-put g s k v false ms t f =
+    let n : eqb (s .live) (keyLimitOf g) ≡ false = ne-eqb (s .live) (keyLimitOf g) (λ q. omega (arith, q, f .sound .live-fits, ap (λ (x : Store). x .live) (f .store))) in
+    rw (f .was-live, ownPut, n, ownPut)
+
+put-case : (g : Geometry) (ws : List ℕ) (k v : ℕ) → Passed g ws → (c : Change) → PutSays g (storeAt g ws) k v c
+    → Demand g ws (ownPut g (storeAt g ws) k v) (mergesOf c) (changeOutcome g ws c .answer) (changeOutcome g ws c .words)
+unfolding mergesOf changeOutcome
+put-case g ws k v p (refused n) h =
+    subst (λ (o : Option Own). Demand g ws o [] (changeOutcome g ws (refused n) .answer) ws) (sym (own-full g (storeAt g ws) k v (h .1) (h .2)))
+    (nothing-demand g ws (refused n) p refl refl (counted (changeOutcome g ws (refused n) .answer) [] refl refl refl))
+put-case g ws k v p absent h = absurd h
+put-case g ws k v p (entered was ms t) h =
+    subst (λ (o : Option Own). Demand g ws o ms (changeOutcome g ws (entered was ms t) .answer) (changeOutcome g ws (entered was ms t) .words)) (sym (own-put g (storeAt g ws) k v was ms t h))
+    (entered-demand g ws (putRec k v) was (livePut was (storeAt g ws .live)) ms t p h)
+
+delete-case : (g : Geometry) (ws : List ℕ) (k : ℕ) → Passed g ws → (c : Change) → DeleteSays g (storeAt g ws) k c
+    → Demand g ws (ownDelete g (storeAt g ws) k) (mergesOf c) (changeOutcome g ws c .answer) (changeOutcome g ws c .words)
+unfolding mergesOf changeOutcome
+delete-case g ws k p (refused n) h = absurd h
+delete-case g ws k p absent h =
+    let q : ownDelete g (storeAt g ws) k ≡ none = rw (h, ownDelete) in
+    subst (λ (o : Option Own). Demand g ws o [] (changeOutcome g ws absent .answer) ws) (sym q)
+    (nothing-demand g ws absent p refl refl (counted (changeOutcome g ws absent .answer) [] refl refl refl))
+delete-case g ws k p (entered was ms t) h =
+    let q : ownDelete g (storeAt g ws) k ≡ some (record { recorded = deleteRec k; live = storeAt g ws .live - 1 }) = rw (h .1 .was-live ∙ h .0, ownDelete) in
+    subst (λ (o : Option Own). Demand g ws o ms (changeOutcome g ws (entered was ms t) .answer) (changeOutcome g ws (entered was ms t) .words)) (sym q)
+    (entered-demand g ws (deleteRec k) was (storeAt g ws .live - 1) ms t p (h .1))
+
+-- Law 8, demand 3, of every put on words that pass the form check.
+pub put-demand : (ws : List ℕ) (k v : ℕ) → reasonOf ws ≡ 0
+    → let g = geometryAt ws in let s = storeAt g ws in Demand g ws (ownPut g s k v) (mergesOf (put g s k v)) (putOf ws k v .answer) (putOf ws k v .words)
+put-demand ws k v e =
+    let g : Geometry = geometryAt ws in
+    let s : Store = storeAt g ws in
+    let p = reason-passed ws e in
+    subst (λ (x : Outcome ChangeAnswer). Demand g ws (ownPut g s k v) (mergesOf (put g s k v)) (x .answer) (x .words)) (sym (put-of ws k v e))
+    (put-case g ws k v p (put g s k v) (put-says g s (p .valid) (p .fits) (p .sound) k v))
+
+-- and of every delete
+pub delete-demand : (ws : List ℕ) (k : ℕ) → reasonOf ws ≡ 0
+    → let g = geometryAt ws in let s = storeAt g ws in Demand g ws (ownDelete g s k) (mergesOf (delete g s k)) (deleteOf ws k .answer) (deleteOf ws k .words)
+delete-demand ws k e =
+    let g : Geometry = geometryAt ws in
+    let s : Store = storeAt g ws in
+    let p = reason-passed ws e in
+    subst (λ (x : Outcome ChangeAnswer). Demand g ws (ownDelete g s k) (mergesOf (delete g s k)) (x .answer) (x .words)) (sym (delete-of ws k e))
+    (delete-case g ws k p (delete g s k) (delete-says g s (p .valid) (p .fits) (p .sound) k))
