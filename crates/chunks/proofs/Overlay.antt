@@ -1,0 +1,161 @@
+-- Lists of records laid over each other, taken apart from the least key on: the least key leaves every list that has it, and the uppermost record stands.
+use Prim.Native.Nat.{ℕ, suc, _+_, _≤_}
+use mathlib.Core.Path.{_≡_, refl, _∙_}
+use mathlib.Core.Bool.{Bool, true, false, not, _&&_}
+use mathlib.Core.List.{List, [], _∷_, _++_}
+use mathlib.Core.Option.{Option, none, some}
+use native.Mathlib.Omega.{arith}
+use native.Mathlib.Decide.{ℕ-discrete}
+use lib.Dec.{eqb, leb}
+use lib.ListN.{length}
+use borrow.Author.Tests.{eq-eqb, ne-eqb}
+use Rattle.levels.specs.Record.{Rec}
+use Rattle.levels.specs.Map.{overlay, into, unmarked, firstFrom}
+use Rattle.chunks.specs.Peel.{pickRecs, taken, past, orList, Least, Peeled, liveBit}
+use Rattle.chunks.proofs.Find.{into-below, into-same, into-above, Way, way}
+use Rattle.chunks.proofs.Find.Way.{less, same, more}
+
+-- the clauses of `taken` and `past`, as laws
+pub taken-nil : (k : ℕ) → taken k [] ≡ []
+unfolding taken
+taken-nil k = refl
+
+pub past-nil : (k : ℕ) → past k [] ≡ []
+unfolding past
+past-nil k = refl
+
+module _ (k : ℕ) (r : Rec) (rs : List Rec) where
+  pub taken-here : r .key ≡ k → taken k (r ∷ rs) ≡ r ∷ []
+  unfolding taken
+  taken-here e = rw (eq-eqb (r .key) k e)
+
+  pub taken-not : (r .key ≡ k → ⊥) → taken k (r ∷ rs) ≡ []
+  unfolding taken
+  taken-not e = rw (ne-eqb (r .key) k e)
+
+  pub past-here : r .key ≡ k → past k (r ∷ rs) ≡ rs
+  unfolding past
+  past-here e = rw (eq-eqb (r .key) k e)
+
+  pub past-not : (r .key ≡ k → ⊥) → past k (r ∷ rs) ≡ r ∷ rs
+  unfolding past
+  past-not e = rw (ne-eqb (r .key) k e)
+
+-- What an overlay begins with; neither list has to rise.
+pub peel : (k : ℕ) (xs ys : List Rec) → Least k xs → Least k ys → Peeled k xs ys
+unfolding overlay into
+peel k [] ys p q = record { least = q; takens = rw (taken-nil k); pasts = rw (past-nil k) }
+peel k (x ∷ xs) [] p q = go (ℕ-discrete (x .key) k)
+  where
+    go : Dec (x .key ≡ k) → Peeled k (x ∷ xs) []
+    go (yes e) = record { least = p; takens = rw (taken-here k x (overlay xs []) e, taken-here k x xs e); pasts = rw (past-here k x (overlay xs []) e, past-here k x xs e, past-nil k) }
+    go (no n) = record { least = p; takens = rw (taken-not k x (overlay xs []) n, taken-not k x xs n, taken-nil k); pasts = rw (past-not k x xs n, past-nil k, past-not k x (overlay xs []) n) }
+peel k (x ∷ xs) (y ∷ ys) p q = go (way (y .key) (x .key)) (ℕ-discrete (x .key) k) (ℕ-discrete (y .key) k)
+  where
+    go : Way (y .key) (x .key) → Dec (x .key ≡ k) → Dec (y .key ≡ k) → Peeled k (x ∷ xs) (y ∷ ys)
+    go (less h) (yes d) e = absurd (omega arith)
+    go (less h) (no d) (yes e) =
+        let m = into-below x (λ zs. overlay xs zs) y ys h in
+        record { least = rw m q; takens = rw (m, taken-here k y (into x (λ zs. overlay xs zs) ys) e, taken-not k x xs d, taken-here k y ys e); pasts = rw (m, past-here k y (into x (λ zs. overlay xs zs) ys) e, past-not k x xs d, past-here k y ys e) }
+    go (less h) (no d) (no e) =
+        let m = into-below x (λ zs. overlay xs zs) y ys h in
+        record { least = rw m q; takens = rw (m, taken-not k y (into x (λ zs. overlay xs zs) ys) e, taken-not k x xs d, taken-not k y ys e); pasts = rw (past-not k x xs d, past-not k y ys e, m, past-not k y (into x (λ zs. overlay xs zs) ys) e) }
+    go (same h) (yes d) e =
+        let m = into-same x (λ zs. overlay xs zs) y ys h in
+        let f : y .key ≡ k = omega arith in
+        record { least = rw m p; takens = rw (m, taken-here k x (overlay xs ys) d, taken-here k x xs d); pasts = rw (m, past-here k x (overlay xs ys) d, past-here k x xs d, past-here k y ys f) }
+    go (same h) (no d) e =
+        let m = into-same x (λ zs. overlay xs zs) y ys h in
+        let f : y .key ≡ k → ⊥ = λ z. omega arith in
+        record { least = rw m p; takens = rw (m, taken-not k x (overlay xs ys) d, taken-not k x xs d, taken-not k y ys f); pasts = rw (past-not k x xs d, past-not k y ys f, m, past-not k x (overlay xs ys) d) }
+    go (more h) d (yes e) = absurd (omega arith)
+    go (more h) (yes d) (no e) =
+        let m = into-above x (λ zs. overlay xs zs) y ys h in
+        record { least = rw m p; takens = rw (m, taken-here k x (overlay xs (y ∷ ys)) d, taken-here k x xs d); pasts = rw (m, past-here k x (overlay xs (y ∷ ys)) d, past-here k x xs d, past-not k y ys e) }
+    go (more h) (no d) (no e) =
+        let m = into-above x (λ zs. overlay xs zs) y ys h in
+        record { least = rw m p; takens = rw (m, taken-not k x (overlay xs (y ∷ ys)) d, taken-not k x xs d, taken-not k y ys e); pasts = rw (past-not k x xs d, past-not k y ys e, m, past-not k x (overlay xs (y ∷ ys)) d) }
+
+-- a list is its first record, where that has key k, and the rest
+taken-past : (k : ℕ) (xs : List Rec) → xs ≡ taken k xs ++ past k xs
+unfolding taken past
+taken-past k [] = refl
+taken-past k (x ∷ xs) = go (eqb (x .key) k)
+  where
+    go : (t : Bool) → x ∷ xs ≡ pickRecs t (x ∷ []) [] ++ pickRecs t xs (x ∷ xs)
+    go true = refl
+    go false = refl
+
+-- a turn of the walk over four lists: the record that decides for the least key, and the overlay of what is left
+pub overlay-cut : (k : ℕ) (a b c d : List Rec) → Least k a → Least k b → Least k c → Least k d
+    → overlay a (overlay b (overlay c d))
+    ≡ orList (taken k a) (orList (taken k b) (orList (taken k c) (taken k d))) ++ overlay (past k a) (overlay (past k b) (overlay (past k c) (past k d)))
+overlay-cut k a b c d pa pb pc pd =
+    let z = peel k c d pc pd in
+    let y = peel k b (overlay c d) pb (z .least) in
+    let x = peel k a (overlay b (overlay c d)) pa (y .least) in
+    taken-past k (overlay a (overlay b (overlay c d))) ∙ rw (x .takens, y .takens, z .takens, x .pasts, y .pasts, z .pasts)
+
+-- a record before a list counts if it is no tombstone
+pub live-cons : (r : Rec) (rs : List Rec) → length (unmarked (r ∷ rs)) ≡ liveBit (r .tombstone) + length (unmarked rs)
+unfolding unmarked
+live-cons r rs = go (r .tombstone)
+  where
+    go : (t : Bool) → length {A = Rec} (elim t [ true ↦ unmarked rs | false ↦ r ∷ unmarked rs ]) ≡ liveBit t + length (unmarked rs)
+    go true = omega arith
+    go false = omega arith
+
+-- a record before a list is the next live one from q on if it is no tombstone and its key is not below q
+module _ (q : ℕ) (r : Rec) (rs : List Rec) where
+  pub next-here : (leb q (r .key) && not (r .tombstone)) ≡ true → firstFrom q (unmarked (r ∷ rs)) ≡ some r
+  unfolding unmarked firstFrom
+  next-here e = go (leb q (r .key)) (r .tombstone) refl e
+    where
+      go : (a t : Bool) → leb q (r .key) ≡ a → (a && not t) ≡ true → firstFrom q (elim t [ true ↦ unmarked rs | false ↦ r ∷ unmarked rs ]) ≡ some r
+      go true true l h = cc
+      go true false l h = rw (l, firstFrom)
+      go false t l h = cc
+
+  pub next-past : (leb q (r .key) && not (r .tombstone)) ≡ false → firstFrom q (unmarked (r ∷ rs)) ≡ firstFrom q (unmarked rs)
+  unfolding unmarked firstFrom
+  next-past e = go (leb q (r .key)) (r .tombstone) refl e
+    where
+      go : (a t : Bool) → leb q (r .key) ≡ a → (a && not t) ≡ false → firstFrom q (elim t [ true ↦ unmarked rs | false ↦ r ∷ unmarked rs ]) ≡ firstFrom q (unmarked rs)
+      go a true l h = refl
+      go true false l h = cc
+      go false false l h = rw (l, firstFrom)
+
+-- no more records live than there are
+pub live-high : (rs : List Rec) → length (unmarked rs) ≤ length rs
+unfolding unmarked
+live-high [] = omega arith
+live-high (r ∷ rs) = go (r .tombstone) (live-high rs)
+  where
+    go : (t : Bool) → length (unmarked rs) ≤ length rs → length {A = Rec} (elim t [ true ↦ unmarked rs | false ↦ r ∷ unmarked rs ]) ≤ suc (length rs)
+    go true h = omega arith
+    go false h = omega arith
+
+into-length : (x : Rec) (xs : List Rec) (f : List Rec → List Rec) → ((zs : List Rec) → length (f zs) ≤ length xs + length zs) → (ys : List Rec) → length (into x f ys) ≤ suc (length xs) + length ys
+unfolding into
+into-length x xs f h [] = let k = h [] in omega arith
+into-length x xs f h (y ∷ ys) = go (way (y .key) (x .key)) (into-length x xs f h ys)
+  where
+    go : Way (y .key) (x .key) → length (into x f ys) ≤ suc (length xs) + length ys → length (into x f (y ∷ ys)) ≤ suc (length xs) + suc (length ys)
+    go (less e) ih = rw (into-below x f y ys e) (omega arith)
+    go (same e) ih = let k = h ys in rw (into-same x f y ys e) (omega arith)
+    go (more e) ih = let k : length (f (y ∷ ys)) ≤ length xs + suc (length ys) = h (y ∷ ys) in rw (into-above x f y ys e) (omega arith)
+
+-- an overlay has no more records than its two lists
+pub overlay-length : (xs ys : List Rec) → length (overlay xs ys) ≤ length xs + length ys
+unfolding overlay
+overlay-length [] ys = omega arith
+overlay-length (x ∷ xs) ys = into-length x xs (λ zs. overlay xs zs) (λ zs. overlay-length xs zs) ys
+
+-- four lists have no more live keys than records
+pub four-live-high : (a b c d : List Rec) → length (unmarked (overlay a (overlay b (overlay c d)))) ≤ length a + (length b + (length c + length d))
+four-live-high a b c d =
+    let p = live-high (overlay a (overlay b (overlay c d))) in
+    let q = overlay-length a (overlay b (overlay c d)) in
+    let r = overlay-length b (overlay c d) in
+    let s = overlay-length c d in
+    omega arith

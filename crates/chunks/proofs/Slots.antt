@@ -1,0 +1,121 @@
+-- Steps of the passes over a chunk, and what they say of its records.
+use Prim.Native.Nat.{ℕ, zero, suc, _+_, _-_, _/_, _%_, _^_, _≤_, _<_}
+use mathlib.Core.Path.{_≡_, sym, ap, _∙_, refl}
+use mathlib.Core.Bool.{Bool, true, false, not, _&&_, _||_, and-assoc, and-eq-true-iff}
+use mathlib.Core.List.{List, [], _∷_, _++_}
+use native.Mathlib.Nat.{pow-succ', div-div-eq-div-mul}
+use native.Mathlib.Numerals.{add-one}
+use native.Mathlib.Omega.{arith}
+use borrow.Author.Tests.{le-leb, lt-leb, eq-eqb, ne-eqb, leb-true}
+use lib.Dec.{leb, eqb}
+use lib.ListN.{length}
+use Rattle.levels.specs.Record.{Rec, rising, cleanTombstones}
+use Rattle.words.specs.Layout.{word, slotsAt}
+use Rattle.chunks.specs.declared.Rise.{Rise}
+use Rattle.chunks.specs.declared.Rise.the-variants.{To, Broken}
+use Rattle.chunks.specs.Chunks.{Rising, zerosAt, nextLow, pickRise, riseOf}
+
+-- one word of `zeros`
+module _ (ws : List ℕ) (start n i : ℕ) where
+  pub zeros-next : i < n → word ws (start + i) ≡ 0 → zerosAt ws (start + i) (n - i) ≡ zerosAt ws (start + (i + 1)) (n - (i + 1))
+  unfolding zerosAt
+  zeros-next l e =
+      let p : n - i ≡ suc (n - (i + 1)) = omega arith in
+      let q : start + (i + 1) ≡ suc (start + i) = omega arith in
+      rw (p, q, eq-eqb _ _ e)
+
+  pub zeros-stop : i < n → (word ws (start + i) ≡ 0 → ⊥) → zerosAt ws (start + i) (n - i) ≡ false
+  unfolding zerosAt
+  zeros-stop l e = let p : n - i ≡ suc (n - (i + 1)) = omega arith in rw (p, ne-eqb _ _ e)
+
+  pub zeros-end : n ≤ i → zerosAt ws (start + i) (n - i) ≡ true
+  unfolding zerosAt
+  zeros-end h = let p : n - i ≡ 0 = omega arith in rw p
+
+pub zeros-start : (ws : List ℕ) (start n : ℕ) → zerosAt ws (start + 0) (n - 0) ≡ zerosAt ws start n
+zeros-start ws start n = let p : start + 0 ≡ start = omega arith in let q : n - 0 ≡ n = omega arith in rw (p, q)
+
+-- one record of `rise_over`
+module _ (ws : List ℕ) (m k v n j low : ℕ) (l : j < n) where
+  pub rise-low : word ws (k + j) < low → riseOf ws m (k + j) (v + j) (n - j) low ≡ Broken
+  unfolding riseOf
+  rise-low h = let p : n - j ≡ suc (n - (j + 1)) = omega arith in rw (p, lt-leb _ _ h)
+
+  pub rise-dirty : (eqb (m % 2) 1 && not (eqb (word ws (v + j)) 0)) ≡ true → low ≤ word ws (k + j) → riseOf ws m (k + j) (v + j) (n - j) low ≡ Broken
+  unfolding riseOf
+  rise-dirty e h = let p : n - j ≡ suc (n - (j + 1)) = omega arith in rw (p, le-leb _ _ h, e)
+
+  pub rise-next : (eqb (m % 2) 1 && not (eqb (word ws (v + j)) 0)) ≡ false → low ≤ word ws (k + j) → riseOf ws m (k + j) (v + j) (n - j) low ≡ riseOf ws (m / 2) (k + (j + 1)) (v + (j + 1)) (n - (j + 1)) (word ws (k + j) + 1)
+  unfolding riseOf
+  rise-next e h =
+      let p : n - j ≡ suc (n - (j + 1)) = omega arith in
+      let q : k + (j + 1) ≡ suc (k + j) = omega arith in
+      let r : v + (j + 1) ≡ suc (v + j) = omega arith in
+      rw (p, q, r, add-one (word ws (k + j)), le-leb _ _ h, e)
+
+pub rise-start : (ws : List ℕ) (m k v n low : ℕ) → riseOf ws m (k + 0) (v + 0) (n - 0) low ≡ riseOf ws m k v n low
+rise-start ws m k v n low = let p : k + 0 ≡ k = omega arith in let q : n - 0 ≡ n = omega arith in let r : v + 0 ≡ v = omega arith in rw (p, q, r)
+
+module _ (ws : List ℕ) (m k v n j low : ℕ) (h : n ≤ j) where
+  pub rise-end : m ≡ 0 → riseOf ws m (k + j) (v + j) (n - j) low ≡ To low
+  unfolding riseOf
+  rise-end e = let p : n - j ≡ 0 = omega arith in rw (p, eq-eqb _ _ e)
+
+  pub rise-extra : (m ≡ 0 → ⊥) → riseOf ws m (k + j) (v + j) (n - j) low ≡ Broken
+  unfolding riseOf
+  rise-extra e = let p : n - j ≡ 0 = omega arith in rw (p, ne-eqb _ _ e)
+
+-- bits past the first are those of the halved word past one fewer
+pub shift-suc : (m n : ℕ) → m / 2 ^ suc n ≡ m / 2 / 2 ^ n
+shift-suc m n = ap (_/_ m) (pow-succ' 2 n) ∙ sym (div-div-eq-div-mul m 2 (2 ^ n))
+
+-- the pass says: keys rise strictly, payloads of tombstones are 0, and no bit is set past the count
+pub rise-is : (ws : List ℕ) (m k v n low : ℕ) → riseOf ws m k v n low ≡ pickRise (rising low (slotsAt ws m k v n) && (cleanTombstones (slotsAt ws m k v n) && eqb (m / 2 ^ n) 0)) (To (nextLow low (slotsAt ws m k v n))) Broken
+unfolding riseOf slotsAt nextLow
+rise-is ws m k v zero low = let e : m / 2 ^ 0 ≡ m = omega arith in rw e
+rise-is ws m k v (suc n) low =
+    rw (shift-suc m n, rise-is ws (m / 2) (suc k) (suc v) n (suc (word ws k))) (go (leb low (word ws k)) (eqb (m % 2) 1) (eqb (word ws v) 0) _ _ _ _)
+  where
+    go : (a t z c d e : Bool) (x : Rise) → pickRise (a && not (t && not z)) (pickRise (c && (d && e)) x Broken) Broken ≡ pickRise ((a && c) && (((not t || z) && d) && e)) x Broken
+    go false t z c d e x = refl
+    go true false z c d e x = refl
+    go true true true c d e x = refl
+    go true true false true d e x = refl
+    go true true false false d e x = refl
+
+pub slots-length : (ws : List ℕ) (m k v n : ℕ) → length (slotsAt ws m k v n) ≡ n
+unfolding slotsAt
+slots-length ws m k v zero = refl
+slots-length ws m k v (suc n) = ap suc (slots-length ws (m / 2) (suc k) (suc v) n)
+
+-- the first of n slots, and those after it
+pub slots-first : (ws : List ℕ) (m k v n : ℕ) → 1 ≤ n → slotsAt ws m k v n ≡ record { key = word ws k; tombstone = eqb (m % 2) 1; pay = word ws v } ∷ slotsAt ws (m / 2) (k + 1) (v + 1) (n - 1)
+unfolding slotsAt
+slots-first ws m k v zero h = absurd (omega arith)
+slots-first ws m k v (suc n) h = let p : suc n - 1 ≡ n = omega arith in rw (p, add-one k, add-one v)
+
+-- two lists in a row rise if the first does and the second goes on from there
+pub rising-append : (low : ℕ) (rs ss : List Rec) → rising low (rs ++ ss) ≡ (rising low rs && rising (nextLow low rs) ss)
+unfolding nextLow
+rising-append low [] ss = refl
+rising-append low (r ∷ rs) ss = rw (rising-append (suc (r .key)) rs ss) (sym (and-assoc (leb low (r .key)) (rising (suc (r .key)) rs) (rising (nextLow (suc (r .key)) rs) ss)))
+
+-- the test gives the facts
+pub rising-is : (low : ℕ) (rs : List Rec) → rising low rs ≡ true → Rising low rs
+rising-is low [] e = tt
+rising-is low (r ∷ rs) e = let k = simp and-eq-true-iff at e in (leb-true _ _ (k .0), rising-is (suc (r .key)) rs (k .1))
+
+-- a row of slots in two parts
+pub slots-split : (ws : List ℕ) (m k v j n : ℕ) → slotsAt ws m k v (j + n) ≡ slotsAt ws m k v j ++ slotsAt ws (m / 2 ^ j) (k + j) (v + j) n
+unfolding slotsAt
+slots-split ws m k v zero n =
+    let e : m / 2 ^ 0 ≡ m = omega arith in
+    let a : 0 + n ≡ n = omega arith in
+    let b : k + 0 ≡ k = omega arith in
+    let c : v + 0 ≡ v = omega arith in
+    rw (e, a, b, c)
+slots-split ws m k v (suc j) n =
+    let a : suc j + n ≡ suc (j + n) = omega arith in
+    let b : k + suc j ≡ suc k + j = omega arith in
+    let c : v + suc j ≡ suc v + j = omega arith in
+    rw (shift-suc m j, a, b, c, slots-split ws (m / 2) (suc k) (suc v) j n)

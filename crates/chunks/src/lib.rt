@@ -1,0 +1,73 @@
+// Chunks: what a page of level 0 and a listed block have in common, so that every reading of records is
+// written and proved once for both.
+
+ghost use mathlib.Core.Path.{_≡_};
+ghost use Prim.Native.Nat.{_+_, _-_, _*_, _≤_, _<_};
+ghost use lib.ListN.{length};
+ghost use Rattle.words.specs.Layout.{word};
+ghost use Rattle.chunks.specs.Chunks.{Inside, riseOf, zerosAt};
+
+// Records in a row: their mark word, the words where their keys and their payloads start, and how many they are.
+pub struct Chunk {
+    pub marks: u32,
+    pub keys: usize,
+    pub pays: usize,
+    pub count: usize,
+}
+
+// Where the keys of a chunk got to: the least number that the next key may be.
+pub enum Rise {
+    To(usize),
+    Broken,
+}
+
+// The n words from word `start` on are 0.
+pub fn zeros(s: &[u32], start: usize, n: usize) -> bool
+    requires { ⌜ start + n ≤ length (now s) ⌝ }
+    ensures { λ r. ⌜ r ≡ zerosAt (now (s .entry)) start n ⌝ }
+{
+    for i in 0..n {
+        if s[start + i] != 0 {
+            return false;
+        }
+    }
+    true
+}
+
+// The keys of a chunk rise strictly from `low` on, the payload of a tombstone is 0, and no mark bit is
+// set past the count. The mark word is halved with each record, so that what is left of it at the end
+// is the bits past the count.
+pub fn rise_over(s: &[u32], chunk: Chunk, low: usize) -> Rise
+    requires { ⌜ Inside chunk (now s) ⌝ }
+    ensures { λ t. ⌜ t ≡ riseOf (now (s .entry)) (chunk .marks) (chunk .keys) (chunk .pays) (chunk .count) low ⌝ }
+{
+    let k = chunk.keys;
+    let v = chunk.pays;
+    let n = chunk.count;
+    let mut m = chunk.marks;
+    let mut least = low;
+    for j in 0..n {
+        let key = s[k + j] as usize;
+        if key < least {
+            return Rise::Broken;
+        }
+        let dirty = (m % 2 == 1) & (s[v + j] != 0);
+        if dirty {
+            return Rise::Broken;
+        }
+        m = m / 2;
+        least = key + 1;
+    }
+    if m == 0 {
+        return Rise::To(least);
+    }
+    Rise::Broken
+}
+
+// Word i, as a number that sums and products of words do not wrap.
+pub fn word(s: &[u32], i: usize) -> usize
+    requires { ⌜ i < length (now s) ⌝ }
+    ensures { λ r. ⌜ (r ≡ word (now (s .entry)) i) × (r < 4294967296) ⌝ }
+{
+    s[i] as usize
+}

@@ -1,0 +1,182 @@
+// A walk over four levels side by side: the least key leaves every level that has it, and the uppermost
+// record with it decides. It counts the live keys, and finds the first one from a key on.
+
+ghost use mathlib.Core.Path.{_≡_};
+ghost use Prim.Native.Nat.{_+_, _-_, _*_, _%_, _^_, _≤_, _<_};
+ghost use lib.ListN.{length};
+ghost use lib.Dec.{eqb};
+ghost use Rattle.levels.specs.Map.{unmarked, firstFrom};
+ghost use Rattle.chunks.specs.Peel.{past, liveBit};
+ghost use Rattle.directory.specs.Directory.{Formed, recordsFrom};
+ghost use Rattle.walk.specs.Walk.{Good, rest, upperOf, LeastOf, Smaller, layered, followingOf};
+use chunks::Chunk;
+use directory::Directory;
+
+// Above every key: the next key of a level that is used up.
+pub const END: usize = 4294967296;
+
+// What is left of a level: the rest of a chunk, the number of the chunk after it, and the next key.
+pub struct Cursor {
+    pub next: usize,
+    pub chunk: Chunk,
+    pub key: usize,
+}
+
+// A live key with its payload, or that there is none.
+pub enum Following {
+    At(usize, u32),
+    Nothing,
+}
+
+// A level from chunk `next` on.
+pub fn refill(s: &[u32], dir: Directory, next: usize) -> Cursor
+    requires { ⌜ Formed dir (now s) × (next ≤ dir .chunks) ⌝ }
+    ensures { λ r. ⌜ Good (now (s .entry)) dir r × (rest (now (s .entry)) dir r ≡ recordsFrom (now (s .entry)) dir next (dir .chunks - next)) ⌝ }
+{
+    let n = dir.chunks;
+    if next < n {
+        let chunk = directory::chunk_at(s, dir, next);
+        let k = chunk.keys;
+        let key = s[k] as usize;
+        return Cursor {
+            next: next + 1,
+            chunk: chunk,
+            key: key,
+        };
+    }
+    let none = Chunk {
+        marks: 0,
+        keys: 0,
+        pays: 0,
+        count: 0,
+    };
+    Cursor {
+        next: n,
+        chunk: none,
+        key: END,
+    }
+}
+
+// Past the next record, where its key is k.
+pub fn step(s: &[u32], dir: Directory, c: Cursor, k: usize) -> Cursor
+    requires { ⌜ Good (now s) dir c × (k < 4294967296) ⌝ }
+    ensures { λ r. ⌜ Good (now (s .entry)) dir r × (rest (now (s .entry)) dir r ≡ past k (rest (now (s .entry)) dir c)) ⌝ }
+{
+    let key = c.key;
+    if key != k {
+        return c;
+    }
+    let chunk = c.chunk;
+    let n = chunk.count;
+    let next = c.next;
+    if n <= 1 {
+        return refill(s, dir, next);
+    }
+    let at = chunk.keys + 1;
+    let found = s[at] as usize;
+    let left = Chunk {
+        marks: chunk.marks / 2,
+        keys: at,
+        pays: chunk.pays + 1,
+        count: n - 1,
+    };
+    Cursor {
+        next: next,
+        chunk: left,
+        key: found,
+    }
+}
+
+pub fn smaller(a: usize, b: usize) -> usize
+    ensures { λ r. ⌜ Smaller a b r ⌝ }
+{
+    if b < a { b } else { a }
+}
+
+// The smallest of four numbers.
+pub fn least(a: usize, b: usize, c: usize, d: usize) -> usize
+    ensures { λ r. ⌜ LeastOf a b c d r ⌝ }
+{
+    smaller(smaller(a, b), smaller(c, d))
+}
+
+// Of four cursors, the upper ones first, the chunk of the first whose key is k; the last has it if no other has.
+pub fn upper(c0: Cursor, c1: Cursor, c2: Cursor, c3: Cursor, k: usize) -> Chunk
+    ensures { λ r. ⌜ r ≡ upperOf c0 c1 c2 c3 k ⌝ }
+{
+    if c0.key == k {
+        return c0.chunk;
+    }
+    if c1.key == k {
+        return c1.chunk;
+    }
+    if c2.key == k {
+        return c2.chunk;
+    }
+    c3.chunk
+}
+
+// 1 if the first record of a chunk with this mark word is no tombstone.
+fn live_bit(m: u32) -> usize
+    ensures { λ r. ⌜ r ≡ liveBit (eqb (m % 2) 1) ⌝ }
+{
+    if m % 2 == 1 { 0 } else { 1 }
+}
+
+// The number of live keys of four levels, the upper ones first.
+pub fn live(s: &[u32], d0: Directory, d1: Directory, d2: Directory, d3: Directory) -> usize
+    requires { ⌜ Formed d0 (now s) × (Formed d1 (now s) × (Formed d2 (now s) × Formed d3 (now s))) ⌝ }
+    ensures { λ r. ⌜ r ≡ length (unmarked (layered (now (s .entry)) d0 d1 d2 d3)) ⌝ }
+{
+    let mut c0 = refill(s, d0, 0);
+    let mut c1 = refill(s, d1, 0);
+    let mut c2 = refill(s, d2, 0);
+    let mut c3 = refill(s, d3, 0);
+    let mut n: usize = 0;
+    loop {
+        let k = least(c0.key, c1.key, c2.key, c3.key);
+        if END <= k {
+            return n;
+        }
+        let chunk = upper(c0, c1, c2, c3, k);
+        n += live_bit(chunk.marks);
+        c0 = step(s, d0, c0, k);
+        c1 = step(s, d1, c1, k);
+        c2 = step(s, d2, c2, k);
+        c3 = step(s, d3, c3, k);
+    }
+}
+
+// The smallest live key of four levels, the upper ones first, at or above q, with its payload.
+pub fn next_from(
+    s: &[u32],
+    d0: Directory,
+    d1: Directory,
+    d2: Directory,
+    d3: Directory,
+    q: usize,
+) -> Following
+    requires { ⌜ Formed d0 (now s) × (Formed d1 (now s) × (Formed d2 (now s) × Formed d3 (now s))) ⌝ }
+    ensures { λ r. ⌜ r ≡ followingOf (firstFrom q (unmarked (layered (now (s .entry)) d0 d1 d2 d3))) ⌝ }
+{
+    let mut c0 = refill(s, d0, 0);
+    let mut c1 = refill(s, d1, 0);
+    let mut c2 = refill(s, d2, 0);
+    let mut c3 = refill(s, d3, 0);
+    loop {
+        let k = least(c0.key, c1.key, c2.key, c3.key);
+        if END <= k {
+            return Following::Nothing;
+        }
+        let chunk = upper(c0, c1, c2, c3, k);
+        let hit = (q <= k) & (chunk.marks % 2 != 1);
+        if hit {
+            let v = chunk.pays;
+            return Following::At(k, s[v]);
+        }
+        c0 = step(s, d0, c0, k);
+        c1 = step(s, d1, c1, k);
+        c2 = step(s, d2, c2, k);
+        c3 = step(s, d3, c3, k);
+    }
+}
