@@ -76,7 +76,7 @@ loop-less c = omega arith
 
 loop-again : tie.Need-loop-again Inv-loop μ-loop
 loop-again c =
-    let f = not-false _ (c .before .before .if1 .left) in
+    let f = not-false (c .before .before .before .list-fresh .result) (c .before .before .if1 .left) in
     (omega arith, rw (c .before .before .before .list-fresh .ensures .1 f) (sym (lists-next _ _ _ _ _ (c .before .before .before .before .before .before .before .loop-test .taken) _ (c .before .before .before .before .before .level-of .ensures) _ (c .before .before .before .before .before .before .capacity .ensures) (rw (c .before .before .before .before .before .before .before .before .before .places .ensures) at (sym (c .before .before .before .list-fresh .ensures .0) ∙ f)) (sym (c .before .zeros .ensures) ∙ not-false _ (c .if2 .left))) ∙ c .before .before .before .before .before .before .before .before .loop .inv .1))
 
 returns-3 : tie.Need-returns-3 Inv-loop μ-loop
