@@ -8,9 +8,28 @@ ghost use lib.ListN.{length};
 ghost use Rattle.geometry.specs.Geometry.{Ranged};
 ghost use Rattle.entry.specs.Entry.{Sized};
 ghost use Rattle.form.specs.Form.{Headed, topOf, levelOf, headerOk, freshOf, markOf, listsOk, spareOk, passed};
-ghost use Rattle.form.specs.Checked.{limitOf};
+ghost use Rattle.form.specs.Checked.{checkedOf, limitOf};
 use directory::Directory;
+use entry::Opened;
 use geometry::Geometry;
+
+// The geometry of a store that passes, or the reason that it is turned down for.
+pub enum Checked {
+    Ready(Geometry),
+    Refused(u32),
+}
+
+// What every call begins with.
+pub fn check(s: &[u32]) -> Checked
+    ensures { λ r. ⌜ r ≡ checkedOf (now (s .entry)) ⌝ }
+{
+    match entry::open(s) {
+        Opened::Refused(n) => Checked::Refused(n),
+        Opened::Ready(g) => {
+            if passes(s, g) { Checked::Ready(g) } else { Checked::Refused(4) }
+        }
+    }
+}
 
 // Level 0 of a store.
 pub fn top_of(s: &[u32], g: Geometry) -> Directory
