@@ -1,0 +1,69 @@
+-- Words in a row as a list, and the place lists of the levels as such.
+use Prim.Native.Nat.{ℕ, zero, suc, _+_, _-_, _≤_, _<_}
+use mathlib.Core.Path.{_≡_, sym, ap, _∙_, refl}
+use mathlib.Core.Bool.{Bool, true, false, _&&_}
+use mathlib.Core.List.{List, [], _∷_, _++_}
+use native.Mathlib.Omega.{arith}
+use lib.ListN.{length, take, drop, getD}
+use lib.Seq.{drop-cons, take-at, drop-at}
+use Rattle.geometry.specs.declared.Geometry.{Geometry}
+use Rattle.geometry.specs.Geometry.{capacityOf, listStart}
+use Rattle.levels.specs.Basics.{all}
+use Rattle.words.specs.Layout.{word, countAt, listAt, listedAt}
+use Rattle.words.specs.Form.{isZero}
+use Rattle.chunks.specs.Chunks.{zerosAt}
+use Rattle.form.proofs.Tests.{all-append}
+
+-- n words from word i on
+unfoldable pub wordsFrom : List ℕ → ℕ → ℕ → List ℕ
+wordsFrom ws i zero = []
+wordsFrom ws i (suc n) = word ws i ∷ wordsFrom ws (suc i) n
+
+pub words-length : (ws : List ℕ) (i n : ℕ) → length (wordsFrom ws i n) ≡ n
+unfolding wordsFrom
+words-length ws i zero = refl
+words-length ws i (suc n) = ap suc (words-length ws (suc i) n)
+
+pub words-split : (ws : List ℕ) (i m n : ℕ) → wordsFrom ws i (m + n) ≡ wordsFrom ws i m ++ wordsFrom ws (i + m) n
+unfolding wordsFrom
+words-split ws i zero n = let a : 0 + n ≡ n = omega arith in let b : i + 0 ≡ i = omega arith in rw (a, b)
+words-split ws i (suc m) n =
+    let a : suc m + n ≡ suc (m + n) = omega arith in
+    let b : i + suc m ≡ suc i + m = omega arith in
+    rw (a, b, words-split ws (suc i) m n)
+
+-- they are that part of the words, where it lies within them
+pub words-part : (ws : List ℕ) (i n : ℕ) → i + n ≤ length ws → take n (drop i ws) ≡ wordsFrom ws i n
+unfolding wordsFrom
+words-part ws i zero h = refl
+words-part ws i (suc n) h = let l : i < length ws = omega arith in rw (drop-cons ws i 0 l, words-part ws (suc i) n (omega arith))
+
+-- words that are all 0
+pub words-zero : (ws : List ℕ) (i n : ℕ) → all isZero (wordsFrom ws i n) ≡ zerosAt ws i n
+unfolding wordsFrom zerosAt
+words-zero ws i zero = refl
+words-zero ws i (suc n) = rw (words-zero ws (suc i) n)
+
+pub zeros-split : (ws : List ℕ) (i m n : ℕ) → zerosAt ws i (m + n) ≡ (zerosAt ws i m && zerosAt ws (i + m) n)
+zeros-split ws i m n = sym (words-zero ws i (m + n)) ∙ rw (words-split ws i m n, all-append isZero (wordsFrom ws i m) (wordsFrom ws (i + m) n), words-zero ws i m, words-zero ws (i + m) n)
+
+-- the list of level i lies within the words, and the level lists no more places than it may
+pub record Listed (g : Geometry) (ws : List ℕ) (i : ℕ) : Type 0 where
+  pub inside : listStart g i + capacityOf g i ≤ length ws
+  pub fits : countAt ws i ≤ capacityOf g i
+
+module _ (g : Geometry) (ws : List ℕ) (i : ℕ) (l : Listed g ws i) where
+  list-parts : listAt g ws i ≡ wordsFrom ws (listStart g i) (countAt ws i) ++ wordsFrom ws (listStart g i + countAt ws i) (capacityOf g i - countAt ws i)
+  unfolding listAt
+  list-parts =
+      let e : capacityOf g i ≡ countAt ws i + (capacityOf g i - countAt ws i) = omega arith in
+      words-part ws (listStart g i) (capacityOf g i) (l .inside) ∙ ap (wordsFrom ws (listStart g i)) e ∙ words-split ws (listStart g i) (countAt ws i) (capacityOf g i - countAt ws i)
+
+  -- the places that level i lists
+  pub listed-words : listedAt g ws i ≡ wordsFrom ws (listStart g i) (countAt ws i)
+  unfolding listedAt
+  listed-words = rw list-parts (take-at (wordsFrom ws (listStart g i) (countAt ws i)) _ (countAt ws i) (words-length ws (listStart g i) (countAt ws i)))
+
+  -- the unused entries of its list
+  pub unlisted-words : drop (countAt ws i) (listAt g ws i) ≡ wordsFrom ws (listStart g i + countAt ws i) (capacityOf g i - countAt ws i)
+  unlisted-words = rw list-parts (drop-at (wordsFrom ws (listStart g i) (countAt ws i)) _ (countAt ws i) (words-length ws (listStart g i) (countAt ws i)))
