@@ -2,3 +2,5 @@ pub mod Tests
 pub mod Parts
 pub mod Places
 pub mod Unused
+pub mod Sizes
+pub mod Top

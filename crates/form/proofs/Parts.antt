@@ -1,7 +1,7 @@
 -- Words in a row as a list, and the place lists of the levels as such.
 use Prim.Native.Nat.{ℕ, zero, suc, _+_, _-_, _≤_, _<_}
 use mathlib.Core.Path.{_≡_, sym, ap, _∙_, refl}
-use mathlib.Core.Bool.{Bool, true, false, _&&_}
+use mathlib.Core.Bool.{Bool, true, false, _&&_, and-eq-true-iff}
 use mathlib.Core.List.{List, [], _∷_, _++_}
 use native.Mathlib.Omega.{arith}
 use lib.ListN.{length, take, drop, getD}
@@ -10,9 +10,9 @@ use Rattle.geometry.specs.declared.Geometry.{Geometry}
 use Rattle.geometry.specs.Geometry.{capacityOf, listStart}
 use Rattle.levels.specs.Basics.{all}
 use Rattle.words.specs.Layout.{word, countAt, listAt, listedAt}
-use Rattle.words.specs.Form.{isZero}
+use Rattle.words.specs.Form.{isZero, listedPlaces}
 use Rattle.chunks.specs.Chunks.{zerosAt}
-use Rattle.form.proofs.Tests.{all-append}
+use Rattle.form.proofs.Tests.{all-append, range}
 
 -- n words from word i on
 unfoldable pub wordsFrom : List ℕ → ℕ → ℕ → List ℕ
@@ -67,3 +67,19 @@ module _ (g : Geometry) (ws : List ℕ) (i : ℕ) (l : Listed g ws i) where
   -- the unused entries of its list
   pub unlisted-words : drop (countAt ws i) (listAt g ws i) ≡ wordsFrom ws (listStart g i + countAt ws i) (capacityOf g i - countAt ws i)
   unlisted-words = rw list-parts (drop-at (wordsFrom ws (listStart g i) (countAt ws i)) _ (countAt ws i) (words-length ws (listStart g i) (countAt ws i)))
+
+-- a test of n words, of one of them
+pub words-at : (t : ℕ → Bool) (ws : List ℕ) (i n : ℕ) → all t (wordsFrom ws i n) ≡ true → (j : ℕ) → j < n → t (word ws (i + j)) ≡ true
+unfolding wordsFrom
+words-at t ws i zero e j h = absurd (omega arith)
+words-at t ws i (suc n) e zero h = let k = simp and-eq-true-iff at e in let q : i + 0 ≡ i = omega arith in rw q (k .0)
+words-at t ws i (suc n) e (suc j) h =
+    let k = simp and-eq-true-iff at e in
+    let q : i + suc j ≡ suc i + j = omega arith in
+    rw q (words-at t ws (suc i) n (k .1) j (omega arith))
+
+-- a test of every listed place, level by level
+pub listed-each : (t : ℕ → Bool) (g : Geometry) (ws : List ℕ) (i n : ℕ) → all t (listedPlaces g ws i n) ≡ all (λ (j : ℕ). all t (listedAt g ws j)) (range i n)
+unfolding listedPlaces
+listed-each t g ws i zero = refl
+listed-each t g ws i (suc n) = rw (all-append t (listedAt g ws i) (listedPlaces g ws (suc i) n), listed-each t g ws (suc i) n)
