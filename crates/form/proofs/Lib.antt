@@ -4,3 +4,4 @@ pub mod Places
 pub mod Unused
 pub mod Sizes
 pub mod Top
+pub mod Blocks
