@@ -11,7 +11,7 @@ use lib.Dec.{leb, ltb, eqb}
 use lib.ListN.{length, take, drop, length-map}
 use Rattle.geometry.specs.declared.Geometry.{Geometry}
 use Rattle.geometry.specs.Geometry.{within, listStart, placesStart, placeStart, blockWidth}
-use Rattle.levels.specs.Basics.{all}
+use Rattle.levels.specs.Basics.{all, ceilDiv}
 use Rattle.levels.specs.Record.{Rec, Block, Level, size, records, rising, hasTombstone, cleanTombstones}
 use Rattle.levels.specs.Waste.{pairRule, wasteful, needsCompact}
 use Rattle.words.specs.Layout.{word, slotsAt, countAt, listedAt, recordCount, markWordAt, blockSlots, blockAt, levelAt}
@@ -21,9 +21,9 @@ use Rattle.chunks.specs.Chunks.{zerosAt, chunkRecs}
 use Rattle.chunks.proofs.Slots.{slots-length}
 use Rattle.directory.specs.declared.Directory.{Directory}
 use Rattle.directory.specs.Directory.{blockOf, chunkAt, recordsFrom, recordsOf, keptOf, leanLevel, tidyChunk, tidyFrom, levelFormed}
-use Rattle.directory.proofs.Laws.{formed-is, kept-count}
+use Rattle.directory.proofs.Laws.{formed-is, kept-count, pass-start, pass-end-listed}
 use Rattle.form.specs.Form.{levelOf}
-use Rattle.form.proofs.Tests.{test-same, all-append}
+use Rattle.form.proofs.Tests.{test-same, and-left, and-right, all-append}
 use Rattle.form.proofs.Parts.{wordsFrom, words-length, Listed, listed-words}
 use Rattle.form.proofs.Unused.{slots-take, unused-is, unmarked-is}
 
@@ -208,3 +208,66 @@ module _ (g : Geometry) (ws : List ℕ) where
         let k = simp and-eq-true-iff at e in
         let q : suc (listStart g i + j) ≡ listStart g i + suc j = omega arith in
         rw q (simp and-eq-true-iff (chunk-filled j before (k .0 .0), tidy-filled (suc j) n (chunkAt ws (levelOf g ws i) j .count) (k .1)))
+
+    module _ (l : Listed g ws i) where
+      level-blocks : levelAt g ws i ≡ map (blockAt g ws) (wordsFrom ws (listStart g i) (countAt ws i))
+      unfolding levelAt
+      level-blocks = ap (map (blockAt g ws)) (listed-words g ws i l)
+
+      level-length : length (levelAt g ws i) ≡ countAt ws i
+      level-length = rw level-blocks (length-map (wordsFrom ws (listStart g i) (countAt ws i)) (blockAt g ws) ∙ words-length ws (listStart g i) (countAt ws i))
+
+      list-first : listStart g i + 0 ≡ listStart g i
+      list-first = omega arith
+
+      filled-words : filledAt g ws i ≡ true → all (blockFilled g ws) (wordsFrom ws (listStart g i + 0) (countAt ws i)) ≡ true
+      filled-words e = rw (list-first, ← listed-words g ws i l) e
+
+      listed-recs : filledAt g ws i ≡ true → recordsFrom ws (levelOf g ws i) 0 (countAt ws i) ≡ records (levelAt g ws i)
+      listed-recs e = rw (level-blocks, ← list-first) (level-from 0 (countAt ws i) (filled-words e))
+
+      -- the records of level i
+      pub level-recs : filledAt g ws i ≡ true → recordsOf ws (levelOf g ws i) ≡ records (levelAt g ws i)
+      unfolding levelOf
+      level-recs e = listed-recs e
+
+      level-tidy : filledAt g ws i ≡ true → tidyFrom ws (levelOf g ws i) 0 (countAt ws i) (g .b) ≡ (pairsAt g ws i && (unmarkedAt g ws i && (unusedAt g ws i && cleanAt g ws i)))
+      level-tidy e =
+          rw (level-blocks, listed-words g ws i l, ← list-first)
+          (blocks-tidy 0 (countAt ws i) (g .b) (filled-words e)
+          ∙ rw (pairs-start (wordsFrom ws (listStart g i + 0) (countAt ws i)) (filled-words e)))
+
+      level-lean : leanLevel (levelOf g ws i) (length (records (levelAt g ws i))) ≡ leanAt g ws i
+      unfolding levelOf
+      level-lean = rw level-length
+
+      -- the pass starts as the directory has it
+      level-pass : levelFormed ws (levelOf g ws i) ≡ (tidyFrom ws (levelOf g ws i) 0 (countAt ws i) (g .b) && (rising 0 (recordsOf ws (levelOf g ws i)) && leanLevel (levelOf g ws i) (length (recordsOf ws (levelOf g ws i)))))
+      unfolding levelOf
+      level-pass = formed-is ws (levelOf g ws i)
+
+      -- the code's pass over a level is document 01's clauses for it
+      pub level-is : levelFormed ws (levelOf g ws i) ≡ levelKept g ws i
+      level-is =
+          let rest : Bool = (pairsAt g ws i && (unmarkedAt g ws i && (unusedAt g ws i && cleanAt g ws i))) && (risingAt g ws i && leanAt g ws i) in
+          let same : filledAt g ws i ≡ true → levelFormed ws (levelOf g ws i) ≡ rest = λ f. level-pass ∙ rw (level-tidy f, level-recs f, level-lean) in
+          test-same (levelFormed ws (levelOf g ws i)) (levelKept g ws i)
+          (λ e.
+            let k = simp and-eq-true-iff at (sym level-pass ∙ e) in
+            let f : filledAt g ws i ≡ true = rw (listed-words g ws i l, ← list-first) (tidy-filled 0 (countAt ws i) (g .b) (k .0)) in
+            rw f (sym (same f) ∙ e))
+          (λ e. let f = and-left (filledAt g ws i) rest e in same f ∙ and-right (filledAt g ws i) rest e)
+
+-- a level that lists no block
+pub none-recs : (g : Geometry) (ws : List ℕ) (i : ℕ) → countAt ws i ≡ 0 → recordsOf ws (levelOf g ws i) ≡ []
+unfolding recordsFrom levelOf
+none-recs g ws i e = rw e
+
+none-lean : (b n : ℕ) → n ≡ 0 → not (wasteful b n 0) ≡ true
+none-lean b n e = rw (e, le-ltb (ceilDiv 0 b) 0 (omega arith))
+
+pub none-formed : (g : Geometry) (ws : List ℕ) (i : ℕ) → countAt ws i ≡ 0 → levelFormed ws (levelOf g ws i) ≡ true
+unfolding levelFormed levelOf
+none-formed g ws i e =
+    let d = levelOf g ws i in
+    sym (pass-start ws d (countAt ws i)) ∙ pass-end-listed ws d (countAt ws i) 0 0 (g .b) 0 (omega arith) refl ∙ none-lean (g .b) (countAt ws i) e

@@ -5,3 +5,4 @@ pub mod Unused
 pub mod Sizes
 pub mod Top
 pub mod Blocks
+pub mod Check

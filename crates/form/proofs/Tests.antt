@@ -1,7 +1,7 @@
 -- Laws of tests: of two that hold together, of `all`, and of a test of every number of a range.
 use Prim.Native.Nat.{ℕ, zero, suc, _+_, _≤_, _<_}
 use mathlib.Core.Path.{_≡_, sym, ap, _∙_, refl}
-use mathlib.Core.Bool.{Bool, true, false, _&&_, and-assoc, and-eq-true-iff}
+use mathlib.Core.Bool.{Bool, true, false, _&&_, and-assoc, and-true, and-eq-true-iff}
 use mathlib.Core.List.{List, [], _∷_, _++_, map}
 use mathlib.Core.Logic.{dite}
 use native.Mathlib.Decide.{decLt}
@@ -14,6 +14,14 @@ pub test-same : (a b : Bool) → (a ≡ true → b ≡ true) → (b ≡ true →
 test-same true b f k = sym (f refl)
 test-same false true f k = k refl
 test-same false false f k = refl
+
+pub and-left : (a b : Bool) → (a && b) ≡ true → a ≡ true
+and-left true b e = refl
+and-left false b e = e
+
+pub and-right : (a b : Bool) → (a && b) ≡ true → b ≡ true
+and-right true b e = e
+and-right false b e = cc
 
 -- two tests and two tests, taken the other way round
 pub and-swap : (a b c d : Bool) → (a && b && (c && d)) ≡ (a && c && (b && d))
@@ -59,3 +67,15 @@ all-at t i (suc n) e j a b =
     dite (decLt i j)
     (λ y. all-at t (suc i) n (k .1) j y (omega arith))
     (λ m. let q : j ≡ i = omega arith in rw q (k .0))
+
+pub all-true : (t : ℕ → Bool) (i n : ℕ) → ((j : ℕ) → i ≤ j → j < i + n → t j ≡ true) → all t (range i n) ≡ true
+all-true t i zero f = refl
+all-true t i (suc n) f = rw (f i (omega arith) (omega arith), all-true t (suc i) n (λ j a b. f j (omega arith) (omega arith)))
+
+-- tests of level 1, 2 and 3 are tests of every level, where those above h hold
+pub all-three : (t : ℕ → Bool) (h : ℕ) → 1 ≤ h → h ≤ 3 → ((i : ℕ) → 1 ≤ i → i ≤ 3 → h < i → t i ≡ true) → (t 1 && (t 2 && t 3)) ≡ all t (range 1 h)
+all-three t zero a b f = absurd (omega arith)
+all-three t (suc zero) a b f = rw (f 2 (omega arith) (omega arith) (omega arith), f 3 (omega arith) (omega arith) (omega arith))
+all-three t (suc (suc zero)) a b f = rw (f 3 (omega arith) (omega arith) (omega arith))
+all-three t (suc (suc (suc zero))) a b f = rw (and-true (t 3))
+all-three t (suc (suc (suc (suc h)))) a b f = absurd (omega arith)
