@@ -23,7 +23,7 @@ use Rattle.form.specs.Form.{topOf, levelOf, headerOk, listsOk, spareOk, 
 use Rattle.form.proofs.Tests.{test-same, range, range-split, all-append, all-and, all-same, all-at, all-true, all-three}
 use Rattle.form.proofs.Parts.{listed-each}
 use Rattle.form.proofs.Places.{lists-rules}
-use Rattle.form.proofs.Sizes.{count-none, lists-in, within-top, within-level}
+use Rattle.form.proofs.Sizes.{header-tests, count-none, lists-in, within-top, within-level}
 use Rattle.form.proofs.Top.{pageUnused, top-recs, top-unused, top-formed}
 use Rattle.form.proofs.Blocks.{blockFilled, blockUnused, filledAt, pairsAt, unmarkedAt, unusedAt, cleanAt, risingAt, leanAt, levelKept, level-recs, level-is, none-recs, none-formed}
 
@@ -111,3 +111,91 @@ module _ (g : Geometry) (ws : List ℕ) (z : Headed g ws) where
   pub live-is : blocksFilled g ws ≡ true → eqb (liveAt ws) (length (unmarked (layered ws (topOf g ws) (levelOf g ws 1) (levelOf g ws 2) (levelOf g ws 3)))) ≡ liveExact g ws
   unfolding liveExact liveCount mapOf
   live-is f = ap (λ (rs : List Rec). eqb (liveAt ws) (length (unmarked rs))) (layered-is f)
+
+-- what the code finds, and what the clauses say, each test by its name
+record Found (g : Geometry) (ws : List ℕ) : Type 0 where
+  headed : Headed g ws
+  lists : listsOk g ws ≡ true
+  spare : spareOk g ws ≡ true
+  top : levelFormed ws (topOf g ws) ≡ true
+  levels : all (levelKept g ws) (range 1 (g .h)) ≡ true
+  live : liveExact g ws ≡ true
+
+passed-found : (g : Geometry) (ws : List ℕ) → Sized g ws → passed g ws ≡ true → Found g ws
+unfolding passed
+passed-found g ws s e =
+    let k = simp and-eq-true-iff at e in
+    let z : Headed g ws = record { sized = s; header = k .0 } in
+    let l = k .1 .1 .1 .1 in
+    let levels : all (levelKept g ws) (range 1 (g .h)) ≡ true = sym (levels-is g ws z) ∙ simp and-eq-true-iff (l .0, (l .1 .0, l .1 .1 .0)) in
+    let filled = simp and-eq-true-iff at (sym (kept-each g ws z) ∙ levels) in
+    record { headed = z; lists = k .1 .0; spare = k .1 .1 .0; top = k .1 .1 .1 .0; levels = levels; live = sym (live-is g ws z (filled .0)) ∙ l .1 .1 .1 }
+
+found-passed : (g : Geometry) (ws : List ℕ) → Found g ws → passed g ws ≡ true
+unfolding passed
+found-passed g ws f =
+    let z = f .headed in
+    let l = simp and-eq-true-iff at (levels-is g ws z ∙ f .levels) in
+    let filled = simp and-eq-true-iff at (sym (kept-each g ws z) ∙ f .levels) in
+    simp and-eq-true-iff (z .header, (f .lists, (f .spare, (f .top, (l .0, (l .1 .0, (l .1 .1, live-is g ws z (filled .0) ∙ f .live)))))))
+
+found-formed : (g : Geometry) (ws : List ℕ) → Found g ws → formed g ws ≡ true
+unfolding formed clauses
+found-formed g ws f =
+    let z = f .headed in
+    let h = header-tests g ws z in
+    let l = simp and-eq-true-iff at (sym (lists-rules g ws (z .sized .valid .places-high) (lists-in g ws z)) ∙ f .lists) in
+    let t = simp and-eq-true-iff at (sym (top-formed g ws z) ∙ f .top) in
+    let k = simp and-eq-true-iff at (sym (kept-each g ws z) ∙ f .levels) in
+    let rises : keysRise g ws ≡ true = rises-each g ws ∙ simp and-eq-true-iff (t .1, k .1 .1 .0) in
+    let clean : tombstonesClean g ws ≡ true = clean-each g ws ∙ simp and-eq-true-iff (t .0 .1, k .1 .0 .1 .1 .1) in
+    let unused : topUnusedZero g ws ≡ true = top-unused g ws z ∙ simp and-eq-true-iff (t .0 .0, f .spare) in
+    simp and-eq-true-iff (
+      f .live, (h .0, (h .1 .0, (h .1 .1 .0, (h .1 .1 .1,
+      (l .0 .0, (l .0 .1, (k .0, (rises, (k .1 .0 .1 .0,
+      (unused, (l .1, (k .1 .0 .1 .1 .0, (clean, (k .1 .0 .0, (k .1 .1 .1, refl)))))))))))))))
+    )
+
+formed-found : (g : Geometry) (ws : List ℕ) → Sized g ws → formed g ws ≡ true → Found g ws
+unfolding formed clauses headerOk
+formed-found g ws s e =
+    let c = simp and-eq-true-iff at e in
+    let z : Headed g ws = record { sized = s; header = simp and-eq-true-iff (c .1 .0, (c .1 .1 .0, (c .1 .1 .1 .0, c .1 .1 .1 .1 .0))) } in
+    let d = c .1 .1 .1 .1 .1 in
+    let inside = d .0 in
+    let once = d .1 .0 in
+    let filled = d .1 .1 .0 in
+    let rises = simp and-eq-true-iff at (sym (rises-each g ws) ∙ d .1 .1 .1 .0) in
+    let unmarked = d .1 .1 .1 .1 .0 in
+    let f = d .1 .1 .1 .1 .1 in
+    let unused = simp and-eq-true-iff at (sym (top-unused g ws z) ∙ f .0) in
+    let clean = simp and-eq-true-iff at (sym (clean-each g ws) ∙ f .1 .1 .1 .0) in
+    let pairs = f .1 .1 .1 .1 .0 in
+    let lean = f .1 .1 .1 .1 .1 .0 in
+    record {
+      headed = z;
+      lists = lists-rules g ws (s .valid .places-high) (lists-in g ws z) ∙ simp and-eq-true-iff ((inside, once), f .1 .0);
+      spare = unused .1;
+      top = top-formed g ws z ∙ simp and-eq-true-iff ((unused .0, clean .0), rises .0);
+      levels = kept-each g ws z ∙ simp and-eq-true-iff (filled, ((pairs, (unmarked, (f .1 .1 .0, clean .1))), (rises .1, lean)));
+      live = c .0;
+    }
+
+-- the code's check is document 01's form check
+pub formed-is : (g : Geometry) (ws : List ℕ) → Sized g ws → passed g ws ≡ formed g ws
+formed-is g ws s = test-same (passed g ws) (formed g ws) (λ e. found-formed g ws (passed-found g ws s e)) (λ e. found-passed g ws (formed-found g ws s e))
+
+-- a store that passes has four levels that the walk and the search can read
+pub passed-formed : (g : Geometry) (ws : List ℕ) → Sized g ws → passed g ws ≡ true
+    → Formed (topOf g ws) ws × (Formed (levelOf g ws 1) ws × (Formed (levelOf g ws 2) ws × Formed (levelOf g ws 3) ws))
+passed-formed g ws s e =
+    let f = passed-found g ws s e in
+    let z = f .headed in
+    let l = simp and-eq-true-iff at (levels-is g ws z ∙ f .levels) in
+    (
+      formed-all ws (topOf g ws) (within-top g ws z) (f .top),
+      (
+        formed-all ws (levelOf g ws 1) (within-level g ws z (f .lists) 1 (omega arith) (omega arith)) (l .0),
+        (formed-all ws (levelOf g ws 2) (within-level g ws z (f .lists) 2 (omega arith) (omega arith)) (l .1 .0), formed-all ws (levelOf g ws 3) (within-level g ws z (f .lists) 3 (omega arith) (omega arith)) (l .1 .1)),
+      ),
+    )

@@ -53,7 +53,7 @@ unfolding storeLength placeStart
 places-in g ws s = rw (s .words) (omega arith)
 
 module _ (g : Geometry) (ws : List ℕ) (z : Headed g ws) where
-  header-tests : (liveFits g ws ≡ true) × ((cursorInside g ws ≡ true) × ((topFits g ws ≡ true) × (countsFit g ws ≡ true)))
+  pub header-tests : (liveFits g ws ≡ true) × ((cursorInside g ws ≡ true) × ((topFits g ws ≡ true) × (countsFit g ws ≡ true)))
   unfolding headerOk
   header-tests = simp and-eq-true-iff at (z .header)
 
