@@ -1,5 +1,5 @@
 use Rattle.form.specs.Form.{headerOk}
-use Rattle.form.proofs.Within.{header-is}
+use Rattle.form.proofs.Steps.{header-is}
 use borrow.Author.Needs.{needs}
 use Rattle.form.proofs.header_ok.Statement.{statement}
 use Rattle.form.proofs.header_ok.Tie as tie

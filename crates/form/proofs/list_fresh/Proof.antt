@@ -3,7 +3,7 @@ use Prim.Native.Nat.{ℕ, _≤_, _<_, _+_, _-_}
 use mathlib.Core.Path.{_≡_, sym, _∙_}
 use mathlib.Core.Bool.{false≢true}
 use Rattle.form.specs.Form.{freshOf, markOf}
-use Rattle.form.proofs.Within.{fresh-high, fresh-used, fresh-next, mark-next, fresh-start, mark-start, fresh-end, mark-end}
+use Rattle.form.proofs.Steps.{fresh-high, fresh-used, fresh-next, mark-next, fresh-start, mark-start, fresh-end, mark-end}
 use borrow.Author.Needs.{needs}
 use Rattle.form.proofs.list_fresh.Statement.{statement}
 use Rattle.form.proofs.list_fresh.Tie as tie

@@ -3,7 +3,7 @@ use Prim.Native.Nat.{ℕ, _≤_, _<_, _+_, _-_}
 use mathlib.Core.Path.{_≡_, sym, _∙_}
 use borrow.Author.Tests.{not-true, not-false}
 use Rattle.form.specs.Form.{listsOk, listsFrom}
-use Rattle.form.proofs.Within.{list-room, lists-unfresh, lists-unzero, lists-next, lists-start, lists-end}
+use Rattle.form.proofs.Steps.{list-room, lists-unfresh, lists-unzero, lists-next, lists-start, lists-end}
 use borrow.Author.Needs.{needs}
 use Rattle.form.proofs.lists_ok.Statement.{statement}
 use Rattle.form.proofs.lists_ok.Tie as tie

@@ -6,7 +6,7 @@ use borrow.Author.Needs.{needs}
 use Rattle.directory.specs.Directory.{levelFormed}
 use Rattle.directory.proofs.Laws.{formed-all}
 use Rattle.form.specs.Form.{Headed, headerOk, listsOk, spareOk, topOf, levelOf, passed}
-use Rattle.form.proofs.Within.{within-top, within-level}
+use Rattle.form.proofs.Sizes.{within-top, within-level}
 use Rattle.form.proofs.passes.Statement.{statement}
 use Rattle.form.proofs.passes.Tie as tie
 use Rattle.form.proofs.passes.Reads as reads
