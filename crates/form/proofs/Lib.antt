@@ -5,6 +5,6 @@ pub mod Unused
 pub mod Sizes
 pub mod Top
 pub mod Blocks
-pub mod Check
+pub mod Clauses
 pub mod Steps
 pub mod Ready

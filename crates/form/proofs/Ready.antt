@@ -20,14 +20,14 @@ use Rattle.directory.specs.Directory.{Formed}
 use Rattle.walk.specs.Walk.{layered}
 use Rattle.form.specs.declared.Checked.{Checked}
 use Rattle.form.specs.declared.Checked.the-variants.{Ready, Refused}
-use Rattle.form.specs.Checked.{checkedOf}
+use Rattle.form.specs.Checked.{pickChecked, checkedOf}
 use Rattle.form.specs.Form.{Headed, headerOk, listsOk, topOf, levelOf, passed}
-use Rattle.form.proofs.Check.{formed-is, passed-formed, layered-is}
+use Rattle.form.proofs.Clauses.{formed-is, passed-formed, layered-is}
 
 -- The answers of `check`, by what the code has found out.
 pub checked-opened : (ws : List ℕ) (n : ℕ) → openedOf ws ≡ opened.Refused n → Refused n ≡ checkedOf ws
 unfolding checkedOf
-checked-opened ws n e = let k = opened-refused ws n e in rw (refused-reason ws n e, ne-eqb n 0 (λ z. omega arith))
+checked-opened ws n e = let k = opened-refused ws n e in rw (refused-reason ws n e, ne-eqb n 0 (λ z. omega arith), pickChecked, refused-reason ws n e)
 
 pub checked-passed : (ws : List ℕ) (g : Geometry) → openedOf ws ≡ opened.Ready g → passed g ws ≡ true → Ready g ≡ checkedOf ws
 unfolding checkedOf
