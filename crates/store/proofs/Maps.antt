@@ -1,7 +1,7 @@
 -- Laws of the map of rows of records, without words: what the uppermost record decides, and which keys there are.
 use Prim.Native.Nat.{ℕ, suc, _≤_, _<_}
 use mathlib.Core.Path.{_≡_, refl, sym, _∙_}
-use mathlib.Core.Bool.{Bool, true, false, _&&_, and-eq-true-iff}
+use mathlib.Core.Bool.{Bool, true, false, and-eq-true-iff, true≢false}
 use mathlib.Core.List.{List, [], _∷_, _++_}
 use mathlib.Core.Option.{Option, none, some}
 use native.Mathlib.Decide.{ℕ-discrete}
@@ -41,12 +41,12 @@ into-rises : (low : ℕ) (x : Rec) (f : List Rec → List Rec) (ys : List Rec) �
     → ((zs : List Rec) → Rising (suc (x .key)) zs → Rising (suc (x .key)) (f zs)) → Rising low (into x f ys)
 unfolding into
 into-rises low x f [] l h r = (l, r [] tt)
-into-rises low x f (y ∷ ys) l h r = go (way (y .key) (x .key))
+into-rises low x f (y ∷ ys) l h r = go (way (y .key) (x .key)) (λ q. into-rises (suc (y .key)) x f ys q (h .1) r)
   where
-    go : Way (y .key) (x .key) → Rising low (into x f (y ∷ ys))
-    go (less q) = rw (into-below x f y ys q) (h .0, into-rises (suc (y .key)) x f ys (omega arith) (h .1) r)
-    go (same q) = rw (into-same x f y ys q) (l, r ys (rw q at (h .1)))
-    go (more q) = rw (into-above x f y ys q) (l, r (y ∷ ys) (omega arith, h .1))
+    go : Way (y .key) (x .key) → (suc (y .key) ≤ x .key → Rising (suc (y .key)) (into x f ys)) → Rising low (into x f (y ∷ ys))
+    go (less q) ih = rw (into-below x f y ys q) (h .0, ih (omega arith))
+    go (same q) ih = rw (into-same x f y ys q) (l, r ys (rw q at (h .1)))
+    go (more q) ih = rw (into-above x f y ys q) (l, r (y ∷ ys) (omega arith, h .1))
 
 overlay-rises : (low : ℕ) (xs ys : List Rec) → Rising low xs → Rising low ys → Rising low (overlay xs ys)
 unfolding overlay
@@ -73,17 +73,24 @@ unmarked-rises low (r ∷ rs) h = go (r .tombstone) (unmarked-rises (suc (r .key
     go true u = weaken low (suc (r .key)) (unmarked rs) (omega (arith, h .0)) u
     go false u = (h .0, u)
 
+present-live : (r : Rec) → r .tombstone ≡ false → present (some r) ≡ some r
+present-live r e = go (r .tombstone) e
+  where
+    go : (t : Bool) → t ≡ false → (if t then none else some r) ≡ some r
+    go true h = absurd (true≢false h)
+    go false h = refl
+
 -- "a mark or no record is absent": the map has what the view has and is no tombstone
 pub unmarked-find : (k low : ℕ) (rs : List Rec) → Rising low rs → find k (unmarked rs) ≡ present (find k rs)
 unfolding unmarked find
 unmarked-find k low [] h = refl
-unmarked-find k low (r ∷ rs) h = go (r .tombstone) refl (ℕ-discrete (r .key) k)
+unmarked-find k low (r ∷ rs) h = go (r .tombstone) refl (ℕ-discrete (r .key) k) (unmarked-find k (suc (r .key)) rs (h .1))
   where
-    go : (t : Bool) → r .tombstone ≡ t → Dec (r .key ≡ k) → find k (elim t [ true ↦ unmarked rs | false ↦ r ∷ unmarked rs ]) ≡ present (find k (r ∷ rs))
-    go true e (yes q) = rw (find-here k r rs q, e) (find-below k (suc (r .key)) (unmarked rs) (unmarked-rises (suc (r .key)) rs (h .1)) (omega arith))
-    go true e (no n) = rw (find-past k r rs n) (unmarked-find k (suc (r .key)) rs (h .1))
-    go false e (yes q) = rw (find-here k r rs q, e, find-here k r (unmarked rs) q)
-    go false e (no n) = rw (find-past k r rs n, find-past k r (unmarked rs) n) (unmarked-find k (suc (r .key)) rs (h .1))
+    go : (t : Bool) → r .tombstone ≡ t → Dec (r .key ≡ k) → find k (unmarked rs) ≡ present (find k rs) → find k (elim t [ true ↦ unmarked rs | false ↦ r ∷ unmarked rs ]) ≡ present (find k (r ∷ rs))
+    go true e (yes q) ih = rw (find-here k r rs q, e) (find-below k (suc (r .key)) (unmarked rs) (unmarked-rises (suc (r .key)) rs (h .1)) (omega arith))
+    go true e (no n) ih = rw (find-past k r rs n) ih
+    go false e (yes q) ih = rw (find-here k r rs q, find-here k r (unmarked rs) q, present-live r e)
+    go false e (no n) ih = rw (find-past k r rs n, find-past k r (unmarked rs) n) ih
 
 -- Look up finds k in the map.
 pub map-find : (k : ℕ) (ls : List (List Rec)) → RowsRise ls → lookUp k ls ≡ find k (mapOf ls)
@@ -102,12 +109,12 @@ small-append (x ∷ xs) ys p q = (p .0, small-append xs ys (p .1) q)
 small-into : (x : Rec) (f : List Rec → List Rec) (ys : List Rec) → x .key < 4294967296 → ((zs : List Rec) → Small zs → Small (f zs)) → Small ys → Small (into x f ys)
 unfolding into
 small-into x f [] p g q = (p, g [] tt)
-small-into x f (y ∷ ys) p g q = go (way (y .key) (x .key))
+small-into x f (y ∷ ys) p g q = go (way (y .key) (x .key)) (small-into x f ys p g (q .1))
   where
-    go : Way (y .key) (x .key) → Small (into x f (y ∷ ys))
-    go (less e) = rw (into-below x f y ys e) (q .0, small-into x f ys p g (q .1))
-    go (same e) = rw (into-same x f y ys e) (p, g ys (q .1))
-    go (more e) = rw (into-above x f y ys e) (p, g (y ∷ ys) q)
+    go : Way (y .key) (x .key) → Small (into x f ys) → Small (into x f (y ∷ ys))
+    go (less e) ih = rw (into-below x f y ys e) (q .0, ih)
+    go (same e) ih = rw (into-same x f y ys e) (p, g ys (q .1))
+    go (more e) ih = rw (into-above x f y ys e) (p, g (y ∷ ys) q)
 
 pub small-overlay : (xs ys : List Rec) → Small xs → Small ys → Small (overlay xs ys)
 unfolding overlay
@@ -141,8 +148,8 @@ module _ (ws : List ℕ) (f : (i : ℕ) → word ws i < 4294967296) where
 pub first-small : (q : ℕ) (rs : List Rec) (k v : ℕ) → Small rs → At k v ≡ followingOf (firstFrom q rs) → k < 4294967296
 unfolding firstFrom
 first-small q [] k v h e = absurd (let z : _≡_ {A = ℕ} 0 1 = cc in omega arith)
-first-small q (r ∷ rs) k v h e = go (leb q (r .key)) e
+first-small q (r ∷ rs) k v h e = go (leb q (r .key)) e (λ g. first-small q rs k v (h .1) g)
   where
-    go : (t : Bool) → At k v ≡ followingOf (elim t [ true ↦ some r | false ↦ firstFrom q rs ]) → k < 4294967296
-    go true g = let w : k ≡ r .key = cc in rw w (h .0)
-    go false g = first-small q rs k v (h .1) g
+    go : (t : Bool) → At k v ≡ followingOf (elim t [ true ↦ some r | false ↦ firstFrom q rs ]) → (At k v ≡ followingOf (firstFrom q rs) → k < 4294967296) → k < 4294967296
+    go true g ih = let w : k ≡ r .key = cc in rw w (h .0)
+    go false g ih = ih g

@@ -1,3 +1,6 @@
+use native.Mathlib.Omega.{arith}
+use Rattle.form.proofs.Ready.{ready-sized, ready-levels}
+use Rattle.store.proofs.Answering.{found-levels}
 use borrow.Author.Needs.{needs}
 use Rattle.store.proofs.find_key.Statement.{statement}
 use Rattle.store.proofs.find_key.Tie as tie
@@ -7,77 +10,59 @@ use Rattle.form.proofs.level_of.Reads as level-of-reads
 use Rattle.form.proofs.top_of.Reads as top-of-reads
 use Rattle.search.proofs.find_in.Reads as find-in-reads
 
--- src/lib.rt:129:9
 top-of-requires : tie.Need-top-of-requires
-top-of-requires c κs = ?
+top-of-requires c κs = ready-sized _ _ (c .before .pre)
 
--- src/lib.rt:130:31
 find-in-requires : tie.Need-find-in-requires
-find-in-requires c κs = ?
+find-in-requires c κs = rw (c .top-of .ensures) (ready-levels _ _ (c .before .before .pre) .0)
 
--- src/lib.rt:130:21
 enum-known-m0 : tie.Need-enum-known-m0
 enum-known-m0 c = search needs
 
--- src/lib.rt:131:13
 enum-told : tie.Need-enum-told
 enum-told c = search needs
 
--- src/lib.rt:131:13
 level-of-requires : tie.Need-level-of-requires
-level-of-requires c κs = ?
+level-of-requires c κs = (ready-sized _ _ (c .before .before .before .before .before .pre), (omega arith, omega arith))
 
--- src/lib.rt:132:35
 find-in-requires-2 : tie.Need-find-in-requires-2
-find-in-requires-2 c κs = ?
+find-in-requires-2 c κs = rw (c .level-of .ensures) (ready-levels _ _ (c .before .before .before .before .before .before .pre) .1 .0)
 
--- src/lib.rt:132:25
 enum-known-m1 : tie.Need-enum-known-m1
 enum-known-m1 c = search needs
 
--- src/lib.rt:133:17
 enum-told-2 : tie.Need-enum-told-2
 enum-told-2 c = search needs
 
--- src/lib.rt:133:17
 level-of-requires-2 : tie.Need-level-of-requires-2
-level-of-requires-2 c κs = ?
+level-of-requires-2 c κs = (ready-sized _ _ (c .before .before .before .before .before .before .before .before .before .pre), (omega arith, omega arith))
 
--- src/lib.rt:134:39
 find-in-requires-3 : tie.Need-find-in-requires-3
-find-in-requires-3 c κs = ?
+find-in-requires-3 c κs = rw (c .level-of2 .ensures) (ready-levels _ _ (c .before .before .before .before .before .before .before .before .before .before .pre) .1 .1 .0)
 
--- src/lib.rt:134:29
 enum-known-m2 : tie.Need-enum-known-m2
 enum-known-m2 c = search needs
 
--- src/lib.rt:135:21
 enum-told-3 : tie.Need-enum-told-3
 enum-told-3 c = search needs
 
--- src/lib.rt:135:21
 level-of-requires-3 : tie.Need-level-of-requires-3
-level-of-requires-3 c κs = ?
+level-of-requires-3 c κs = (ready-sized _ _ (c .before .before .before .before .before .before .before .before .before .before .before .before .before .pre), (omega arith, omega arith))
 
--- src/lib.rt:136:17
 find-in-requires-4 : tie.Need-find-in-requires-4
-find-in-requires-4 c κs = ?
+find-in-requires-4 c κs = rw (c .level-of3 .ensures) (ready-levels _ _ (c .before .before .before .before .before .before .before .before .before .before .before .before .before .before .pre) .1 .1 .1)
 
--- src/lib.rt:136:17
 returns : tie.Need-returns
-returns c = ?
+returns c = rw (found-levels (c .before .before .before .before .before .before .before .before .before .before .before .before .before .before .before .args .s .now) (c .before .before .before .before .before .before .before .before .before .before .before .before .before .before .before .args .g) (c .before .before .before .before .before .before .before .before .before .before .before .before .before .before .before .pre) (c .before .before .before .before .before .before .before .before .before .before .before .before .before .before .before .args .k), ← c .before .before .before .before .before .before .before .before .before .before .before .before .before .top-of .ensures, ← c .before .before .before .before .before .before .before .before .before .before .before .before .find-in .ensures, c .before .before .before .before .before .before .before .before .before .before .enum-told .given .1, ← c .before .before .before .before .before .before .before .before .before .level-of .ensures, ← c .before .before .before .before .before .before .before .before .find-in2 .ensures, c .before .before .before .before .before .before .enum-told2 .given .1, ← c .before .before .before .before .before .level-of2 .ensures, ← c .before .before .before .before .find-in3 .ensures, c .before .before .enum-told3 .given .1, ← c .before .level-of3 .ensures) (c .find-in4 .ensures)
 
--- src/lib.rt:138:13
 returns-2 : tie.Need-returns-2
-returns-2 c = ?
+returns-2 c = rw (found-levels (c .before .before .before .before .before .before .before .before .before .before .before .before .before .before .args .s .now) (c .before .before .before .before .before .before .before .before .before .before .before .before .before .before .args .g) (c .before .before .before .before .before .before .before .before .before .before .before .before .before .before .pre) (c .before .before .before .before .before .before .before .before .before .before .before .before .before .before .args .k), ← c .before .before .before .before .before .before .before .before .before .before .before .before .top-of .ensures, ← c .before .before .before .before .before .before .before .before .before .before .before .find-in .ensures, c .before .before .before .before .before .before .before .before .before .enum-told .given .1, ← c .before .before .before .before .before .before .before .before .level-of .ensures, ← c .before .before .before .before .before .before .before .find-in2 .ensures, c .before .before .before .before .before .enum-told2 .given .1, ← c .before .before .before .before .level-of2 .ensures, ← c .before .before .before .find-in3 .ensures, c .before .m2 .given .1)
 
--- src/lib.rt:140:9
 returns-3 : tie.Need-returns-3
-returns-3 c = ?
+returns-3 c = rw (found-levels (c .before .before .before .before .before .before .before .before .before .before .args .s .now) (c .before .before .before .before .before .before .before .before .before .before .args .g) (c .before .before .before .before .before .before .before .before .before .before .pre) (c .before .before .before .before .before .before .before .before .before .before .args .k), ← c .before .before .before .before .before .before .before .before .top-of .ensures, ← c .before .before .before .before .before .before .before .find-in .ensures, c .before .before .before .before .before .enum-told .given .1, ← c .before .before .before .before .level-of .ensures, ← c .before .before .before .find-in2 .ensures, c .before .m1 .given .1)
 
--- src/lib.rt:125:1
 returns-4 : tie.Need-returns-4
-returns-4 c = ?
+returns-4 c = rw (found-levels (c .before .before .before .before .before .before .args .s .now) (c .before .before .before .before .before .before .args .g) (c .before .before .before .before .before .before .pre) (c .before .before .before .before .before .before .args .k), ← c .before .before .before .before .top-of .ensures, ← c .before .before .before .find-in .ensures, c .before .m0 .given .1)
 
 pub find-key-spec : {M : Type 1} → statement M
 find-key-spec =

@@ -1,45 +1,40 @@
+use mathlib.Core.Path.{sym, _∙_}
+use Rattle.store.proofs.Answering.{look-refused, look-ready}
 use borrow.Author.Needs.{needs}
 use Rattle.store.proofs.look_up.Statement.{statement}
 use Rattle.store.proofs.look_up.Tie as tie
 use Rattle.store.proofs.look_up.Reads as reads
 use Rattle.store.proofs.look_up.Lts as lts
+use Rattle.form.proofs.check.Reads as check-reads
 use Rattle.store.proofs.find_key.Reads as find-key-reads
-use Rattle.store.proofs.form_check.Reads as form-check-reads
 use Rattle.store.proofs.look_answer.Reads as look-answer-reads
 
--- src/lib.rt:118:11
-form-check-requires : tie.Need-form-check-requires
-form-check-requires c κs = search needs
+check-requires : tie.Need-check-requires
+check-requires c κs = search needs
 
--- src/lib.rt:119:26
 enum-known-n : tie.Need-enum-known-n
 enum-known-n c = search needs
 
--- src/lib.rt:120:24
 enum-known-g : tie.Need-enum-known-g
 enum-known-g c = search needs
 
--- src/lib.rt:120:42
 find-key-requires : tie.Need-find-key-requires
-find-key-requires c κs = ?
+find-key-requires c κs = sym (c .before .before .before .check .ensures) ∙ c .before .g .given .1
 
--- src/lib.rt:120:30
 look-answer-requires : tie.Need-look-answer-requires
 look-answer-requires c κs = search needs
 
--- src/lib.rt:115:1
 returns : tie.Need-returns
-returns c = ?
+returns c = look-refused _ _ (sym (c .before .before .before .check .ensures) ∙ c .before .n .given .1) _
 
--- src/lib.rt:115:1
 returns-2 : tie.Need-returns-2
-returns-2 c = ?
+returns-2 c = rw (c .look-answer .ensures) (look-ready _ _ (sym (c .before .before .before .before .before .check .ensures) ∙ c .before .before .before .g .given .1) _ _ (c .before .find-key .ensures))
 
 pub look-up-spec : {M : Type 1} → statement M
 look-up-spec =
     tie.close
     (tie.spec
-    form-check-requires
+    check-requires
     enum-known-n
     enum-known-g
     find-key-requires
