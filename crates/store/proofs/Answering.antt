@@ -220,13 +220,13 @@ module _ (ws : List ℕ) (g : Geometry) (e : checkedOf ws ≡ Ready g) where
         sym (show-inside g ws i k a b ∙ ap (partOf g ws) (enclosing-is k ∙ ap (listedBlock g ws (listStart g i)) r))
 
     module _ (k : ℕ) (d : Directory) (q : d ≡ levelOf g ws i) (j : ℕ) (h : enclosed.At j ≡ enclosedOf ws d k) where
-      found : enclosedOf ws (levelOf g ws i) k ≡ enclosed.At j
-      found = sym (rw q at h)
+      hit : enclosedOf ws (levelOf g ws i) k ≡ enclosed.At j
+      hit = sym (rw q at h)
 
       -- the entry that names the block is in the list, and names a place
       pub shown-listed : (d .list ≡ listStart g i) × (j < countAt ws i)
       unfolding levelOf enclosedOf
-      shown-listed = (rw q, enclosed-inside ws (levelOf g ws i) k 0 (countAt ws i) j found)
+      shown-listed = (rw q, omega (arith, enclosed-inside ws (levelOf g ws i) k 0 (countAt ws i) j hit))
 
       pub shown-in : d .list + j < length ws
       shown-in =
@@ -244,4 +244,4 @@ module _ (ws : List ℕ) (g : Geometry) (e : checkedOf ws ≡ Ready g) where
       unfolding blockAt
       show-at =
           rw (shown-listed .0)
-          (sym (show-inside g ws i k a b ∙ ap (partOf g ws) (enclosing-is k ∙ ap (listedBlock g ws (listStart g i)) found)))
+          (sym (show-inside g ws i k a b ∙ ap (partOf g ws) (enclosing-is k ∙ ap (listedBlock g ws (listStart g i)) hit)))

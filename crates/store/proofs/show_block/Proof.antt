@@ -90,7 +90,7 @@ add-end c =
 mul-result : tie.Need-mul-result
 mul-result c =
     let h = shown-end _ _ (c .before .before .before .before .before .before .before .before .before .before .before .before .pre) _ (c .before .before .before .before .before .before .before .before .before .if1 .left) (omega (arith, c .before .before .before .before .before .before .before .before .before .before .levels .ensures, c .before .before .before .before .before .before .before .before .if2 .left)) _ _ (c .before .before .before .before .before .before .before .level-of .ensures) _ (sym (c .before .before .before .before .i .given .1) ∙ c .before .before .before .before .before .before .enclosing .ensures) in
-    rw (c .before .place-start .ensures, c .block-width .ensures, c .before .before .word .ensures .0) (omega (arith, ready-sized _ _ (c .before .before .before .before .before .before .before .before .before .before .before .before .pre) .short))
+    rw (c .before .place-start .ensures, c .before .before .word .ensures .0) (omega (arith, ready-sized _ _ (c .before .before .before .before .before .before .before .before .before .before .before .before .pre) .short))
 
 sub-result-4 : tie.Need-sub-result-4
 sub-result-4 c = search needs
