@@ -142,7 +142,7 @@ next-fits ws f a b c d q k v h =
     first-small q (unmarked (layered ws a b c d)) k v
     (small-unmarked (layered ws a b c d) (small-overlay _ _ r0 (small-overlay _ _ r1 (small-overlay _ _ r2 r3)))) h
 
--- Show: levels that there are not.
+-- Show: levels that there are not, and those that there are.
 pub show-low : (g : Geometry) (ws : List ℕ) (i k : ℕ) → i < 1 → [] ≡ showIn g ws i k
 unfolding showIn
 show-low g ws i k h = rw (lt-leb 1 i h, showIn)
@@ -151,7 +151,7 @@ pub show-high : (g : Geometry) (ws : List ℕ) (i k : ℕ) → 1 ≤ i → g .h 
 unfolding showIn
 show-high g ws i k a b = rw (le-leb 1 i a, lt-leb i (g .h) b, showIn)
 
-show-inside : (g : Geometry) (ws : List ℕ) (i k : ℕ) → 1 ≤ i → i ≤ g .h → showIn g ws i k ≡ partOf g ws (enclosing k (levelAt g ws i))
+pub show-inside : (g : Geometry) (ws : List ℕ) (i k : ℕ) → 1 ≤ i → i ≤ g .h → showIn g ws i k ≡ partOf g ws (enclosing k (levelAt g ws i))
 unfolding showIn
 show-inside g ws i k a b = rw (le-leb 1 i a, le-leb i (g .h) b, showIn)
 
