@@ -1,5 +1,5 @@
 -- Levels on flash: the chunks that the code goes over are the listed blocks, and its pass over a level is document 01's clauses for that level.
-use Prim.Native.Nat.{ℕ, zero, suc, _+_, _-_, _*_, _/_, _^_, _≤_, _<_}
+use Prim.Native.Nat.{ℕ, zero, suc, _+_, _-_, _/_, _^_, _≤_}
 use mathlib.Core.Path.{_≡_, sym, ap, _∙_, refl}
 use mathlib.Core.Bool.{Bool, true, false, not, _&&_, _||_, and-eq-true-iff, Bool·not-not}
 use mathlib.Core.Logic.{dite}
@@ -8,9 +8,9 @@ use native.Mathlib.Decide.{decLt}
 use native.Mathlib.Omega.{arith}
 use borrow.Author.Tests.{leb-true, le-leb, lt-leb, lt-ltb, le-ltb}
 use lib.Dec.{leb, ltb, eqb}
-use lib.ListN.{length, take, drop, length-map}
+use lib.ListN.{length, drop, length-map}
 use Rattle.geometry.specs.declared.Geometry.{Geometry}
-use Rattle.geometry.specs.Geometry.{within, listStart, placesStart, placeStart, blockWidth}
+use Rattle.geometry.specs.Geometry.{within, listStart, placeStart, blockWidth}
 use Rattle.levels.specs.Basics.{all, ceilDiv}
 use Rattle.levels.specs.Record.{Rec, Block, Level, size, records, rising, hasTombstone, cleanTombstones}
 use Rattle.levels.specs.Waste.{pairRule, wasteful, needsCompact}
@@ -19,7 +19,6 @@ use Rattle.words.specs.Form.{blank}
 use Rattle.chunks.specs.declared.Chunk.{Chunk}
 use Rattle.chunks.specs.Chunks.{zerosAt, chunkRecs}
 use Rattle.chunks.proofs.Slots.{slots-length}
-use Rattle.directory.specs.declared.Directory.{Directory}
 use Rattle.directory.specs.Directory.{blockOf, chunkAt, recordsFrom, recordsOf, keptOf, leanLevel, tidyChunk, tidyFrom, levelFormed}
 use Rattle.directory.proofs.Laws.{formed-is, kept-count, pass-start, pass-end-listed}
 use Rattle.form.specs.Form.{levelOf}
@@ -253,9 +252,9 @@ module _ (g : Geometry) (ws : List ℕ) where
           let same : filledAt g ws i ≡ true → levelFormed ws (levelOf g ws i) ≡ rest = λ f. level-pass ∙ rw (level-tidy f, level-recs f, level-lean) in
           test-same (levelFormed ws (levelOf g ws i)) (levelKept g ws i)
           (λ e.
-            let k = simp and-eq-true-iff at (sym level-pass ∙ e) in
-            let f : filledAt g ws i ≡ true = rw (listed-words g ws i l, ← list-first) (tidy-filled 0 (countAt ws i) (g .b) (k .0)) in
-            rw f (sym (same f) ∙ e))
+          let k = simp and-eq-true-iff at (sym level-pass ∙ e) in
+          let f : filledAt g ws i ≡ true = rw (listed-words g ws i l, ← list-first) (tidy-filled 0 (countAt ws i) (g .b) (k .0)) in
+          rw f (sym (same f) ∙ e))
           (λ e. let f = and-left (filledAt g ws i) rest e in same f ∙ and-right (filledAt g ws i) rest e)
 
 -- a level that lists no block

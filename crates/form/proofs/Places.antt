@@ -1,6 +1,6 @@
 -- The place lists: the code's marks say that listed places are below P, and none twice over all levels.
 use Prim.Native.Nat.{ℕ, zero, suc, _+_, _-_, _≤_, _<_}
-use mathlib.Core.Path.{_≡_, sym, ap, _∙_, refl}
+use mathlib.Core.Path.{_≡_, sym, _∙_, refl}
 use mathlib.Core.Bool.{Bool, true, false, not, _&&_, _||_}
 use mathlib.Core.List.{List, [], _∷_, _++_}
 use native.Mathlib.Decide.{ℕ-discrete}
@@ -13,7 +13,7 @@ use Rattle.geometry.specs.declared.Geometry.{Geometry}
 use Rattle.geometry.specs.Geometry.{capacityOf, listStart}
 use Rattle.levels.specs.Basics.{all, member}
 use Rattle.levels.specs.Place.{distinct}
-use Rattle.words.specs.Layout.{word, countAt, listAt, listedAt}
+use Rattle.words.specs.Layout.{word, countAt, listAt}
 use Rattle.words.specs.Form.{isZero, listedPlaces, allListed, placesInside, placesOnce, listsUnusedZero}
 use Rattle.chunks.specs.Chunks.{zerosAt}
 use Rattle.form.specs.Form.{freshOf, markOf, listsFrom, listsOk}

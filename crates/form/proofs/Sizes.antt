@@ -1,28 +1,27 @@
 -- What the size words and the place lists say: the words that the levels name are there.
-use Prim.Native.Nat.{ℕ, zero, suc, _+_, _-_, _*_, _/_, _≤_, _<_}
-use mathlib.Core.Path.{_≡_, sym, ap, _∙_, refl}
-use mathlib.Core.Bool.{Bool, true, false, _&&_, and-eq-true-iff, true≢false}
+use Prim.Native.Nat.{ℕ, _+_, _-_, _*_, _/_, _≤_, _<_}
+use mathlib.Core.Path.{_≡_, sym, ap, _∙_}
+use mathlib.Core.Bool.{Bool, true, false, and-eq-true-iff, true≢false}
 use mathlib.Core.Logic.{dite}
-use mathlib.Core.List.{List, [], _∷_, _++_}
+use mathlib.Core.List.{List}
 use native.Mathlib.Decide.{decLt}
-use native.Mathlib.Nat.{add-mul, div-lt-iff-lt-mul, div-mul-le-self, lt-div-mul-add, mul-le-mul-right}
+use native.Mathlib.Nat.{add-mul, div-lt-iff-lt-mul, div-mul-le-self, lt-div-mul-add}
 use native.Mathlib.Omega.{arith}
 use borrow.Author.Tests.{leb-true, ltb-true, le-leb, lt-leb}
-use lib.Dec.{leb, ltb, eqb}
+use lib.Dec.{leb, ltb}
 use lib.ListN.{length}
 use Rattle.geometry.specs.declared.Geometry.{Geometry}
-use Rattle.geometry.specs.Geometry.{Ranged, capacityOf, topCapacityOf, marksStart, keysStart, paysStart, listStart, blockWidth, placesStart, placeStart, storeLength}
+use Rattle.geometry.specs.Geometry.{capacityOf, topCapacityOf, listStart, blockWidth, placesStart, placeStart, storeLength}
 use Rattle.geometry.proofs.Laws.{level-high, marks-end, keys-end, pays-end, list-inside, place-inside}
 use Rattle.geometry.proofs.Bounds.{capacity-zero-high}
 use Rattle.levels.specs.Basics.{if_then_else_, all, ceilDiv}
 use Rattle.words.specs.Layout.{word, topCountAt, countAt, listedAt}
-use Rattle.words.specs.Form.{liveFits, cursorInside, topFits, countsFit, allListed, placesInside}
+use Rattle.words.specs.Form.{liveFits, cursorInside, topFits, countsFit, placesInside}
 use Rattle.entry.specs.Entry.{Sized}
-use Rattle.directory.specs.declared.Directory.{Directory}
-use Rattle.directory.specs.Directory.{Within, startOf}
+use Rattle.directory.specs.Directory.{Within}
 use Rattle.form.specs.Form.{topOf, levelOf, headerOk, listsOk, Headed}
-use Rattle.form.proofs.Tests.{range, all-at}
-use Rattle.form.proofs.Parts.{wordsFrom, Listed, listed-words, words-at, listed-each}
+use Rattle.form.proofs.Tests.{all-at}
+use Rattle.form.proofs.Parts.{Listed, listed-words, words-at, listed-each}
 use Rattle.form.proofs.Places.{lists-rules}
 
 -- c records in pages of b: n pages, of k
