@@ -23,8 +23,7 @@ use Rattle.walk.specs.Walk.{four, layered}
 use Rattle.form.specs.Form.{topOf, levelOf, headerOk, listsOk, spareOk, passed, Headed}
 use Rattle.form.proofs.Tests.{test-same, range, range-split, all-append, all-and, all-same, all-at, all-true, all-three}
 use Rattle.form.proofs.Parts.{listed-each}
-use Rattle.form.proofs.Places.{lists-rules}
-use Rattle.form.proofs.Sizes.{header-tests, count-none, lists-in, within-top, within-level}
+use Rattle.form.proofs.Sizes.{header-tests, count-none, lists-in, lists-is, within-top, within-level}
 use Rattle.form.proofs.Top.{top-recs, top-unused, top-formed}
 use Rattle.form.proofs.Blocks.{blockFilled, blockUnused, filledAt, pairsAt, unmarkedAt, unusedAt, cleanAt, risingAt, leanAt, levelKept, level-recs, level-is, none-recs, none-formed}
 
@@ -180,7 +179,7 @@ unfolding formed clauses
 found-formed g ws f =
     let z = f .headed in
     let h = header-tests g ws z in
-    let l = simp and-eq-true-iff at (sym (lists-rules g ws (z .sized .valid .places-high) (lists-in g ws z)) ∙ f .lists) in
+    let l = simp and-eq-true-iff at (sym (lists-is g ws z) ∙ f .lists) in
     let t = simp and-eq-true-iff at (sym (top-formed g ws z) ∙ f .top) in
     let k = simp and-eq-true-iff at (sym (kept-each g ws z) ∙ f .levels) in
     let rises : keysRise g ws ≡ true = rises-each g ws ∙ simp and-eq-true-iff (t .1, k .1 .1 .0) in
@@ -236,7 +235,7 @@ formed-found g ws s e =
     let lean = f .1 .1 .1 .1 .1 .0 in
     record {
       headed = z;
-      lists = lists-rules g ws (s .valid .places-high) (lists-in g ws z) ∙ simp and-eq-true-iff ((inside, once), f .1 .0);
+      lists = lists-is g ws z ∙ simp and-eq-true-iff ((inside, once), f .1 .0);
       spare = unused .1;
       top = top-formed g ws z ∙ simp and-eq-true-iff ((unused .0, clean .0), rises .0);
       levels = kept-each g ws z ∙ simp and-eq-true-iff (filled, ((pairs, (unmarked, (f .1 .1 .0, clean .1))), (rises .1, lean)));
