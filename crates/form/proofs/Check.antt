@@ -33,6 +33,10 @@ pub filled-each : (g : Geometry) (ws : List ℕ) → blocksFilled g ws ≡ all (
 unfolding blocksFilled blockFilled
 filled-each g ws = listed-each (λ (p : ℕ). within 1 (g .b) (recordCount g ws p)) g ws 1 (g .h)
 
+-- of one level
+pub filled-level : (g : Geometry) (ws : List ℕ) → blocksFilled g ws ≡ true → (i : ℕ) → 1 ≤ i → i ≤ g .h → filledAt g ws i ≡ true
+filled-level g ws f i a b = all-at (filledAt g ws) 1 (g .h) (sym (filled-each g ws) ∙ f) i a (omega arith)
+
 pub unused-each : (g : Geometry) (ws : List ℕ) → blocksUnusedZero g ws ≡ all (unusedAt g ws) (range 1 (g .h))
 unfolding blocksUnusedZero
 unused-each g ws = listed-each (blockUnused g ws) g ws 1 (g .h)
@@ -122,15 +126,15 @@ module _ (g : Geometry) (ws : List ℕ) (z : Headed g ws) where
   rows-four f = rw (top-recs g ws z, go (g .h) refl (z .sized .valid .ranged .h-low) (z .sized .valid .ranged .h-high))
     where
       row : (i : ℕ) → 1 ≤ i → i ≤ g .h → recordsOf ws (levelOf g ws i) ≡ records (levelAt g ws i)
-      row i a b = level-recs g ws i (lists-in g ws z i a b) (all-at (filledAt g ws) 1 (g .h) (sym (filled-each g ws) ∙ f) i a (omega arith))
+      row i a b = level-recs g ws i (lists-in g ws z i a b) (filled-level g ws f i a b)
 
-      none : (i : ℕ) → 1 ≤ i → i ≤ 3 → g .h < i → recordsOf ws (levelOf g ws i) ≡ []
-      none i a b c = none-recs g ws i (count-none g ws z i a b c)
+      empty : (i : ℕ) → 1 ≤ i → i ≤ 3 → g .h < i → recordsOf ws (levelOf g ws i) ≡ []
+      empty i a b c = none-recs g ws i (count-none g ws z i a b c)
 
       go : (h : ℕ) → g .h ≡ h → 1 ≤ h → h ≤ 3 → map records (each (levelAt g ws) 1 h) ++ replicate (3 - h) [] ≡ recordsOf ws (levelOf g ws 1) ∷ recordsOf ws (levelOf g ws 2) ∷ recordsOf ws (levelOf g ws 3) ∷ []
       go zero e a b = absurd (omega arith)
-      go (suc zero) e a b = rw (row 1 (omega arith) (omega arith), none 2 (omega arith) (omega arith) (omega arith), none 3 (omega arith) (omega arith) (omega arith))
-      go (suc (suc zero)) e a b = rw (row 1 (omega arith) (omega arith), row 2 (omega arith) (omega arith), none 3 (omega arith) (omega arith) (omega arith))
+      go (suc zero) e a b = rw (row 1 (omega arith) (omega arith), empty 2 (omega arith) (omega arith) (omega arith), empty 3 (omega arith) (omega arith) (omega arith))
+      go (suc (suc zero)) e a b = rw (row 1 (omega arith) (omega arith), row 2 (omega arith) (omega arith), empty 3 (omega arith) (omega arith) (omega arith))
       go (suc (suc (suc zero))) e a b = rw (row 1 (omega arith) (omega arith), row 2 (omega arith) (omega arith), row 3 (omega arith) (omega arith))
       go (suc (suc (suc (suc h)))) e a b = absurd (omega arith)
 
@@ -162,7 +166,7 @@ passed-found g ws s e =
     let k = simp and-eq-true-iff at e in
     let z : Headed g ws = record { sized = s; header = k .0 } in
     let l = k .1 .1 .1 .1 in
-    let levels : all (levelKept g ws) (range 1 (g .h)) ≡ true = sym (levels-is g ws z) ∙ simp and-eq-true-iff (l .0, (l .1 .0, l .1 .1 .0)) in
+    let levels : all (levelKept g ws) (range 1 (g .h)) ≡ true = sym (levels-is g ws z) ∙ rw (l .0, l .1 .0, l .1 .1 .0) in
     let filled = simp and-eq-true-iff at (sym (kept-each g ws z) ∙ levels) in
     record { headed = z; lists = k .1 .0; spare = k .1 .1 .0; top = k .1 .1 .1 .0; levels = levels; live = sym (live-is g ws z (filled .0)) ∙ l .1 .1 .1 }
 
@@ -172,7 +176,7 @@ found-passed g ws f =
     let z = f .headed in
     let l = simp and-eq-true-iff at (levels-is g ws z ∙ f .levels) in
     let filled = simp and-eq-true-iff at (sym (kept-each g ws z) ∙ f .levels) in
-    simp and-eq-true-iff (z .header, (f .lists, (f .spare, (f .top, (l .0, (l .1 .0, (l .1 .1, live-is g ws z (filled .0) ∙ f .live)))))))
+    rw (z .header, f .lists, f .spare, f .top, l .0, l .1 .0, l .1 .1) (live-is g ws z (filled .0) ∙ f .live)
 
 found-formed : (g : Geometry) (ws : List ℕ) → Found g ws → formed g ws ≡ true
 unfolding formed clauses
@@ -182,46 +186,16 @@ found-formed g ws f =
     let l = simp and-eq-true-iff at (sym (lists-is g ws z) ∙ f .lists) in
     let t = simp and-eq-true-iff at (sym (top-formed g ws z) ∙ f .top) in
     let k = simp and-eq-true-iff at (sym (kept-each g ws z) ∙ f .levels) in
-    let rises : keysRise g ws ≡ true = rises-each g ws ∙ simp and-eq-true-iff (t .1, k .1 .1 .0) in
-    let clean : tombstonesClean g ws ≡ true = clean-each g ws ∙ simp and-eq-true-iff (t .0 .1, k .1 .0 .1 .1 .1) in
-    let unused : topUnusedZero g ws ≡ true = top-unused g ws z ∙ simp and-eq-true-iff (t .0 .0, f .spare) in
-    simp and-eq-true-iff (
-      f .live,
-      (
-        h .0,
-        (
-          h .1 .0,
-          (
-            h .1 .1 .0,
-            (
-              h .1 .1 .1,
-              (
-                l .0 .0,
-                (
-                  l .0 .1,
-                  (
-                    k .0,
-                    (
-                      rises,
-                      (
-                        k .1 .0 .1 .0,
-                        (unused, (l .1, (k .1 .0 .1 .1 .0, (clean, (k .1 .0 .0, (k .1 .1 .1, refl)))))),
-                      ),
-                    ),
-                  ),
-                ),
-              ),
-            ),
-          ),
-        ),
-      ),
-    )
+    let rises : keysRise g ws ≡ true = rises-each g ws ∙ rw (t .1, k .1 .1 .0) in
+    let clean : tombstonesClean g ws ≡ true = clean-each g ws ∙ rw (t .0 .1, k .1 .0 .1 .1 .1) in
+    let unused : topUnusedZero g ws ≡ true = top-unused g ws z ∙ rw (t .0 .0, f .spare) in
+    rw (f .live, h .0, h .1 .0, h .1 .1 .0, h .1 .1 .1, l .0 .0, l .0 .1, k .0, rises, k .1 .0 .1 .0, unused, l .1, k .1 .0 .1 .1 .0, clean, k .1 .0 .0, k .1 .1 .1)
 
 formed-found : (g : Geometry) (ws : List ℕ) → Sized g ws → formed g ws ≡ true → Found g ws
 unfolding formed clauses headerOk
 formed-found g ws s e =
     let c = simp and-eq-true-iff at e in
-    let z : Headed g ws = record { sized = s; header = simp and-eq-true-iff (c .1 .0, (c .1 .1 .0, (c .1 .1 .1 .0, c .1 .1 .1 .1 .0))) } in
+    let z : Headed g ws = record { sized = s; header = rw (c .1 .0, c .1 .1 .0, c .1 .1 .1 .0, c .1 .1 .1 .1 .0) } in
     let d = c .1 .1 .1 .1 .1 in
     let inside = d .0 in
     let once = d .1 .0 in
@@ -235,10 +209,10 @@ formed-found g ws s e =
     let lean = f .1 .1 .1 .1 .1 .0 in
     record {
       headed = z;
-      lists = lists-is g ws z ∙ simp and-eq-true-iff ((inside, once), f .1 .0);
+      lists = lists-is g ws z ∙ rw (inside, once, f .1 .0);
       spare = unused .1;
-      top = top-formed g ws z ∙ simp and-eq-true-iff ((unused .0, clean .0), rises .0);
-      levels = kept-each g ws z ∙ simp and-eq-true-iff (filled, ((pairs, (unmarked, (f .1 .1 .0, clean .1))), (rises .1, lean)));
+      top = top-formed g ws z ∙ rw (unused .0, clean .0, rises .0);
+      levels = kept-each g ws z ∙ rw (filled, pairs, unmarked, f .1 .1 .0, clean .1, rises .1, lean);
       live = c .0;
     }
 
