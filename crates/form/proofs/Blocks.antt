@@ -1,5 +1,5 @@
 -- Levels on flash: the chunks that the code goes over are the listed blocks, and its pass over a level is document 01's clauses for that level.
-use Prim.Native.Nat.{ℕ, zero, suc, _+_, _-_, _*_, _/_, _^_, _≤_, _<_}
+use Prim.Native.Nat.{ℕ, zero, suc, _+_, _-_, _/_, _^_, _≤_, _<_}
 use mathlib.Core.Path.{_≡_, sym, ap, _∙_, refl}
 use mathlib.Core.Bool.{Bool, true, false, not, _&&_, _||_, and-eq-true-iff, Bool·not-not}
 use mathlib.Core.Logic.{dite}
@@ -8,9 +8,9 @@ use native.Mathlib.Decide.{decLt}
 use native.Mathlib.Omega.{arith}
 use borrow.Author.Tests.{leb-true, le-leb, lt-leb, lt-ltb, le-ltb}
 use lib.Dec.{leb, ltb, eqb}
-use lib.ListN.{length, take, drop, length-map}
+use lib.ListN.{length, drop, length-map}
 use Rattle.geometry.specs.declared.Geometry.{Geometry}
-use Rattle.geometry.specs.Geometry.{within, listStart, placesStart, placeStart, blockWidth}
+use Rattle.geometry.specs.Geometry.{within, listStart, placeStart, blockWidth}
 use Rattle.levels.specs.Basics.{all, ceilDiv}
 use Rattle.levels.specs.Record.{Rec, Block, Level, size, records, rising, hasTombstone, cleanTombstones}
 use Rattle.levels.specs.Waste.{pairRule, wasteful, needsCompact}
@@ -19,12 +19,11 @@ use Rattle.words.specs.Form.{blank}
 use Rattle.chunks.specs.declared.Chunk.{Chunk}
 use Rattle.chunks.specs.Chunks.{zerosAt, chunkRecs}
 use Rattle.chunks.proofs.Slots.{slots-length}
-use Rattle.directory.specs.declared.Directory.{Directory}
 use Rattle.directory.specs.Directory.{blockOf, chunkAt, recordsFrom, recordsOf, keptOf, leanLevel, tidyChunk, tidyFrom, levelFormed}
 use Rattle.directory.proofs.Laws.{formed-is, kept-count, pass-start, pass-end-listed}
 use Rattle.form.specs.Form.{levelOf}
 use Rattle.form.proofs.Tests.{test-same, and-left, and-right, all-append}
-use Rattle.form.proofs.Parts.{wordsFrom, words-length, Listed, listed-words}
+use Rattle.form.proofs.Parts.{wordsFrom, words-length, words-at, Listed, listed-words}
 use Rattle.form.proofs.Unused.{slots-take, unused-is, unmarked-is}
 
 -- the block at place p, as the code reads it
@@ -210,7 +209,8 @@ module _ (g : Geometry) (ws : List ℕ) where
         rw q (simp and-eq-true-iff (chunk-filled j before (k .0 .0), tidy-filled (suc j) n (chunkAt ws (levelOf g ws i) j .count) (k .1)))
 
     module _ (l : Listed g ws i) where
-      level-blocks : levelAt g ws i ≡ map (blockAt g ws) (wordsFrom ws (listStart g i) (countAt ws i))
+      -- the blocks of level i
+      pub level-blocks : levelAt g ws i ≡ map (blockAt g ws) (wordsFrom ws (listStart g i) (countAt ws i))
       unfolding levelAt
       level-blocks = ap (map (blockAt g ws)) (listed-words g ws i l)
 
@@ -230,6 +230,13 @@ module _ (g : Geometry) (ws : List ℕ) where
       pub level-recs : filledAt g ws i ≡ true → recordsOf ws (levelOf g ws i) ≡ records (levelAt g ws i)
       unfolding levelOf
       level-recs e = listed-recs e
+
+      -- the records of listed chunk j are those of the block at the j-th listed place
+      pub chunk-recs : filledAt g ws i ≡ true → (j : ℕ) → j < countAt ws i → chunkRecs ws (chunkAt ws (levelOf g ws i) j) ≡ (blockAt g ws (word ws (listStart g i + j))) .recs
+      chunk-recs e j h =
+          let p = word ws (listStart g i + j) in
+          let f = words-at (blockFilled g ws) ws (listStart g i) (countAt ws i) (rw (listed-words g ws i l) at e) j h in
+          rw (level-chunk j) (sym (block-recs p (filled-facts p f .1)))
 
       level-tidy : filledAt g ws i ≡ true → tidyFrom ws (levelOf g ws i) 0 (countAt ws i) (g .b) ≡ (pairsAt g ws i && (unmarkedAt g ws i && (unusedAt g ws i && cleanAt g ws i)))
       level-tidy e =
@@ -253,9 +260,9 @@ module _ (g : Geometry) (ws : List ℕ) where
           let same : filledAt g ws i ≡ true → levelFormed ws (levelOf g ws i) ≡ rest = λ f. level-pass ∙ rw (level-tidy f, level-recs f, level-lean) in
           test-same (levelFormed ws (levelOf g ws i)) (levelKept g ws i)
           (λ e.
-            let k = simp and-eq-true-iff at (sym level-pass ∙ e) in
-            let f : filledAt g ws i ≡ true = rw (listed-words g ws i l, ← list-first) (tidy-filled 0 (countAt ws i) (g .b) (k .0)) in
-            rw f (sym (same f) ∙ e))
+          let k = simp and-eq-true-iff at (sym level-pass ∙ e) in
+          let f : filledAt g ws i ≡ true = rw (listed-words g ws i l, ← list-first) (tidy-filled 0 (countAt ws i) (g .b) (k .0)) in
+          rw f (sym (same f) ∙ e))
           (λ e. let f = and-left (filledAt g ws i) rest e in same f ∙ and-right (filledAt g ws i) rest e)
 
 -- a level that lists no block

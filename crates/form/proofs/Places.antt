@@ -1,6 +1,6 @@
 -- The place lists: the code's marks say that listed places are below P, and none twice over all levels.
 use Prim.Native.Nat.{ℕ, zero, suc, _+_, _-_, _≤_, _<_}
-use mathlib.Core.Path.{_≡_, sym, ap, _∙_, refl}
+use mathlib.Core.Path.{_≡_, sym, _∙_, refl}
 use mathlib.Core.Bool.{Bool, true, false, not, _&&_, _||_}
 use mathlib.Core.List.{List, [], _∷_, _++_}
 use native.Mathlib.Decide.{ℕ-discrete}
@@ -13,7 +13,7 @@ use Rattle.geometry.specs.declared.Geometry.{Geometry}
 use Rattle.geometry.specs.Geometry.{capacityOf, listStart}
 use Rattle.levels.specs.Basics.{all, member}
 use Rattle.levels.specs.Place.{distinct}
-use Rattle.words.specs.Layout.{word, countAt, listAt, listedAt}
+use Rattle.words.specs.Layout.{word, countAt, listAt}
 use Rattle.words.specs.Form.{isZero, listedPlaces, allListed, placesInside, placesOnce, listsUnusedZero}
 use Rattle.chunks.specs.Chunks.{zerosAt}
 use Rattle.form.specs.Form.{freshOf, markOf, listsFrom, listsOk}
@@ -104,18 +104,18 @@ fresh-none n (q ∷ qs) = rw (none n q, fresh-none n qs)
 abbrev pub unlistedZero : Geometry → List ℕ → ℕ → Bool
 unlistedZero g ws i = all isZero (drop (countAt ws i) (listAt g ws i))
 
-lists-is : (g : Geometry) (ws : List ℕ) (i n : ℕ) (used : List Bool) → ((j : ℕ) → i ≤ j → j < i + n → Listed g ws j)
+lists-fresh : (g : Geometry) (ws : List ℕ) (i n : ℕ) (used : List Bool) → ((j : ℕ) → i ≤ j → j < i + n → Listed g ws j)
     → listsFrom g ws i n used ≡ (freshIn (g .p) used (listedPlaces g ws i n) && all (unlistedZero g ws) (range i n))
 unfolding listsFrom listedPlaces freshIn
-lists-is g ws i zero used f = refl
-lists-is g ws i (suc n) used f =
+lists-fresh g ws i zero used f = refl
+lists-fresh g ws i (suc n) used f =
     let l = f i (omega arith) (omega arith) in
     let c = countAt ws i in
     let ps = wordsFrom ws (listStart g i) c in
     rw (
       fresh-list ws (g .p) (listStart g i) c used,
       mark-list ws (listStart g i) c used,
-      lists-is g ws (suc i) n (markIn used ps) (λ j a b. f j (omega arith) (omega arith)),
+      lists-fresh g ws (suc i) n (markIn used ps) (λ j a b. f j (omega arith) (omega arith)),
       listed-words g ws i l,
       unlisted-words g ws i l,
       words-zero ws (listStart g i + c) (capacityOf g i - c),
@@ -133,5 +133,5 @@ lists-is g ws i (suc n) used f =
 pub lists-rules : (g : Geometry) (ws : List ℕ) → g .p ≤ 8192 → ((i : ℕ) → 1 ≤ i → i ≤ g .h → Listed g ws i) → listsOk g ws ≡ ((placesInside g ws && placesOnce g ws) && listsUnusedZero g ws)
 unfolding listsOk placesInside placesOnce listsUnusedZero
 lists-rules g ws h f =
-    lists-is g ws 1 (g .h) (replicate 8192 false) (λ j a b. f j a (omega arith))
+    lists-fresh g ws 1 (g .h) (replicate 8192 false) (λ j a b. f j a (omega arith))
     ∙ rw (fresh-is (g .p) (replicate 8192 false) (allListed g ws) (rw (length-replicate 8192 false) h), fresh-none 8192 (allListed g ws))

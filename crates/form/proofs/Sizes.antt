@@ -1,28 +1,27 @@
 -- What the size words and the place lists say: the words that the levels name are there.
-use Prim.Native.Nat.{ℕ, zero, suc, _+_, _-_, _*_, _/_, _≤_, _<_}
-use mathlib.Core.Path.{_≡_, sym, ap, _∙_, refl}
+use Prim.Native.Nat.{ℕ, _+_, _-_, _*_, _/_, _≤_, _<_}
+use mathlib.Core.Path.{_≡_, sym, ap, _∙_}
 use mathlib.Core.Bool.{Bool, true, false, _&&_, and-eq-true-iff, true≢false}
 use mathlib.Core.Logic.{dite}
-use mathlib.Core.List.{List, [], _∷_, _++_}
+use mathlib.Core.List.{List}
 use native.Mathlib.Decide.{decLt}
-use native.Mathlib.Nat.{add-mul, div-lt-iff-lt-mul, div-mul-le-self, lt-div-mul-add, mul-le-mul-right}
+use native.Mathlib.Nat.{add-mul, div-lt-iff-lt-mul, div-mul-le-self, lt-div-mul-add}
 use native.Mathlib.Omega.{arith}
 use borrow.Author.Tests.{leb-true, ltb-true, le-leb, lt-leb}
-use lib.Dec.{leb, ltb, eqb}
+use lib.Dec.{leb, ltb}
 use lib.ListN.{length}
 use Rattle.geometry.specs.declared.Geometry.{Geometry}
-use Rattle.geometry.specs.Geometry.{Ranged, capacityOf, topCapacityOf, marksStart, keysStart, paysStart, listStart, blockWidth, placesStart, placeStart, storeLength}
+use Rattle.geometry.specs.Geometry.{capacityOf, topCapacityOf, listStart, blockWidth, placesStart, placeStart, storeLength}
 use Rattle.geometry.proofs.Laws.{level-high, marks-end, keys-end, pays-end, list-inside, place-inside}
 use Rattle.geometry.proofs.Bounds.{capacity-zero-high}
 use Rattle.levels.specs.Basics.{if_then_else_, all, ceilDiv}
 use Rattle.words.specs.Layout.{word, topCountAt, countAt, listedAt}
-use Rattle.words.specs.Form.{liveFits, cursorInside, topFits, countsFit, allListed, placesInside}
+use Rattle.words.specs.Form.{liveFits, cursorInside, topFits, countsFit, placesInside, placesOnce, listsUnusedZero}
 use Rattle.entry.specs.Entry.{Sized}
-use Rattle.directory.specs.declared.Directory.{Directory}
-use Rattle.directory.specs.Directory.{Within, startOf}
+use Rattle.directory.specs.Directory.{Within}
 use Rattle.form.specs.Form.{topOf, levelOf, headerOk, listsOk, Headed}
-use Rattle.form.proofs.Tests.{range, all-at}
-use Rattle.form.proofs.Parts.{wordsFrom, Listed, listed-words, words-at, listed-each}
+use Rattle.form.proofs.Tests.{all-at}
+use Rattle.form.proofs.Parts.{Listed, listed-words, words-at, listed-each}
 use Rattle.form.proofs.Places.{lists-rules}
 
 -- c records in pages of b: n pages, of k
@@ -108,11 +107,15 @@ module _ (g : Geometry) (ws : List ℕ) (z : Headed g ws) where
         blocks = λ t. absurd (true≢false t);
       }
 
+  -- the code's marks against the clauses for the place lists
+  pub lists-is : listsOk g ws ≡ ((placesInside g ws && placesOnce g ws) && listsUnusedZero g ws)
+  lists-is = lists-rules g ws (z .sized .valid .places-high) lists-in
+
   -- a listed place is below P
   pub place-below : listsOk g ws ≡ true → (i : ℕ) → 1 ≤ i → i ≤ g .h → (j : ℕ) → j < countAt ws i → word ws (listStart g i + j) < g .p
   unfolding placesInside
   place-below e i a b j h =
-      let k = simp and-eq-true-iff at (sym (lists-rules g ws (z .sized .valid .places-high) lists-in) ∙ e) in
+      let k = simp and-eq-true-iff at (sym lists-is ∙ e) in
       let t : ℕ → Bool = λ (p : ℕ). ltb p (g .p) in
       let l = all-at (λ (m : ℕ). all t (listedAt g ws m)) 1 (g .h) (sym (listed-each t g ws 1 (g .h)) ∙ k .0 .0) i a (omega arith) in
       ltb-true _ _ (words-at t ws (listStart g i) (countAt ws i) (sym (ap (all t) (listed-words g ws i (lists-in i a b))) ∙ l) j h)
@@ -121,46 +124,33 @@ module _ (g : Geometry) (ws : List ℕ) (z : Headed g ws) where
   unfolding placeStart blockWidth
   block-in p h = rw (z .sized .words) (place-inside g h)
 
-  -- a level on flash, up to h
-  within-listed : listsOk g ws ≡ true → (i : ℕ) → 1 ≤ i → i ≤ g .h → Within (levelOf g ws i) ws
+  -- a level whose list entries are there, and name places below P
+  level-words : (i : ℕ) → countAt ws i ≤ 1024 → ((j : ℕ) → j < countAt ws i → (listStart g i + j < length ws) × (word ws (listStart g i + j) < g .p)) → Within (levelOf g ws i) ws
   unfolding levelOf
-  within-listed e i a b =
+  level-words i n f =
       let s = z .sized in
       let k = s .valid .ranged in
-      let l = lists-in i a b in
+      record {
+        width-low = k .b-low;
+        width-high = k .b-high;
+        chunks-high = n;
+        short = s .short;
+        list = λ j h. f j h .0;
+        page-keys = λ t. absurd (true≢false (sym t));
+        page-pays = λ t. absurd (true≢false (sym t));
+        page-records = λ t. absurd (true≢false (sym t));
+        blocks = λ t j h. block-in (word ws (listStart g i + j)) (f j h .1);
+      }
+
+  -- levels 1 to h, and those above, which list nothing
+  pub within-level : listsOk g ws ≡ true → (i : ℕ) → 1 ≤ i → i ≤ 3 → Within (levelOf g ws i) ws
+  within-level e i a b =
+      dite (decLt (g .h) i)
+      (λ y. let n = count-none i a b y in level-words i (omega arith) (λ j h. absurd (omega arith)))
+      (λ m.
+      let h : i ≤ g .h = omega arith in
+      let l = lists-in i a h in
       let n = l .inside in
       let f = l .fits in
-      let c = level-high g (s .valid) b in
-      record {
-        width-low = k .b-low;
-        width-high = k .b-high;
-        chunks-high = omega arith;
-        short = s .short;
-        list = λ j h. omega arith;
-        page-keys = λ t. absurd (true≢false (sym t));
-        page-pays = λ t. absurd (true≢false (sym t));
-        page-records = λ t. absurd (true≢false (sym t));
-        blocks = λ t j h. block-in (word ws (listStart g i + j)) (place-below e i a b j h);
-      }
-
-  -- a level above h has no blocks, and so names no words
-  within-none : (i : ℕ) → 1 ≤ i → i ≤ 3 → g .h < i → Within (levelOf g ws i) ws
-  unfolding levelOf
-  within-none i a b c =
-      let s = z .sized in
-      let k = s .valid .ranged in
-      let n = count-none i a b c in
-      record {
-        width-low = k .b-low;
-        width-high = k .b-high;
-        chunks-high = omega arith;
-        short = s .short;
-        list = λ j h. absurd (omega arith);
-        page-keys = λ t. absurd (true≢false (sym t));
-        page-pays = λ t. absurd (true≢false (sym t));
-        page-records = λ t. absurd (true≢false (sym t));
-        blocks = λ t j h. absurd (omega arith);
-      }
-
-  pub within-level : listsOk g ws ≡ true → (i : ℕ) → 1 ≤ i → i ≤ 3 → Within (levelOf g ws i) ws
-  within-level e i a b = dite (decLt (g .h) i) (λ y. within-none i a b y) (λ n. within-listed e i a (omega arith))
+      let c = level-high g (z .sized .valid) h in
+      level-words i (omega arith) (λ j q. (omega arith, place-below e i a h j q)))

@@ -1,13 +1,13 @@
 -- Level 0: its pages as the code goes over them are document 01's slots, in use and unused.
 use Prim.Native.Nat.{ℕ, zero, suc, _+_, _-_, _*_, _/_, _^_, _≤_, _<_}
 use mathlib.Core.Path.{_≡_, sym, ap, _∙_, refl}
-use mathlib.Core.Bool.{Bool, true, false, not, _&&_, _||_, and-true, and-eq-true-iff}
+use mathlib.Core.Bool.{Bool, true, not, _&&_, _||_, and-true, and-eq-true-iff}
 use mathlib.Core.Logic.{dite}
 use mathlib.Core.List.{List, [], _∷_, _++_}
 use native.Mathlib.Decide.{decLt}
 use native.Mathlib.Omega.{arith}
 use borrow.Author.Tests.{le-leb, lt-ltb, le-ltb}
-use lib.Dec.{leb, ltb, eqb}
+use lib.Dec.{ltb, eqb}
 use lib.ListN.{length, take, drop, drop-of-length-le}
 use lib.Seq.{take-all, take-nil, drop-nil}
 use Rattle.geometry.specs.declared.Geometry.{Geometry}
@@ -18,14 +18,13 @@ use Rattle.words.specs.Layout.{word, slotsAt, pageSlots, topSlots, topRecs, top
 use Rattle.words.specs.Form.{blank, topUnusedZero}
 use Rattle.chunks.specs.Chunks.{zerosAt, chunkRecs}
 use Rattle.chunks.proofs.Slots.{slots-length}
-use Rattle.directory.specs.declared.Directory.{Directory}
 use Rattle.directory.specs.Directory.{pickℕ, chunkAt, recordsFrom, recordsOf, keptOf, leanLevel, tidyChunk, tidyFrom, levelFormed}
 use Rattle.directory.proofs.Laws.{formed-is}
 use Rattle.form.specs.Form.{topOf, spareOk, Headed}
 use Rattle.form.proofs.Tests.{test-same, and-swap, all-append, range, range-split}
 use Rattle.form.proofs.Parts.{zeros-split}
 use Rattle.form.proofs.Unused.{slots-take, unused-is}
-use Rattle.form.proofs.Sizes.{Paged, top-paged}
+use Rattle.form.proofs.Sizes.{top-paged}
 
 -- the smaller of two numbers
 abbrev pub least : ℕ → ℕ → ℕ

@@ -1,18 +1,18 @@
 -- Unused slots and mark bits: what the code finds in the words is what the clauses say of slots.
-use Prim.Native.Nat.{ℕ, zero, suc, _+_, _-_, _*_, _/_, _%_, _^_, _≤_, _<_}
+use Prim.Native.Nat.{ℕ, zero, suc, _+_, _-_, _*_, _/_, _%_, _^_, _≤_}
 use mathlib.Core.Path.{_≡_, sym, ap, _∙_, refl}
 use mathlib.Core.Bool.{Bool, true, false, not, _&&_, _||_}
-use mathlib.Core.List.{List, [], _∷_, _++_}
+use mathlib.Core.List.{List, _++_}
 use native.Mathlib.Decide.{ℕ-discrete}
-use native.Mathlib.Nat.{pow-succ', div-lt-iff-lt-mul}
+use native.Mathlib.Nat.{div-lt-iff-lt-mul}
 use native.Mathlib.Omega.{arith}
-use borrow.Author.Tests.{eq-eqb, ne-eqb, ltb-true, lt-ltb, le-ltb, eqb-true}
+use borrow.Author.Tests.{eq-eqb, ne-eqb, ltb-true, lt-ltb, le-ltb}
 use lib.Dec.{ltb, eqb}
-use lib.ListN.{take, drop, length}
+use lib.ListN.{take, drop}
 use lib.Pow.{pow-add, pow-pos}
 use lib.Seq.{take-at, drop-at}
 use Rattle.levels.specs.Basics.{all}
-use Rattle.levels.specs.Record.{Rec, hasTombstone}
+use Rattle.levels.specs.Record.{hasTombstone}
 use Rattle.words.specs.Layout.{word, slotsAt}
 use Rattle.words.specs.Form.{blank}
 use Rattle.chunks.specs.Chunks.{zerosAt}
