@@ -85,7 +85,7 @@ tombstone-append (x ∷ xs) ys = rw (tombstone-append xs ys) (go (x .tombstone) 
 
 module _ (g : Geometry) (ws : List ℕ) where
   -- the records of a block that has no more than B
-  pub block-recs : (p : ℕ) → recordCount g ws p ≤ g .b → (blockAt g ws p) .recs ≡ chunkRecs ws (placeChunk g ws p)
+  block-recs : (p : ℕ) → recordCount g ws p ≤ g .b → (blockAt g ws p) .recs ≡ chunkRecs ws (placeChunk g ws p)
   unfolding blockAt blockSlots
   block-recs p h = slots-take ws (markWordAt g ws p) (placeStart g p + 2) (placeStart g p + 2 + g .b) (recordCount g ws p) (g .b) h
 

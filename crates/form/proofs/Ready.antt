@@ -7,8 +7,8 @@ use native.Mathlib.Omega.{arith}
 use lib.Dec.{eqb}
 use borrow.Author.Tests.{eqb-true, eqb-false, ne-eqb}
 use Rattle.geometry.specs.declared.Geometry.{Geometry}
-use Rattle.levels.specs.Basics.{if_then_else_, all}
-use Rattle.levels.specs.Map.{view}
+use Rattle.levels.specs.Basics.{if_then_else_, orElse}
+use Rattle.levels.specs.Map.{find, view, decides}
 use Rattle.levels.specs.Store.{rows}
 use Rattle.words.specs.Layout.{geometryAt, storeAt}
 use Rattle.words.specs.Form.{clauses, formed, blocksFilled, keysRise, liveExact, reasonOf}
@@ -16,13 +16,13 @@ use Rattle.entry.specs.declared.Opened.{Opened}
 use Rattle.entry.specs.declared.Opened.the-variants as opened
 use Rattle.entry.specs.Entry.{Sized, openedOf}
 use Rattle.entry.proofs.Laws.{opened-ready, opened-refused, ready-reason, refused-reason}
-use Rattle.directory.specs.Directory.{Formed}
+use Rattle.directory.specs.Directory.{Formed, recordsOf}
 use Rattle.walk.specs.Walk.{layered}
 use Rattle.form.specs.declared.Checked.{Checked}
 use Rattle.form.specs.declared.Checked.the-variants.{Ready, Refused}
 use Rattle.form.specs.Checked.{pickChecked, checkedOf}
-use Rattle.form.specs.Form.{Headed, headerOk, listsOk, topOf, levelOf, passed}
-use Rattle.form.proofs.Clauses.{formed-is, passed-formed, layered-is}
+use Rattle.form.specs.Form.{Headed, listsOk, topOf, levelOf, passed}
+use Rattle.form.proofs.Clauses.{formed-is, passed-filled, passed-formed, layered-is, decides-is}
 
 -- The answers of `check`, by what the code has found out.
 pub checked-opened : (ws : List ℕ) (n : ℕ) → openedOf ws ≡ opened.Refused n → Refused n ≡ checkedOf ws
@@ -91,8 +91,11 @@ module _ (ws : List ℕ) (g : Geometry) (e : checkedOf ws ≡ Ready g) where
   ready-passed = formed-is g ws ready-sized ∙ ready-formed ws g e .1
 
   pub ready-headed : Headed g ws
-  unfolding passed
-  ready-headed = let k = simp and-eq-true-iff at ready-passed in record { sized = ready-sized; header = k .0 }
+  ready-headed = passed-filled g ws ready-sized ready-passed .0
+
+  -- "a listed block has 1 to B records"
+  pub ready-filled : blocksFilled g ws ≡ true
+  ready-filled = passed-filled g ws ready-sized ready-passed .1
 
   pub ready-lists : listsOk g ws ≡ true
   unfolding passed
@@ -102,17 +105,20 @@ module _ (ws : List ℕ) (g : Geometry) (e : checkedOf ws ≡ Ready g) where
   pub ready-levels : Formed (topOf g ws) ws × (Formed (levelOf g ws 1) ws × (Formed (levelOf g ws 2) ws × Formed (levelOf g ws 3) ws))
   ready-levels = passed-formed g ws ready-sized ready-passed
 
-  ready-clauses : (liveExact g ws ≡ true) × ((blocksFilled g ws ≡ true) × (keysRise g ws ≡ true))
-  unfolding formed clauses
-  ready-clauses = let k = simp and-eq-true-iff at (ready-formed ws g e .1) in (k .0, (k .1 .1 .1 .1 .1 .1 .1 .0, k .1 .1 .1 .1 .1 .1 .1 .1 .0))
-
-  -- "live is the number of keys of the map", "keys rise strictly in each level"
+  -- "live is the number of keys of the map"
   pub ready-live : liveExact g ws ≡ true
-  ready-live = ready-clauses .0
+  unfolding formed clauses
+  ready-live = let k = simp and-eq-true-iff at (ready-formed ws g e .1) in k .0
 
+  -- "keys rise strictly in each level"
   pub ready-rises : keysRise g ws ≡ true
-  ready-rises = ready-clauses .1 .1
+  unfolding formed clauses
+  ready-rises = let k = simp and-eq-true-iff at (ready-formed ws g e .1) in k .1 .1 .1 .1 .1 .1 .1 .1 .0
 
   -- what the four levels show together is what the rows of the store show
   pub ready-view : layered ws (topOf g ws) (levelOf g ws 1) (levelOf g ws 2) (levelOf g ws 3) ≡ view (rows (storeAt g ws))
-  ready-view = layered-is g ws ready-headed (ready-clauses .1 .0)
+  ready-view = layered-is g ws ready-headed ready-filled
+
+  -- "the first level from 0 down that has k decides"
+  pub ready-decides : (k : ℕ) → decides k (rows (storeAt g ws)) ≡ orElse (find k (recordsOf ws (topOf g ws))) (orElse (find k (recordsOf ws (levelOf g ws 1))) (orElse (find k (recordsOf ws (levelOf g ws 2))) (find k (recordsOf ws (levelOf g ws 3)))))
+  ready-decides k = decides-is g ws ready-headed ready-filled k

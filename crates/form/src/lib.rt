@@ -26,7 +26,11 @@ pub fn check(s: &[u32]) -> Checked
     match entry::open(s) {
         Opened::Refused(n) => Checked::Refused(n),
         Opened::Ready(g) => {
-            if passes(s, g) { Checked::Ready(g) } else { Checked::Refused(4) }
+            if passes(s, g) {
+                Checked::Ready(g)
+            } else {
+                Checked::Refused(4)
+            }
         }
     }
 }
@@ -105,8 +109,7 @@ pub fn header_ok(s: &[u32], g: Geometry) -> bool
     let n2 = chunks::word(s, 10);
     let n3 = chunks::word(s, 11);
     (live <= most)
-        & ((hand < places)
-            & ((records <= room) & ((n1 <= k1) & ((n2 <= k2) & (n3 <= k3)))))
+        & ((hand < places) & ((records <= room) & ((n1 <= k1) & ((n2 <= k2) & (n3 <= k3)))))
 }
 
 // The n places listed from word `start` on are below p, and none is marked as used or listed twice. They get marked.

@@ -13,13 +13,12 @@ use Rattle.geometry.specs.Geometry.{within, listStart, placeStart, blockWidth, 
 use Rattle.geometry.proofs.Laws.{place-inside}
 use Rattle.levels.specs.Basics.{if_then_else_, orElse}
 use Rattle.levels.specs.Record.{Rec, Block, firstKey, lastKey}
-use Rattle.levels.specs.Map.{find, overlay, view, unmarked, mapOf, decides, present, lookUp, firstFrom, next}
+use Rattle.levels.specs.Map.{find, unmarked, mapOf, decides, present, lookUp, firstFrom, next}
 use Rattle.levels.specs.Store.{rows}
-use Rattle.words.specs.Layout.{word, geometryAt, storeAt, countAt, recordCount, listedAt, levelAt, blockAt}
-use Rattle.words.specs.Form.{keysRise, reasonOf}
+use Rattle.words.specs.Layout.{word, storeAt, countAt, levelAt, blockAt}
+use Rattle.words.specs.Form.{reasonOf}
 use Rattle.words.specs.Calls.{lookAnswer, lookUpOf, nextAnswer, nextOf, enclosing, partOf, showIn, showOf, checkOf}
 use Rattle.chunks.specs.Chunks.{chunkRecs}
-use Rattle.chunks.proofs.Find.{find-overlay}
 use Rattle.directory.specs.declared.Directory.{Directory}
 use Rattle.directory.specs.Directory.{Formed, chunkAt, recordsOf}
 use Rattle.walk.specs.declared.Following.the-variants.{At, Nothing}
@@ -32,14 +31,15 @@ use Rattle.search.specs.Search.{foundOf, encloses, pickEnclosed, enclosedFrom, 
 use Rattle.form.specs.declared.Checked.the-variants.{Ready, Refused}
 use Rattle.form.specs.Form.{topOf, levelOf}
 use Rattle.form.specs.Checked.{checkedOf}
-use Rattle.form.proofs.Parts.{wordsFrom, listed-words}
+use Rattle.form.proofs.Parts.{wordsFrom, Listed}
 use Rattle.form.proofs.Sizes.{lists-in, place-below}
-use Rattle.form.proofs.Blocks.{block-recs, level-chunk}
-use Rattle.form.proofs.Ready.{checked-ready, checked-refused, ready-sized, ready-headed, ready-lists, ready-levels, ready-rises, ready-view}
+use Rattle.form.proofs.Blocks.{level-blocks, chunk-recs}
+use Rattle.form.proofs.Clauses.{filled-level}
+use Rattle.form.proofs.Ready.{checked-ready, checked-refused, ready-sized, ready-headed, ready-filled, ready-lists, ready-levels, ready-view, ready-decides}
 use Rattle.store.specs.Answers.{lookedAnswer, lookedOf, nextedAnswer}
 use Rattle.store.specs.declared.Looked.the-variants as looked
 use Rattle.store.specs.declared.Nexted.the-variants as nexted
-use Rattle.store.proofs.Maps.{RowsRise, rows-rise, view-find, Small, small-records, small-overlay, small-unmarked, first-small}
+use Rattle.store.proofs.Maps.{Small, small-records, small-overlay, small-unmarked, first-small}
 
 -- A call that is turned down answers the reason, and nothing else.
 module _ (ws : List ℕ) (n : ℕ) (e : checkedOf ws ≡ Refused n) where
@@ -117,15 +117,9 @@ module _ (ws : List ℕ) (g : Geometry) (e : checkedOf ws ≡ Ready g) where
   -- "the first level from 0 down that has k decides", by the four searches
   pub found-levels : (k : ℕ) → foundOf (decides k (rows (storeAt g ws)))
       ≡ orFound (foundOf (find k (recordsOf ws (topOf g ws)))) (orFound (foundOf (find k (recordsOf ws (levelOf g ws 1)))) (orFound (foundOf (find k (recordsOf ws (levelOf g ws 2)))) (foundOf (find k (recordsOf ws (levelOf g ws 3))))))
-  unfolding keysRise
   found-levels k =
-      let f = ready-levels ws g e in
-      let a = recordsOf ws (topOf g ws) in
-      let b = recordsOf ws (levelOf g ws 1) in
-      let c = recordsOf ws (levelOf g ws 2) in
-      let d = recordsOf ws (levelOf g ws 3) in
-      rw (← view-find k (rows (storeAt g ws)) (rows-rise (rows (storeAt g ws)) (ready-rises ws g e)), ← ready-view ws g e, find-overlay k 0 a (overlay b (overlay c d)) (f .0 .rises), find-overlay k 0 b (overlay c d) (f .1 .0 .rises), find-overlay k 0 c d (f .1 .1 .0 .rises))
-      (found-or (find k a) (find k b) (find k c) (find k d))
+      ap foundOf (ready-decides ws g e k)
+      ∙ found-or (find k (recordsOf ws (topOf g ws))) (find k (recordsOf ws (levelOf g ws 1))) (find k (recordsOf ws (levelOf g ws 2))) (find k (recordsOf ws (levelOf g ws 3)))
 
   -- the walk goes over the map
   pub next-levels : (k : ℕ) → firstFrom k (unmarked (layered ws (topOf g ws) (levelOf g ws 1) (levelOf g ws 2) (levelOf g ws 3))) ≡ next k (rows (storeAt g ws))
@@ -180,16 +174,8 @@ module _ (ws : List ℕ) (g : Geometry) (e : checkedOf ws ≡ Ready g) where
   ready-level (suc (suc (suc (suc i)))) a b = absurd (omega arith)
 
   module _ (i : ℕ) (a : 1 ≤ i) (b : i ≤ g .h) where
-    three : i ≤ 3
-    three = let h = ready-sized ws g e .valid .ranged .h-high in omega arith
-
-    count-high : (j : ℕ) → j < countAt ws i → recordCount g ws (word ws (listStart g i + j)) ≤ g .b
-    unfolding levelOf
-    count-high j h = rw (level-chunk g ws i j) at (ready-level i a three .counts j h .1)
-
-    chunk-recs : (j : ℕ) → j < countAt ws i → (blockAt g ws (word ws (listStart g i + j))) .recs ≡ chunkRecs ws (chunkAt ws (levelOf g ws i) j)
-    chunk-recs j h =
-        block-recs g ws (word ws (listStart g i + j)) (count-high j h) ∙ sym (ap (chunkRecs ws) (level-chunk g ws i j))
+    listed : Listed g ws i
+    listed = lists-in g ws (ready-headed ws g e) i a b
 
     enclosing-from : (k j n : ℕ) → j + n ≤ countAt ws i
         → enclosing k (map (blockAt g ws) (wordsFrom ws (listStart g i + j) n)) ≡ listedBlock g ws (listStart g i) (enclosedFrom ws (levelOf g ws i) k j n)
@@ -199,7 +185,7 @@ module _ (ws : List ℕ) (g : Geometry) (e : checkedOf ws ≡ Ready g) where
         let p = word ws (listStart g i + j) in
         let q : suc (listStart g i + j) ≡ listStart g i + suc j = omega arith in
         let ih : enclosing k (map (blockAt g ws) (wordsFrom ws (suc (listStart g i + j)) n)) ≡ listedBlock g ws (listStart g i) (enclosedFrom ws (levelOf g ws i) k (suc j) n) = rw q (enclosing-from k (suc j) n (omega arith)) in
-        ap (λ (rs : List Rec). elim (encloses k rs) [ true ↦ some (blockAt g ws p) | false ↦ enclosing k (map (blockAt g ws) (wordsFrom ws (suc (listStart g i + j)) n)) ]) (chunk-recs j (omega arith))
+        ap (λ (rs : List Rec). elim (encloses k rs) [ true ↦ some (blockAt g ws p) | false ↦ enclosing k (map (blockAt g ws) (wordsFrom ws (suc (listStart g i + j)) n)) ]) (sym (chunk-recs g ws i listed (filled-level g ws (ready-filled ws g e) i a b) j (omega arith)))
         ∙ go k j n (encloses k (chunkRecs ws (chunkAt ws (levelOf g ws i) j))) (enclosing k (map (blockAt g ws) (wordsFrom ws (suc (listStart g i + j)) n))) (enclosedFrom ws (levelOf g ws i) k (suc j) n) ih
       where
         go : (k j n : ℕ) (t : Bool) (o : Option Block) (r : Enclosed) → o ≡ listedBlock g ws (listStart g i) r
@@ -209,10 +195,10 @@ module _ (ws : List ℕ) (g : Geometry) (e : checkedOf ws ≡ Ready g) where
 
     -- the block that encloses k, by the search in the level's list
     pub enclosing-is : (k : ℕ) → enclosing k (levelAt g ws i) ≡ listedBlock g ws (listStart g i) (enclosedOf ws (levelOf g ws i) k)
-    unfolding levelAt enclosedOf levelOf
+    unfolding enclosedOf levelOf
     enclosing-is k =
         let s : listStart g i + 0 ≡ listStart g i = omega arith in
-        rw (listed-words g ws i (lists-in g ws (ready-headed ws g e) i a b)) (rw s at (enclosing-from k 0 (countAt ws i) (omega arith)))
+        rw (level-blocks g ws i listed) (rw s at (enclosing-from k 0 (countAt ws i) (omega arith)))
 
     pub show-none : (k : ℕ) (d : Directory) → d ≡ levelOf g ws i → enclosed.Nowhere ≡ enclosedOf ws d k → [] ≡ showIn g ws i k
     show-none k d q h =
@@ -229,10 +215,7 @@ module _ (ws : List ℕ) (g : Geometry) (e : checkedOf ws ≡ Ready g) where
       shown-listed = (rw q, omega (arith, enclosed-inside ws (levelOf g ws i) k 0 (countAt ws i) j hit))
 
       pub shown-in : d .list + j < length ws
-      shown-in =
-          let l = lists-in g ws (ready-headed ws g e) i a b in
-          let s = shown-listed in
-          omega (arith, l .inside, l .fits)
+      shown-in = let s = shown-listed in omega (arith, listed .inside, listed .fits)
 
       pub shown-place : word ws (d .list + j) < g .p
       shown-place = rw (shown-listed .0) (place-below g ws (ready-headed ws g e) (ready-lists ws g e) i a b j (shown-listed .1))
