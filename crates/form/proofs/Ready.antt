@@ -18,7 +18,6 @@ use Rattle.entry.specs.Entry.{Sized, openedOf}
 use Rattle.entry.proofs.Laws.{opened-ready, opened-refused, ready-reason, refused-reason}
 use Rattle.directory.specs.Directory.{Formed, recordsOf}
 use Rattle.walk.specs.Walk.{layered}
-use Rattle.form.specs.declared.Checked.{Checked}
 use Rattle.form.specs.declared.Checked.the-variants.{Ready, Refused}
 use Rattle.form.specs.Checked.{pickChecked, checkedOf}
 use Rattle.form.specs.Form.{Headed, listsOk, topOf, levelOf, passed}

@@ -1,5 +1,5 @@
 -- The steps of the code of the form check: one entry of a list, one list, the words behind the pages.
-use Prim.Native.Nat.{ℕ, zero, suc, _+_, _-_, _*_, _≤_, _<_}
+use Prim.Native.Nat.{ℕ, suc, _+_, _-_, _*_, _≤_, _<_}
 use mathlib.Core.Path.{_≡_, refl}
 use mathlib.Core.Bool.{Bool, true, false, _&&_}
 use mathlib.Core.List.{List}
@@ -19,8 +19,7 @@ use Rattle.chunks.specs.Chunks.{zerosAt}
 use Rattle.directory.specs.declared.Directory.{Directory}
 use Rattle.form.specs.Form.{Headed, headerOk, topOf, levelOf, freshOf, markOf, listsFrom, spareOk}
 use Rattle.form.specs.Checked.{limitOf}
-use Rattle.form.proofs.Parts.{Listed}
-use Rattle.form.proofs.Sizes.{Paged, top-paged, lists-in}
+use Rattle.form.proofs.Sizes.{top-paged, lists-in}
 
 -- the tests of the header, one by one
 pub header-is : (g : Geometry) (ws : List ℕ) → (leb (word ws 6) (keyLimitOf g) && (ltb (word ws 7) (g .p) && (leb (word ws 8) (topCapacityOf g) && (leb (word ws 9) (limitOf g 1) && (leb (word ws 10) (limitOf g 2) && leb (word ws 11) (limitOf g 3)))))) ≡ headerOk g ws

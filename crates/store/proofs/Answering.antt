@@ -1,18 +1,18 @@
 -- What the proofs of the reading calls need: each answer of the code is the definition's.
 use Prim.Native.Nat.{ℕ, suc, _+_, _≤_, _<_}
-use mathlib.Core.Path.{_≡_, refl, sym, ap, _∙_, subst}
+use mathlib.Core.Path.{_≡_, refl, sym, ap, _∙_}
 use mathlib.Core.Bool.{Bool, true, false}
-use mathlib.Core.List.{List, [], _∷_, map}
+use mathlib.Core.List.{List, [], map}
 use mathlib.Core.Option.{Option, none, some}
 use native.Mathlib.Omega.{arith}
 use lib.Dec.{eqb}
 use lib.ListN.{length, take, drop}
 use borrow.Author.Tests.{eq-eqb, ne-eqb, le-leb, lt-leb}
 use Rattle.geometry.specs.declared.Geometry.{Geometry}
-use Rattle.geometry.specs.Geometry.{within, listStart, placeStart, blockWidth, storeLength}
+use Rattle.geometry.specs.Geometry.{listStart, placeStart, blockWidth}
 use Rattle.geometry.proofs.Laws.{place-inside}
 use Rattle.levels.specs.Basics.{if_then_else_, orElse}
-use Rattle.levels.specs.Record.{Rec, Block, firstKey, lastKey}
+use Rattle.levels.specs.Record.{Rec, Block}
 use Rattle.levels.specs.Map.{find, unmarked, mapOf, decides, present, lookUp, firstFrom, next}
 use Rattle.levels.specs.Store.{rows}
 use Rattle.words.specs.Layout.{word, storeAt, countAt, levelAt, blockAt}
@@ -39,7 +39,7 @@ use Rattle.form.proofs.Ready.{checked-ready, checked-refused, ready-sized, read
 use Rattle.store.specs.Answers.{lookedAnswer, lookedOf, nextedAnswer}
 use Rattle.store.specs.declared.Looked.the-variants as looked
 use Rattle.store.specs.declared.Nexted.the-variants as nexted
-use Rattle.store.proofs.Maps.{Small, small-records, small-overlay, small-unmarked, first-small}
+use Rattle.store.proofs.Maps.{small-records, small-overlay, small-unmarked, first-small}
 
 -- A call that is turned down answers the reason, and nothing else.
 module _ (ws : List ℕ) (n : ℕ) (e : checkedOf ws ≡ Refused n) where

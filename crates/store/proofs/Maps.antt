@@ -3,13 +3,11 @@ use Prim.Native.Nat.{ℕ, suc, _≤_, _<_}
 use mathlib.Core.Path.{_≡_, refl, sym, _∙_}
 use mathlib.Core.Bool.{Bool, true, false, and-eq-true-iff, true≢false}
 use mathlib.Core.List.{List, [], _∷_, _++_}
-use mathlib.Core.Option.{Option, none, some}
+use mathlib.Core.Option.{none, some}
 use native.Mathlib.Decide.{ℕ-discrete}
 use native.Mathlib.Omega.{arith}
-use lib.Dec.{leb, eqb}
-use lib.ListN.{length}
-use borrow.Author.Tests.{leb-true}
-use Rattle.levels.specs.Basics.{if_then_else_, orElse, all}
+use lib.Dec.{leb}
+use Rattle.levels.specs.Basics.{if_then_else_, all}
 use Rattle.levels.specs.Record.{Rec, rising}
 use Rattle.levels.specs.Map.{find, into, overlay, view, unmarked, mapOf, decides, present, lookUp, firstFrom}
 use Rattle.words.specs.Layout.{word, slotsAt}
@@ -18,7 +16,7 @@ use Rattle.chunks.proofs.Find.{find-here, find-past, find-below, find-overlay, 
 use Rattle.chunks.proofs.Slots.{rising-is}
 use Rattle.directory.specs.declared.Directory.{Directory}
 use Rattle.directory.specs.Directory.{chunkAt, recordsFrom}
-use Rattle.walk.specs.declared.Following.the-variants.{At, Nothing}
+use Rattle.walk.specs.declared.Following.the-variants.{At}
 use Rattle.walk.specs.Walk.{followingOf}
 
 -- every row rises

@@ -1,6 +1,6 @@
 -- Laws of the reading calls, for whoever uses them: a store that passes reads as a finite map, and one that does not is turned down for the first reason there is.
 use Prim.Native.Nat.{ℕ, suc, _≤_, _<_}
-use mathlib.Core.Path.{_≡_, refl, sym, ap, _∙_, subst}
+use mathlib.Core.Path.{_≡_, refl, sym, ap, _∙_}
 use mathlib.Core.Bool.{Bool, true, false, and-eq-true-iff}
 use mathlib.Core.List.{List, [], _∷_}
 use mathlib.Core.Option.{Option, none, some}
@@ -8,16 +8,15 @@ use native.Mathlib.Omega.{arith}
 use lib.Dec.{leb, eqb}
 use lib.ListN.{length, take, drop}
 use borrow.Author.Tests.{eqb-true, eq-eqb, ne-eqb, leb-true, leb-false}
-use Rattle.geometry.specs.declared.Geometry.{Geometry}
 use Rattle.geometry.specs.Geometry.{within, isLegal, placeStart, blockWidth, storeLength, sizeReason}
 use Rattle.geometry.proofs.Laws.{legal-valid}
 use Rattle.levels.specs.Basics.{if_then_else_}
 use Rattle.levels.specs.Record.{Rec, Block, Level, firstKey, lastKey}
-use Rattle.levels.specs.Map.{find, view, unmarked, mapOf, liveCount, firstFrom, next}
+use Rattle.levels.specs.Map.{find, view, mapOf, liveCount, firstFrom, next}
 use Rattle.levels.specs.Store.{rows}
 use Rattle.words.specs.Layout.{geometryAt, liveAt, storeAt, levelAt, placeOf}
 use Rattle.words.specs.Form.{keysRise, liveExact, formed, reasonOf}
-use Rattle.words.specs.Calls.{LookAnswer, NextAnswer, lookAnswer, nextAnswer, checkOf, lookUpOf, nextOf, enclosing, partOf, showIn, showOf}
+use Rattle.words.specs.Calls.{lookAnswer, nextAnswer, checkOf, lookUpOf, nextOf, enclosing, partOf, showIn, showOf}
 use Rattle.chunks.specs.Chunks.{Rising}
 use Rattle.chunks.proofs.Find.{find-here, find-past, find-below}
 use Rattle.entry.proofs.Laws.{size-short, size-broken, size-other, sized-opened, ready-reason}

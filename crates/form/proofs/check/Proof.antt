@@ -1,4 +1,4 @@
-use mathlib.Core.Path.{_≡_, sym, _∙_}
+use mathlib.Core.Path.{sym, _∙_}
 use Rattle.entry.proofs.Laws.{opened-ready}
 use Rattle.form.proofs.Ready.{checked-opened, checked-passed, checked-broken}
 use borrow.Author.Needs.{needs}

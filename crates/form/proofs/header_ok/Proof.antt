@@ -1,4 +1,3 @@
-use Rattle.form.specs.Form.{headerOk}
 use Rattle.form.proofs.Steps.{header-is}
 use borrow.Author.Needs.{needs}
 use Rattle.form.proofs.header_ok.Statement.{statement}

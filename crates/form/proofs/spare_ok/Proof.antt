@@ -1,9 +1,6 @@
 use native.Mathlib.Omega.{arith}
-use Prim.Native.Nat.{ℕ, _≤_, _<_, _+_, _-_}
-use mathlib.Core.Path.{_≡_, sym, _∙_}
 use borrow.Author.Tests.{not-true, not-false}
-use Rattle.form.specs.Form.{spareOk, topOf}
-use Rattle.form.proofs.Steps.{Spare, spare-in, spare-is}
+use Rattle.form.proofs.Steps.{spare-in, spare-is}
 use borrow.Author.Needs.{needs}
 use Rattle.form.proofs.spare_ok.Statement.{statement}
 use Rattle.form.proofs.spare_ok.Tie as tie

@@ -1,7 +1,7 @@
 use Rattle.levels.specs.Map.{firstFrom, unmarked}
 use Rattle.walk.specs.Walk.{layered}
 use native.Mathlib.Omega.{arith}
-use mathlib.Core.Path.{_≡_, sym, _∙_}
+use mathlib.Core.Path.{sym, _∙_}
 use Rattle.form.proofs.Ready.{ready-sized, ready-levels}
 use Rattle.store.proofs.Answering.{next-levels, next-at, next-nothing, next-fits}
 use borrow.Author.Needs.{needs}

@@ -1,7 +1,6 @@
 use native.Mathlib.Omega.{arith}
-use Prim.Native.Nat.{ℕ, _+_, _-_}
+use Prim.Native.Nat.{_+_, _-_}
 use mathlib.Core.Path.{_≡_, sym, _∙_}
-use Rattle.geometry.specs.Geometry.{blockWidth, placeStart}
 use Rattle.form.proofs.Ready.{ready-sized}
 use Rattle.store.proofs.Answering.{ready-level, show-low, show-high, show-none, shown-in, shown-place, shown-end, show-at}
 use borrow.Author.Needs.{needs}
