@@ -4,11 +4,21 @@ ghost use mathlib.Core.Path.{_≡_};
 ghost use Prim.Native.Nat.{_≤_};
 ghost use lib.ListN.{length, replicate};
 ghost use Rattle.geometry.specs.Geometry.{Valid, keyLimitOf};
-ghost use Rattle.words.specs.Calls.{Outcome, FormatAnswer, formatOf};
-ghost use Rattle.store.specs.Answers.{formatAnswer};
+ghost use Rattle.levels.specs.Map.{decides, next};
+ghost use Rattle.levels.specs.Store.{rows};
+ghost use Rattle.words.specs.Layout.{storeAt};
+ghost use Rattle.words.specs.Calls.{Outcome, FormatAnswer, nextAnswer, formatOf, checkOf, lookUpOf, nextOf, showIn, showOf};
+ghost use Rattle.search.specs.Search.{foundOf};
+ghost use Rattle.form.specs.declared.Checked.the-variants.{Ready};
+ghost use Rattle.form.specs.Checked.{checkedOf};
+ghost use Rattle.store.specs.Answers.{formatAnswer, lookedAnswer, lookedOf, nextedAnswer};
 ghost use Rattle.store.specs.Format.{headed};
 use entry::Opened;
+use form::Checked;
 use geometry::Geometry;
+use search::Enclosed;
+use search::Found;
+use walk::Following;
 
 // N, or the reason that the words or the geometry are turned down for.
 pub enum Formatted {
@@ -59,4 +69,130 @@ fn limit(t: Geometry) -> u32
     ensures { λ r. ⌜ r ≡ keyLimitOf t ⌝ }
 {
     t.key_limit() as u32
+}
+
+// The payload of a live key, or that the key is not in the map, or the reason that the store is turned down for.
+pub enum Looked {
+    Found(u32),
+    Absent,
+    Refused(u32),
+}
+
+// A live key with its payload, or that there is none, or the reason that the store is turned down for.
+pub enum Nexted {
+    At(u32, u32),
+    Nothing,
+    Refused(u32),
+}
+
+// The reason 1 to 4 that a store is turned down for, or 0.
+pub fn check(s: &[u32]) -> u32
+    ensures { λ r. ⌜ r ≡ checkOf (now (s .entry)) ⌝ }
+{
+    match form::check(s) {
+        Checked::Refused(n) => n,
+        Checked::Ready(_) => 0,
+    }
+}
+
+// The payload of k.
+pub fn look_up(s: &[u32], k: u32) -> Looked
+    ensures { λ r. ⌜ lookedAnswer r ≡ lookUpOf (now (s .entry)) k ⌝ }
+{
+    match form::check(s) {
+        Checked::Refused(n) => Looked::Refused(n),
+        Checked::Ready(g) => look_answer(find_key(s, g, k as usize)),
+    }
+}
+
+// The record that decides for a key: that of the first level from 0 down that has one.
+fn find_key(s: &[u32], g: Geometry, k: usize) -> Found
+    requires { ⌜ checkedOf (now s) ≡ Ready g ⌝ }
+    ensures { λ r. ⌜ r ≡ foundOf (decides k (rows (storeAt g (now (s .entry))))) ⌝ }
+{
+    let d0 = form::top_of(s, g);
+    let Found::Here(m0, v0) = search::find_in(s, d0, k) else {
+        let d1 = form::level_of(s, g, 1);
+        let Found::Here(m1, v1) = search::find_in(s, d1, k) else {
+            let d2 = form::level_of(s, g, 2);
+            let Found::Here(m2, v2) = search::find_in(s, d2, k) else {
+                let d3 = form::level_of(s, g, 3);
+                return search::find_in(s, d3, k);
+            };
+            return Found::Here(m2, v2);
+        };
+        return Found::Here(m1, v1);
+    };
+    Found::Here(m0, v0)
+}
+
+// A tombstone or no record is absent.
+fn look_answer(f: Found) -> Looked
+    ensures { λ r. ⌜ r ≡ lookedOf f ⌝ }
+{
+    let Found::Here(m, v) = f else {
+        return Looked::Absent;
+    };
+    if m {
+        return Looked::Absent;
+    }
+    Looked::Found(v)
+}
+
+// The smallest live key at or above k, with its payload.
+pub fn next(s: &[u32], k: u32) -> Nexted
+    ensures { λ r. ⌜ nextedAnswer r ≡ nextOf (now (s .entry)) k ⌝ }
+{
+    match form::check(s) {
+        Checked::Refused(n) => Nexted::Refused(n),
+        Checked::Ready(g) => next_key(s, g, k as usize),
+    }
+}
+
+// The smallest live key at or above k, of a store that passes.
+fn next_key(s: &[u32], g: Geometry, k: usize) -> Nexted
+    requires { ⌜ checkedOf (now s) ≡ Ready g ⌝ }
+    ensures { λ r. ⌜ nextedAnswer r ≡ nextAnswer (next k (rows (storeAt g (now (s .entry))))) ⌝ }
+{
+    let d0 = form::top_of(s, g);
+    let d1 = form::level_of(s, g, 1);
+    let d2 = form::level_of(s, g, 2);
+    let d3 = form::level_of(s, g, 3);
+    let Following::At(key, pay) = walk::next_from(s, d0, d1, d2, d3, k) else {
+        return Nexted::Nothing;
+    };
+    Nexted::At(key as u32, pay)
+}
+
+// The words of the block of a level whose first to last key encloses k, as that part of the lent store.
+pub fn show(s: &[u32], level: u32, k: u32) -> &[u32]
+    ensures { λ r. ⌜ now r ≡ showOf (now (s .entry)) level k ⌝ }
+{
+    let Checked::Ready(g) = form::check(s) else {
+        return &s[0..0];
+    };
+    show_block(s, g, level as usize, k as usize)
+}
+
+// The same, of a store that passes.
+fn show_block(s: &[u32], g: Geometry, level: usize, k: usize) -> &[u32]
+    requires { ⌜ checkedOf (now s) ≡ Ready g ⌝ }
+    ensures { λ r. ⌜ now r ≡ showIn g (now (s .entry)) level k ⌝ }
+{
+    let h = g.levels();
+    if level < 1 {
+        return &s[0..0];
+    }
+    if h < level {
+        return &s[0..0];
+    }
+    let dir = form::level_of(s, g, level);
+    let Enclosed::At(i) = search::enclosing(s, dir, k) else {
+        return &s[0..0];
+    };
+    let list = dir.list;
+    let place = chunks::word(s, list + i);
+    let start = g.place_start(place);
+    let end = start + g.block_width();
+    &s[start..end]
 }

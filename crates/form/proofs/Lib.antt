@@ -1,0 +1,10 @@
+pub mod Tests
+pub mod Parts
+pub mod Places
+pub mod Unused
+pub mod Sizes
+pub mod Top
+pub mod Blocks
+pub mod Clauses
+pub mod Steps
+pub mod Ready

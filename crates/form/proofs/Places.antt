@@ -1,0 +1,137 @@
+-- The place lists: the code's marks say that listed places are below P, and none twice over all levels.
+use Prim.Native.Nat.{ℕ, zero, suc, _+_, _-_, _≤_, _<_}
+use mathlib.Core.Path.{_≡_, sym, _∙_, refl}
+use mathlib.Core.Bool.{Bool, true, false, not, _&&_, _||_}
+use mathlib.Core.List.{List, [], _∷_, _++_}
+use native.Mathlib.Decide.{ℕ-discrete}
+use native.Mathlib.Omega.{arith}
+use borrow.Author.Tests.{eq-eqb, ne-eqb, ltb-true}
+use lib.Dec.{ltb, eqb}
+use lib.ListN.{getD, set, drop, length, length-set, length-replicate, replicate}
+use lib.Seq.{getD-set-same, getD-set-other}
+use Rattle.geometry.specs.declared.Geometry.{Geometry}
+use Rattle.geometry.specs.Geometry.{capacityOf, listStart}
+use Rattle.levels.specs.Basics.{all, member}
+use Rattle.levels.specs.Place.{distinct}
+use Rattle.words.specs.Layout.{word, countAt, listAt}
+use Rattle.words.specs.Form.{isZero, listedPlaces, allListed, placesInside, placesOnce, listsUnusedZero}
+use Rattle.chunks.specs.Chunks.{zerosAt}
+use Rattle.form.specs.Form.{freshOf, markOf, listsFrom, listsOk}
+use Rattle.form.proofs.Tests.{range}
+use Rattle.form.proofs.Parts.{wordsFrom, words-zero, Listed, listed-words, unlisted-words}
+
+-- the same over a list of places: below p, not marked and none twice
+unfoldable freshIn : ℕ → List Bool → List ℕ → Bool
+freshIn p used [] = true
+freshIn p used (q ∷ qs) = ltb q p && (not (getD used q false) && freshIn p (set used q true) qs)
+
+-- the marks with those places added
+unfoldable markIn : List Bool → List ℕ → List Bool
+markIn used [] = used
+markIn used (q ∷ qs) = markIn (set used q true) qs
+
+-- none of them is marked
+unfoldable unused : List Bool → List ℕ → Bool
+unused used [] = true
+unused used (q ∷ qs) = not (getD used q false) && unused used qs
+
+fresh-list : (ws : List ℕ) (p i n : ℕ) (used : List Bool) → freshOf ws p i n used ≡ freshIn p used (wordsFrom ws i n)
+unfolding freshOf freshIn wordsFrom
+fresh-list ws p i zero used = refl
+fresh-list ws p i (suc n) used = rw (fresh-list ws p (suc i) n (set used (word ws i) true))
+
+mark-list : (ws : List ℕ) (i n : ℕ) (used : List Bool) → markOf ws i n used ≡ markIn used (wordsFrom ws i n)
+unfolding markOf markIn wordsFrom
+mark-list ws i zero used = refl
+mark-list ws i (suc n) used = mark-list ws (suc i) n (set used (word ws i) true)
+
+fresh-append : (p : ℕ) (used : List Bool) (qs rs : List ℕ) → freshIn p used (qs ++ rs) ≡ (freshIn p used qs && freshIn p (markIn used qs) rs)
+unfolding freshIn markIn
+fresh-append p used [] rs = refl
+fresh-append p used (q ∷ qs) rs = rw (fresh-append p (set used q true) qs rs) (go (ltb q p) (not (getD used q false)) (freshIn p (set used q true) qs) (freshIn p (markIn (set used q true) qs) rs))
+  where
+    go : (a b c d : Bool) → (a && (b && (c && d))) ≡ ((a && (b && c)) && d)
+    go true true c d = refl
+    go true false c d = refl
+    go false b c d = refl
+
+mark-one : (used : List Bool) (q : ℕ) (qs : List ℕ) → q < length used → unused (set used q true) qs ≡ (unused used qs && not (member q qs))
+unfolding unused
+mark-one used q [] h = refl
+mark-one used q (r ∷ rs) h = go (ℕ-discrete r q) (mark-one used q rs h)
+  where
+    one : (a b c : Bool) → (a && (b && not c)) ≡ ((a && b) && not c)
+    one true b c = refl
+    one false b c = refl
+
+    last : (a : Bool) → false ≡ (a && false)
+    last true = refl
+    last false = refl
+
+    go : Dec (r ≡ q) → unused (set used q true) rs ≡ (unused used rs && not (member q rs)) → (not (getD (set used q true) r false) && unused (set used q true) rs) ≡ ((not (getD used r false) && unused used rs) && not (eqb q r || member q rs))
+    go (yes e) ih = rw (eq-eqb q r (sym e), e, getD-set-same used q true false h) (last (not (getD used q false) && unused used rs))
+    go (no n) ih = rw (ne-eqb q r (λ e. n (sym e)), getD-set-other used q r true false n, ih) (one (not (getD used r false)) (unused used rs) (member q rs))
+
+-- the code's marks are long enough for every place
+fresh-is : (p : ℕ) (used : List Bool) (qs : List ℕ) → p ≤ length used → freshIn p used qs ≡ (all (λ (q : ℕ). ltb q p) qs && (unused used qs && distinct qs))
+unfolding freshIn unused
+fresh-is p used [] h = refl
+fresh-is p used (q ∷ qs) h = go (ltb q p) refl (fresh-is p (set used q true) qs (rw (length-set used q true) h))
+  where
+    shuffle : (u b m e d : Bool) → (u && (b && ((m && e) && d))) ≡ (b && ((u && m) && (e && d)))
+    shuffle true true true e d = refl
+    shuffle true true false e d = refl
+    shuffle true false m e d = refl
+    shuffle false true m e d = refl
+    shuffle false false m e d = refl
+
+    go : (t : Bool) → ltb q p ≡ t → freshIn p (set used q true) qs ≡ (all (λ (q : ℕ). ltb q p) qs && (unused (set used q true) qs && distinct qs))
+        → (t && (not (getD used q false) && freshIn p (set used q true) qs)) ≡ ((t && all (λ (q : ℕ). ltb q p) qs) && ((not (getD used q false) && unused used qs) && (not (member q qs) && distinct qs)))
+    go false e ih = refl
+    go true e ih = rw (ih, mark-one used q qs (let l = ltb-true q p e in omega arith)) (shuffle (not (getD used q false)) (all (λ (q : ℕ). ltb q p) qs) (unused used qs) (not (member q qs)) (distinct qs))
+
+fresh-none : (n : ℕ) (qs : List ℕ) → unused (replicate n false) qs ≡ true
+unfolding unused
+fresh-none n [] = refl
+fresh-none n (q ∷ qs) = rw (none n q, fresh-none n qs)
+  where
+    none : (n q : ℕ) → getD (replicate n false) q false ≡ false
+    none zero q = refl
+    none (suc n) zero = refl
+    none (suc n) (suc q) = none n q
+
+-- the unused entries of the list of level i are 0
+abbrev pub unlistedZero : Geometry → List ℕ → ℕ → Bool
+unlistedZero g ws i = all isZero (drop (countAt ws i) (listAt g ws i))
+
+lists-fresh : (g : Geometry) (ws : List ℕ) (i n : ℕ) (used : List Bool) → ((j : ℕ) → i ≤ j → j < i + n → Listed g ws j)
+    → listsFrom g ws i n used ≡ (freshIn (g .p) used (listedPlaces g ws i n) && all (unlistedZero g ws) (range i n))
+unfolding listsFrom listedPlaces freshIn
+lists-fresh g ws i zero used f = refl
+lists-fresh g ws i (suc n) used f =
+    let l = f i (omega arith) (omega arith) in
+    let c = countAt ws i in
+    let ps = wordsFrom ws (listStart g i) c in
+    rw (
+      fresh-list ws (g .p) (listStart g i) c used,
+      mark-list ws (listStart g i) c used,
+      lists-fresh g ws (suc i) n (markIn used ps) (λ j a b. f j (omega arith) (omega arith)),
+      listed-words g ws i l,
+      unlisted-words g ws i l,
+      words-zero ws (listStart g i + c) (capacityOf g i - c),
+      fresh-append (g .p) used ps (listedPlaces g ws (suc i) n),
+    )
+    (go (freshIn (g .p) used ps) (zerosAt ws (listStart g i + c) (capacityOf g i - c)) (freshIn (g .p) (markIn used ps) (listedPlaces g ws (suc i) n)) (all (unlistedZero g ws) (range (suc i) n)))
+  where
+    go : (a z b u : Bool) → (a && (z && (b && u))) ≡ ((a && b) && (z && u))
+    go true true b u = refl
+    go true false true u = refl
+    go true false false u = refl
+    go false z b u = refl
+
+-- "listed places are below P, none twice over all levels", and the unused list entries are 0
+pub lists-rules : (g : Geometry) (ws : List ℕ) → g .p ≤ 8192 → ((i : ℕ) → 1 ≤ i → i ≤ g .h → Listed g ws i) → listsOk g ws ≡ ((placesInside g ws && placesOnce g ws) && listsUnusedZero g ws)
+unfolding listsOk placesInside placesOnce listsUnusedZero
+lists-rules g ws h f =
+    lists-fresh g ws 1 (g .h) (replicate 8192 false) (λ j a b. f j a (omega arith))
+    ∙ rw (fresh-is (g .p) (replicate 8192 false) (allListed g ws) (rw (length-replicate 8192 false) h), fresh-none 8192 (allListed g ws))

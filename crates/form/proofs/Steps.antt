@@ -1,0 +1,136 @@
+-- The steps of the code of the form check: one entry of a list, one list, the words behind the pages.
+use Prim.Native.Nat.{ℕ, suc, _+_, _-_, _*_, _≤_, _<_}
+use mathlib.Core.Path.{_≡_, refl}
+use mathlib.Core.Bool.{Bool, true, false, _&&_}
+use mathlib.Core.List.{List}
+use native.Mathlib.Omega.{arith}
+use native.Mathlib.Nat.{mul-le-mul}
+use borrow.Author.Tests.{lt-ltb, le-ltb}
+use lib.Dec.{ltb, leb}
+use lib.ListN.{getD, length, set}
+use Rattle.geometry.specs.declared.Geometry.{Geometry}
+use Rattle.geometry.specs.Geometry.{capacityOf, keyLimitOf, topCapacityOf, keysStart, paysStart}
+use Rattle.geometry.proofs.Laws.{pays-end}
+use Rattle.geometry.proofs.Bounds.{capacity-zero-high}
+use Rattle.levels.specs.Basics.{if_then_else_}
+use Rattle.words.specs.Layout.{word}
+use Rattle.words.specs.Form.{liveFits, cursorInside, topFits, countsFit}
+use Rattle.chunks.specs.Chunks.{zerosAt}
+use Rattle.directory.specs.declared.Directory.{Directory}
+use Rattle.form.specs.Form.{Headed, headerOk, topOf, levelOf, freshOf, markOf, listsFrom, spareOk}
+use Rattle.form.specs.Checked.{limitOf}
+use Rattle.form.proofs.Sizes.{top-paged, lists-in}
+
+-- the tests of the header, one by one
+pub header-is : (g : Geometry) (ws : List ℕ) → (leb (word ws 6) (keyLimitOf g) && (ltb (word ws 7) (g .p) && (leb (word ws 8) (topCapacityOf g) && (leb (word ws 9) (limitOf g 1) && (leb (word ws 10) (limitOf g 2) && leb (word ws 11) (limitOf g 3)))))) ≡ headerOk g ws
+unfolding headerOk liveFits cursorInside topFits countsFit limitOf
+header-is g ws = go (leb (word ws 6) (keyLimitOf g)) (ltb (word ws 7) (g .p)) (leb (word ws 8) (topCapacityOf g)) (leb (word ws 9) (if leb 1 (g .h) then capacityOf g 1 else 0)) (leb (word ws 10) (if leb 2 (g .h) then capacityOf g 2 else 0)) (leb (word ws 11) (if leb 3 (g .h) then capacityOf g 3 else 0))
+  where
+    last : (t : Bool) → t ≡ (t && true)
+    last true = refl
+    last false = refl
+
+    go : (a b c d e f : Bool) → (a && (b && (c && (d && (e && f))))) ≡ (a && (b && (c && (d && (e && (f && true))))))
+    go a b c d e f = rw (← last f)
+
+-- One entry of a list.
+module _ (ws : List ℕ) (p start n i : ℕ) (used : List Bool) (h : i < n) (q : ℕ) (e : q ≡ word ws (start + i)) where
+  pub fresh-high : p ≤ q → freshOf ws p (start + i) (n - i) used ≡ false
+  unfolding freshOf
+  fresh-high l = let r : n - i ≡ suc (n - (i + 1)) = omega arith in rw (r, ← e, le-ltb _ _ l)
+
+  pub fresh-used : q < p → getD used q false ≡ true → freshOf ws p (start + i) (n - i) used ≡ false
+  unfolding freshOf
+  fresh-used l u = let r : n - i ≡ suc (n - (i + 1)) = omega arith in rw (r, ← e, lt-ltb _ _ l, u)
+
+  pub fresh-next : q < p → getD used q false ≡ false → freshOf ws p (start + i) (n - i) used ≡ freshOf ws p (start + (i + 1)) (n - (i + 1)) (set used q true)
+  unfolding freshOf
+  fresh-next l u =
+      let r : n - i ≡ suc (n - (i + 1)) = omega arith in
+      let k : start + (i + 1) ≡ suc (start + i) = omega arith in
+      rw (r, k, ← e, lt-ltb _ _ l, u)
+
+  pub mark-next : markOf ws (start + i) (n - i) used ≡ markOf ws (start + (i + 1)) (n - (i + 1)) (set used q true)
+  unfolding markOf
+  mark-next =
+      let r : n - i ≡ suc (n - (i + 1)) = omega arith in
+      let k : start + (i + 1) ≡ suc (start + i) = omega arith in
+      rw (r, k, e)
+
+pub fresh-start : (ws : List ℕ) (p start n : ℕ) (used : List Bool) → freshOf ws p (start + 0) (n - 0) used ≡ freshOf ws p start n used
+fresh-start ws p start n used = let r : start + 0 ≡ start = omega arith in let k : n - 0 ≡ n = omega arith in rw (r, k)
+
+pub mark-start : (ws : List ℕ) (start n : ℕ) (used : List Bool) → markOf ws (start + 0) (n - 0) used ≡ markOf ws start n used
+mark-start ws start n used = let r : start + 0 ≡ start = omega arith in let k : n - 0 ≡ n = omega arith in rw (r, k)
+
+pub fresh-end : (ws : List ℕ) (p start n i : ℕ) (used : List Bool) → n ≤ i → freshOf ws p (start + i) (n - i) used ≡ true
+unfolding freshOf
+fresh-end ws p start n i used h = let r : n - i ≡ 0 = omega arith in rw r
+
+pub mark-end : (ws : List ℕ) (start n i : ℕ) (used : List Bool) → n ≤ i → markOf ws (start + i) (n - i) used ≡ used
+unfolding markOf
+mark-end ws start n i used h = let r : n - i ≡ 0 = omega arith in rw r
+
+-- the words behind the pages, by the directory d of level 0 with room for k pages, in n words
+pub record Spare (d : Directory) (k n : ℕ) : Type 0 where
+  pub few : d .chunks ≤ k
+  pub past-high : d .chunks * d .width ≤ 4096
+  pub left-high : (k - d .chunks) * d .width ≤ 4096
+  pub marks : d .list + d .chunks + (k - d .chunks) ≤ n
+  pub keys : d .base + d .chunks * d .width + (k - d .chunks) * d .width ≤ n
+  pub payloads : d .pays + d .chunks * d .width + (k - d .chunks) * d .width ≤ n
+
+spare-top : (g : Geometry) (ws : List ℕ) → Headed g ws → Spare (topOf g ws) (capacityOf g 0) (length ws)
+unfolding topOf keysStart paysStart topCapacityOf
+spare-top g ws z =
+    let k = z .sized .valid .ranged in
+    let p = top-paged g ws z in
+    let w = lists-in g ws z 1 (omega arith) (k .h-low) .inside in
+    let h : capacityOf g 0 * g .b ≤ 4096 = mul-le-mul (capacity-zero-high g k) (k .b-high) in
+    record {
+      few = p .few;
+      past-high = omega (arith, p .rest);
+      left-high = omega (arith, p .rest);
+      marks = omega (arith, p .few, pays-end g);
+      keys = omega (arith, p .rest, pays-end g);
+      payloads = omega (arith, p .rest, pays-end g);
+    }
+
+pub spare-in : (g : Geometry) (ws : List ℕ) → Headed g ws → (d : Directory) → d ≡ topOf g ws → (k : ℕ) → k ≡ capacityOf g 0 → Spare d k (length ws)
+spare-in g ws z d e k q = rw (e, q) (spare-top g ws z)
+
+-- the words behind the pages, by the directory
+pub spare-is : (g : Geometry) (ws : List ℕ) (d : Directory) → d ≡ topOf g ws → (k : ℕ) → k ≡ capacityOf g 0
+    → (zerosAt ws (d .list + d .chunks) (k - d .chunks) && (zerosAt ws (d .base + d .chunks * d .width) ((k - d .chunks) * d .width) && zerosAt ws (d .pays + d .chunks * d .width) ((k - d .chunks) * d .width))) ≡ spareOk g ws
+unfolding spareOk topOf
+spare-is g ws d e k q = rw (e, q)
+
+-- a list lies in the store, and has room for its count
+pub list-room : (g : Geometry) (ws : List ℕ) → Headed g ws → (i : ℕ) → i < g .h → (d : Directory) → d ≡ levelOf g ws (i + 1) → (k : ℕ) → k ≡ capacityOf g (i + 1) → (d .list + k ≤ length ws) × (d .chunks ≤ k)
+unfolding levelOf
+list-room g ws z i h d e k q = let l = lists-in g ws z (i + 1) (omega arith) (omega arith) in rw (e, q) (l .inside, l .fits)
+
+-- One list.
+module _ (g : Geometry) (ws : List ℕ) (i n : ℕ) (used : List Bool) (h : i < n) (d : Directory) (e : d ≡ levelOf g ws (i + 1)) where
+  pub lists-unfresh : freshOf ws (g .p) (d .list) (d .chunks) used ≡ false → listsFrom g ws (i + 1) (n - i) used ≡ false
+  unfolding listsFrom levelOf
+  lists-unfresh f = let r : n - i ≡ suc (n - (i + 1)) = omega arith in rw (r, rw e at f)
+
+  pub lists-unzero : (k : ℕ) → k ≡ capacityOf g (i + 1) → freshOf ws (g .p) (d .list) (d .chunks) used ≡ true → zerosAt ws (d .list + d .chunks) (k - d .chunks) ≡ false → listsFrom g ws (i + 1) (n - i) used ≡ false
+  unfolding listsFrom levelOf
+  lists-unzero k q f u = let r : n - i ≡ suc (n - (i + 1)) = omega arith in rw (r, rw e at f, rw (e, q) at u)
+
+  pub lists-next : (k : ℕ) → k ≡ capacityOf g (i + 1) → freshOf ws (g .p) (d .list) (d .chunks) used ≡ true → zerosAt ws (d .list + d .chunks) (k - d .chunks) ≡ true
+      → listsFrom g ws (i + 1) (n - i) used ≡ listsFrom g ws (i + 1 + 1) (n - (i + 1)) (markOf ws (d .list) (d .chunks) used)
+  unfolding listsFrom levelOf
+  lists-next k q f u =
+      let r : n - i ≡ suc (n - (i + 1)) = omega arith in
+      let t : i + 1 + 1 ≡ suc (i + 1) = omega arith in
+      rw (r, rw e at f, rw (e, q) at u, e, t)
+
+pub lists-start : (g : Geometry) (ws : List ℕ) (n : ℕ) (used : List Bool) → listsFrom g ws (0 + 1) (n - 0) used ≡ listsFrom g ws 1 n used
+lists-start g ws n used = let r : n - 0 ≡ n = omega arith in rw r
+
+pub lists-end : (g : Geometry) (ws : List ℕ) (i n : ℕ) (used : List Bool) → n ≤ i → listsFrom g ws (i + 1) (n - i) used ≡ true
+unfolding listsFrom
+lists-end g ws i n used h = let r : n - i ≡ 0 = omega arith in rw r

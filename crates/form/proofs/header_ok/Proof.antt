@@ -1,0 +1,68 @@
+use Rattle.form.proofs.Steps.{header-is}
+use borrow.Author.Needs.{needs}
+use Rattle.form.proofs.header_ok.Statement.{statement}
+use Rattle.form.proofs.header_ok.Tie as tie
+use Rattle.form.proofs.header_ok.Reads as reads
+use Rattle.form.proofs.header_ok.Lts as lts
+use Rattle.chunks.proofs.word.Reads as word-reads
+use Rattle.form.proofs.limit.Reads as limit-reads
+use Rattle.geometry.proofs.Geometry.key_limit.Reads as key-limit-reads
+use Rattle.geometry.proofs.Geometry.places.Reads as places-reads
+use Rattle.geometry.proofs.Geometry.top_capacity.Reads as top-capacity-reads
+
+key-limit-requires : tie.Need-key-limit-requires
+key-limit-requires c κs = search needs
+
+places-requires : tie.Need-places-requires
+places-requires c κs = search needs
+
+top-capacity-requires : tie.Need-top-capacity-requires
+top-capacity-requires c κs = search needs
+
+limit-requires : tie.Need-limit-requires
+limit-requires c κs = search needs
+
+limit-requires-2 : tie.Need-limit-requires-2
+limit-requires-2 c κs = search needs
+
+limit-requires-3 : tie.Need-limit-requires-3
+limit-requires-3 c κs = search needs
+
+word-requires : tie.Need-word-requires
+word-requires c κs = search needs
+
+word-requires-2 : tie.Need-word-requires-2
+word-requires-2 c κs = search needs
+
+word-requires-3 : tie.Need-word-requires-3
+word-requires-3 c κs = search needs
+
+word-requires-4 : tie.Need-word-requires-4
+word-requires-4 c κs = search needs
+
+word-requires-5 : tie.Need-word-requires-5
+word-requires-5 c κs = search needs
+
+word-requires-6 : tie.Need-word-requires-6
+word-requires-6 c κs = search needs
+
+returns : tie.Need-returns
+returns c = rw (← header-is (c .before .before .before .before .before .before .before .before .before .before .before .before .before .args .g) (c .before .before .before .before .before .before .before .before .before .before .before .before .before .args .s .now), c .before .before .before .before .before .word .ensures .0, c .before .before .before .before .word2 .ensures .0, c .before .before .before .word3 .ensures .0, c .before .before .word4 .ensures .0, c .before .word5 .ensures .0, c .word6 .ensures .0, c .before .before .before .before .before .before .before .before .limit .ensures, c .before .before .before .before .before .before .before .limit2 .ensures, c .before .before .before .before .before .before .limit3 .ensures, c .before .before .before .before .before .before .before .before .before .top-capacity .ensures, c .before .before .before .before .before .before .before .before .before .before .places .ensures, c .before .before .before .before .before .before .before .before .before .before .before .key-limit .ensures)
+
+pub header-ok-spec : {M : Type 1} → statement M
+header-ok-spec =
+    tie.close
+    (tie.spec
+    key-limit-requires
+    places-requires
+    top-capacity-requires
+    limit-requires
+    limit-requires-2
+    limit-requires-3
+    word-requires
+    word-requires-2
+    word-requires-3
+    word-requires-4
+    word-requires-5
+    word-requires-6
+    returns)

@@ -1,0 +1,213 @@
+// The form check of a lent store (document 01, "Form check"), and what every call begins with: the
+// geometry of a store that passes, or the reason that it is turned down for.
+
+ghost use mathlib.Core.Path.{_≡_};
+ghost use mathlib.Core.Bool.{true};
+ghost use Prim.Native.Nat.{_+_, _-_, _*_, _≤_, _<_};
+ghost use lib.ListN.{length};
+ghost use Rattle.geometry.specs.Geometry.{Ranged};
+ghost use Rattle.entry.specs.Entry.{Sized};
+ghost use Rattle.form.specs.Form.{Headed, topOf, levelOf, headerOk, freshOf, markOf, listsOk, spareOk, passed};
+ghost use Rattle.form.specs.Checked.{checkedOf, limitOf};
+use directory::Directory;
+use entry::Opened;
+use geometry::Geometry;
+
+// The geometry of a store that passes, or the reason that it is turned down for.
+pub enum Checked {
+    Ready(Geometry),
+    Refused(u32),
+}
+
+// What every call begins with.
+pub fn check(s: &[u32]) -> Checked
+    ensures { λ r. ⌜ r ≡ checkedOf (now (s .entry)) ⌝ }
+{
+    match entry::open(s) {
+        Opened::Refused(n) => Checked::Refused(n),
+        Opened::Ready(g) => {
+            if passes(s, g) {
+                Checked::Ready(g)
+            } else {
+                Checked::Refused(4)
+            }
+        }
+    }
+}
+
+// Level 0 of a store.
+pub fn top_of(s: &[u32], g: Geometry) -> Directory
+    requires { ⌜ Sized g (now s) ⌝ }
+    ensures { λ r. ⌜ r ≡ topOf g (now (s .entry)) ⌝ }
+{
+    let width = g.block_records();
+    let list = g.marks_start();
+    let base = g.keys_start();
+    let pays = g.pays_start();
+    let records = chunks::word(s, 8);
+    Directory {
+        top: true,
+        bottom: false,
+        width: width,
+        chunks: (records + (width - 1)) / width,
+        list: list,
+        base: base,
+        pays: pays,
+        records: records,
+    }
+}
+
+// Level i of a store, from 1 on. A level below the bottom lists no block, so that four levels can always be gone over.
+pub fn level_of(s: &[u32], g: Geometry, i: usize) -> Directory
+    requires { ⌜ Sized g (now s) × ((1 ≤ i) × (i ≤ 3)) ⌝ }
+    ensures { λ r. ⌜ r ≡ levelOf g (now (s .entry)) i ⌝ }
+{
+    let width = g.block_records();
+    let h = g.levels();
+    let list = g.list_start(i);
+    let base = g.places_start();
+    let n = chunks::word(s, 8 + i);
+    Directory {
+        top: false,
+        bottom: i == h,
+        width: width,
+        chunks: n,
+        list: list,
+        base: base,
+        pays: 0,
+        records: 0,
+    }
+}
+
+// The most blocks that a level may list: none below the bottom.
+fn limit(g: Geometry, i: usize) -> usize
+    requires { ⌜ Ranged g × (i ≤ 3) ⌝ }
+    ensures { λ r. ⌜ r ≡ limitOf g i ⌝ }
+{
+    let h = g.levels();
+    if i <= h {
+        return g.capacity(i);
+    }
+    0
+}
+
+// The size words are within their limits.
+pub fn header_ok(s: &[u32], g: Geometry) -> bool
+    requires { ⌜ Sized g (now s) ⌝ }
+    ensures { λ r. ⌜ r ≡ headerOk g (now (s .entry)) ⌝ }
+{
+    let most = g.key_limit();
+    let places = g.places();
+    let room = g.top_capacity();
+    let k1 = limit(g, 1);
+    let k2 = limit(g, 2);
+    let k3 = limit(g, 3);
+    let live = chunks::word(s, 6);
+    let hand = chunks::word(s, 7);
+    let records = chunks::word(s, 8);
+    let n1 = chunks::word(s, 9);
+    let n2 = chunks::word(s, 10);
+    let n3 = chunks::word(s, 11);
+    (live <= most)
+        & ((hand < places) & ((records <= room) & ((n1 <= k1) & ((n2 <= k2) & (n3 <= k3)))))
+}
+
+// The n places listed from word `start` on are below p, and none is marked as used or listed twice. They get marked.
+pub fn list_fresh(s: &[u32], used: &mut [bool; 8192], start: usize, n: usize, p: usize) -> bool
+    requires { ⌜ (start + n ≤ length (now s)) × (p ≤ 8192) ⌝ }
+    ensures { λ r. ⌜ (r ≡ freshOf (now (s .entry)) p start n (now (used .entry)))
+        × (r ≡ true → now (used .exit) ≡ markOf (now (s .entry)) start n (now (used .entry))) ⌝ }
+{
+    for i in 0..n {
+        let q = chunks::word(s, start + i);
+        if p <= q {
+            return false;
+        }
+        if used[q] {
+            return false;
+        }
+        used[q] = true;
+    }
+    true
+}
+
+// Every list: its places are below P, none twice over all levels, and its unused entries are 0. The work
+// array has a mark for every place that a store may have.
+pub fn lists_ok(s: &[u32], g: Geometry) -> bool
+    requires { ⌜ Headed g (now s) ⌝ }
+    ensures { λ r. ⌜ r ≡ listsOk g (now (s .entry)) ⌝ }
+{
+    let h = g.levels();
+    let p = g.places();
+    let mut used = [false; 8192];
+    for i in 0..h {
+        let room = g.capacity(i + 1);
+        let level = level_of(s, g, i + 1);
+        let start = level.list;
+        let n = level.chunks;
+        if !list_fresh(s, &mut used, start, n, p) {
+            return false;
+        }
+        if !chunks::zeros(s, start + n, room - n) {
+            return false;
+        }
+    }
+    true
+}
+
+// The words of level 0 behind its pages are 0. Those of its last page are gone over with the page.
+pub fn spare_ok(s: &[u32], g: Geometry) -> bool
+    requires { ⌜ Headed g (now s) ⌝ }
+    ensures { λ r. ⌜ r ≡ spareOk g (now (s .entry)) ⌝ }
+{
+    let room = g.capacity(0);
+    let top = top_of(s, g);
+    let n = top.chunks;
+    let width = top.width;
+    let marks = top.list;
+    let keys = top.base;
+    let pays = top.pays;
+    let left = room - n;
+    let past = n * width;
+    if !chunks::zeros(s, marks + n, left) {
+        return false;
+    }
+    if !chunks::zeros(s, keys + past, left * width) {
+        return false;
+    }
+    chunks::zeros(s, pays + past, left * width)
+}
+
+// The form check of a store of this geometry. It reads no word of a place that no list names.
+pub fn passes(s: &[u32], g: Geometry) -> bool
+    requires { ⌜ Sized g (now s) ⌝ }
+    ensures { λ r. ⌜ r ≡ passed g (now (s .entry)) ⌝ }
+{
+    if !header_ok(s, g) {
+        return false;
+    }
+    if !lists_ok(s, g) {
+        return false;
+    }
+    if !spare_ok(s, g) {
+        return false;
+    }
+    let d0 = top_of(s, g);
+    if !directory::level_formed(s, d0) {
+        return false;
+    }
+    let d1 = level_of(s, g, 1);
+    if !directory::level_formed(s, d1) {
+        return false;
+    }
+    let d2 = level_of(s, g, 2);
+    if !directory::level_formed(s, d2) {
+        return false;
+    }
+    let d3 = level_of(s, g, 3);
+    if !directory::level_formed(s, d3) {
+        return false;
+    }
+    let live = chunks::word(s, 6);
+    live == walk::live(s, d0, d1, d2, d3)
+}

@@ -1,0 +1,175 @@
+-- Laws of the reading calls, for whoever uses them: a store that passes reads as a finite map, and one that does not is turned down for the first reason there is.
+use Prim.Native.Nat.{ℕ, suc, _≤_, _<_}
+use mathlib.Core.Path.{_≡_, refl, sym, ap, _∙_}
+use mathlib.Core.Bool.{Bool, true, false, and-eq-true-iff}
+use mathlib.Core.List.{List, [], _∷_}
+use mathlib.Core.Option.{Option, none, some}
+use native.Mathlib.Omega.{arith}
+use lib.Dec.{leb, eqb}
+use lib.ListN.{length, take, drop}
+use borrow.Author.Tests.{eqb-true, eq-eqb, ne-eqb, leb-true, leb-false}
+use Rattle.geometry.specs.Geometry.{within, isLegal, placeStart, blockWidth, storeLength, sizeReason}
+use Rattle.geometry.proofs.Laws.{legal-valid}
+use Rattle.levels.specs.Basics.{if_then_else_}
+use Rattle.levels.specs.Record.{Rec, Block, Level, firstKey, lastKey}
+use Rattle.levels.specs.Map.{find, view, mapOf, liveCount, firstFrom, next}
+use Rattle.levels.specs.Store.{rows}
+use Rattle.words.specs.Layout.{geometryAt, liveAt, storeAt, levelAt, placeOf}
+use Rattle.words.specs.Form.{keysRise, liveExact, formed, reasonOf}
+use Rattle.words.specs.Calls.{lookAnswer, nextAnswer, checkOf, lookUpOf, nextOf, enclosing, partOf, showIn, showOf}
+use Rattle.chunks.specs.Chunks.{Rising}
+use Rattle.chunks.proofs.Find.{find-here, find-past, find-below}
+use Rattle.entry.proofs.Laws.{size-short, size-broken, size-other, sized-opened, ready-reason}
+use Rattle.form.proofs.Ready.{checked-none, ready-live, ready-rises}
+use Rattle.store.proofs.Maps.{RowsRise, rows-rise, view-rises, unmarked-rises, map-find}
+use Rattle.store.proofs.Answering.{show-low, show-high, show-inside}
+
+-- the finite map that a store's words hold: its records in key order
+abbrev pub mapAt : List ℕ → List Rec
+mapAt ws = mapOf (rows (storeAt (geometryAt ws) ws))
+
+module _ (ws : List ℕ) (e : reasonOf ws ≡ 0) where
+  rise : RowsRise (rows (storeAt (geometryAt ws) ws))
+  unfolding keysRise
+  rise = rows-rise (rows (storeAt (geometryAt ws) ws)) (ready-rises ws (geometryAt ws) (checked-none ws e))
+
+  none-test : eqb (reasonOf ws) 0 ≡ true
+  none-test = eq-eqb (reasonOf ws) 0 e
+
+  -- the map has each key once
+  pub map-rises : Rising 0 (mapAt ws)
+  unfolding mapOf
+  map-rises = unmarked-rises 0 (view (rows (storeAt (geometryAt ws) ws))) (view-rises (rows (storeAt (geometryAt ws) ws)) rise)
+
+  -- Check answers 0.
+  pub check-passes : checkOf ws ≡ 0
+  unfolding checkOf
+  check-passes = e
+
+  -- Look up finds k in the map, with its payload.
+  pub look-up-map : (k : ℕ) → lookUpOf ws k ≡ lookAnswer (find k (mapAt ws))
+  unfolding lookUpOf
+  look-up-map k = rw (none-test, lookUpOf, map-find k (rows (storeAt (geometryAt ws) ws)) rise)
+
+  -- Next gives the first record of the map from k on.
+  pub next-map : (k : ℕ) → nextOf ws k ≡ nextAnswer (firstFrom k (mapAt ws))
+  unfolding nextOf next
+  next-map k = rw (none-test, nextOf)
+
+  -- "live (number of keys in the map)"
+  pub live-map : liveAt ws ≡ length (mapAt ws)
+  unfolding liveExact liveCount
+  live-map = eqb-true (liveAt ws) (length (mapAt ws)) (ready-live ws (geometryAt ws) (checked-none ws e))
+
+  -- Show, of a level that there is
+  pub show-level : (i k : ℕ) → 1 ≤ i → i ≤ geometryAt ws .h → showOf ws i k ≡ partOf (geometryAt ws) ws (enclosing k (levelAt (geometryAt ws) ws i))
+  unfolding showOf
+  show-level i k a b = rw (none-test, showOf) (show-inside (geometryAt ws) ws i k a b)
+
+  -- "an empty part if .. i is another number"
+  pub show-no-level : (i k : ℕ) → (1 ≤ i → geometryAt ws .h < i) → showOf ws i k ≡ []
+  unfolding showOf
+  show-no-level i k h = rw (none-test, showOf) (sym (go (leb 1 i) refl))
+    where
+      go : (t : Bool) → leb 1 i ≡ t → [] ≡ showIn (geometryAt ws) ws i k
+      go true q = show-high (geometryAt ws) ws i k (leb-true 1 i q) (h (leb-true 1 i q))
+      go false q = show-low (geometryAt ws) ws i k (leb-false 1 i q)
+
+-- The first record of a map from k on, in the words of document 01: "the smallest live key at or above k".
+pub first-none : (k low : ℕ) (m : List Rec) → Rising low m → firstFrom k m ≡ none → (j : ℕ) → k ≤ j → find j m ≡ none
+unfolding firstFrom find
+first-none k low [] h e j l = refl
+first-none k low (r ∷ rs) h e j l = go (leb k (r .key)) refl e (λ q. first-none k (suc (r .key)) rs (h .1) q j l)
+  where
+    go : (t : Bool) → leb k (r .key) ≡ t → _≡_ {A = Option Rec} (elim t [ true ↦ some r | false ↦ firstFrom k rs ]) none → (firstFrom k rs ≡ none → find j rs ≡ none) → find j (r ∷ rs) ≡ none
+    go true q z ih = absurd (let w : _≡_ {A = ℕ} 0 1 = cc in omega arith)
+    go false q z ih = find-past j r rs (λ w. omega (arith, leb-false k (r .key) q)) ∙ ih z
+
+-- what `some r` says: r is in the map, its key is not below k, and no key from k on is below it
+pub record Smallest (k : ℕ) (m : List Rec) (r : Rec) : Type 0 where
+  pub found : find (r .key) m ≡ some r
+  pub from : k ≤ r .key
+  pub least : (j : ℕ) → k ≤ j → j < r .key → find j m ≡ none
+
+pub first-some : (k low : ℕ) (m : List Rec) (r : Rec) → Rising low m → firstFrom k m ≡ some r → Smallest k m r
+unfolding firstFrom
+first-some k low [] r h e = absurd (let w : _≡_ {A = ℕ} 0 1 = cc in omega arith)
+first-some k low (x ∷ xs) r h e = go (leb k (x .key)) refl e (λ q. first-some k (suc (x .key)) xs r (h .1) q)
+  where
+    here : x ≡ r → k ≤ x .key → Smallest k (x ∷ xs) r
+    here w l = rw (← w) (record {
+      found = find-here (x .key) x xs refl;
+      from = l;
+      least = λ j a b. find-below j (x .key) (x ∷ xs) (omega arith, h .1) b;
+    })
+
+    later : x .key < k → Smallest k xs r → Smallest k (x ∷ xs) r
+    later l s = record {
+      found = find-past (r .key) x xs (λ w. omega (arith, s .from)) ∙ s .found;
+      from = s .from;
+      least = λ j a b. find-past j x xs (λ w. omega arith) ∙ s .least j a b;
+    }
+
+    go : (t : Bool) → leb k (x .key) ≡ t → elim t [ true ↦ some x | false ↦ firstFrom k xs ] ≡ some r → (firstFrom k xs ≡ some r → Smallest k xs r) → Smallest k (x ∷ xs) r
+    go true q z ih = here (let w : x ≡ r = cc in w) (leb-true k (x .key) q)
+    go false q z ih = later (leb-false k (x .key) q) (ih z)
+
+-- what Show's block is: "the block whose first to last key encloses k"
+pub enclosing-encloses : (k : ℕ) (l : Level) (b : Block) → enclosing k l ≡ some b → (firstKey (b .recs) ≤ k) × (k ≤ lastKey (b .recs))
+unfolding enclosing
+enclosing-encloses k [] b e = absurd (let w : _≡_ {A = ℕ} 0 1 = cc in omega arith)
+enclosing-encloses k (x ∷ xs) b e = go (within (firstKey (x .recs)) (lastKey (x .recs)) k) refl e (λ q. enclosing-encloses k xs b q)
+  where
+    go : (t : Bool) → within (firstKey (x .recs)) (lastKey (x .recs)) k ≡ t → elim t [ true ↦ some x | false ↦ enclosing k xs ] ≡ some b
+        → (enclosing k xs ≡ some b → (firstKey (b .recs) ≤ k) × (k ≤ lastKey (b .recs))) → (firstKey (b .recs) ≤ k) × (k ≤ lastKey (b .recs))
+    go true q z ih =
+        let w : x ≡ b = cc in
+        let t = simp and-eq-true-iff at q in
+        rw (← w) (leb-true (firstKey (x .recs)) k (t .0), leb-true k (lastKey (x .recs)) (t .1))
+    go false q z ih = ih z
+
+-- "given back as that part of the lent store": the 2 + 2B words of the block's place
+pub show-block-words : (ws : List ℕ) (e : reasonOf ws ≡ 0) (i k : ℕ) (b : Block) → 1 ≤ i → i ≤ geometryAt ws .h → enclosing k (levelAt (geometryAt ws) ws i) ≡ some b
+    → showOf ws i k ≡ take (blockWidth (geometryAt ws)) (drop (placeStart (geometryAt ws) (placeOf b)) ws)
+show-block-words ws e i k b a h q = show-level ws e i k a h ∙ ap (partOf (geometryAt ws) ws) q
+
+-- "an empty part if there is none"
+pub show-no-block : (ws : List ℕ) (e : reasonOf ws ≡ 0) (i k : ℕ) → 1 ≤ i → i ≤ geometryAt ws .h → enclosing k (levelAt (geometryAt ws) ws i) ≡ none → showOf ws i k ≡ []
+show-no-block ws e i k a h q = show-level ws e i k a h ∙ ap (partOf (geometryAt ws) ws) q
+
+-- "Why a call is turned down. In this order".
+reason-size : (ws : List ℕ) (n : ℕ) → 1 ≤ n → sizeReason (length ws) (geometryAt ws) ≡ n → checkOf ws ≡ n
+unfolding checkOf reasonOf
+reason-size ws n h e = rw (ne-eqb (sizeReason (length ws) (geometryAt ws)) 0 (λ z. omega arith), reasonOf) e
+
+-- "1. The store has fewer than 12 words."
+pub check-short : (ws : List ℕ) → length ws < 12 → checkOf ws ≡ 1
+check-short ws h = reason-size ws 1 (omega arith) (size-short (length ws) (geometryAt ws) (omega arith))
+
+-- "2. The geometry .. breaks a limit above."
+pub check-geometry : (ws : List ℕ) → 12 ≤ length ws → isLegal (geometryAt ws) ≡ false → checkOf ws ≡ 2
+check-geometry ws h l = reason-size ws 2 (omega arith) (size-broken (length ws) (geometryAt ws) h l)
+
+-- "3. The length differs from the layout's."
+pub check-length : (ws : List ℕ) → 12 ≤ length ws → isLegal (geometryAt ws) ≡ true → (length ws ≡ storeLength (geometryAt ws) → ⊥) → checkOf ws ≡ 3
+check-length ws h l k = reason-size ws 3 (omega arith) (size-other (length ws) (geometryAt ws) h l k)
+
+-- "4. The form check finds a breach."
+pub check-form : (ws : List ℕ) → isLegal (geometryAt ws) ≡ true → length ws ≡ storeLength (geometryAt ws) → checkOf ws ≡ (if formed (geometryAt ws) ws then 0 else 4)
+unfolding checkOf
+check-form ws l k = ready-reason ws (geometryAt ws) (sized-opened ws (geometryAt ws) (legal-valid (geometryAt ws) l) refl k)
+
+-- a call that is turned down: "the answer has only the number and zeros"
+module _ (ws : List ℕ) (h : reasonOf ws ≡ 0 → ⊥) where
+  pub look-up-turned-down : (k : ℕ) → lookUpOf ws k ≡ record { reason = checkOf ws; found = false; pay = 0 }
+  unfolding lookUpOf checkOf
+  look-up-turned-down k = rw (ne-eqb (reasonOf ws) 0 h, lookUpOf)
+
+  pub next-turned-down : (k : ℕ) → nextOf ws k ≡ record { reason = checkOf ws; found = false; key = 0; pay = 0 }
+  unfolding nextOf checkOf
+  next-turned-down k = rw (ne-eqb (reasonOf ws) 0 h, nextOf)
+
+  -- "an empty part if .. the store is turned down"
+  pub show-turned-down : (i k : ℕ) → showOf ws i k ≡ []
+  unfolding showOf
+  show-turned-down i k = rw (ne-eqb (reasonOf ws) 0 h, showOf)
