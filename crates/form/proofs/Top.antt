@@ -12,13 +12,13 @@ use lib.ListN.{length, take, drop, drop-of-length-le}
 use lib.Seq.{take-all, take-nil, drop-nil}
 use Rattle.geometry.specs.declared.Geometry.{Geometry}
 use Rattle.geometry.specs.Geometry.{capacityOf, marksStart, keysStart, paysStart}
-use Rattle.levels.specs.Basics.{all}
+use Rattle.levels.specs.Basics.{if_then_else_, all}
 use Rattle.levels.specs.Record.{Rec, rising, cleanTombstones}
 use Rattle.words.specs.Layout.{word, slotsAt, pageSlots, topSlots, topRecs, topCountAt}
 use Rattle.words.specs.Form.{blank, topUnusedZero}
 use Rattle.chunks.specs.Chunks.{zerosAt, chunkRecs}
 use Rattle.chunks.proofs.Slots.{slots-length}
-use Rattle.directory.specs.Directory.{pickℕ, chunkAt, recordsFrom, recordsOf, keptOf, leanLevel, tidyChunk, tidyFrom, levelFormed}
+use Rattle.directory.specs.Directory.{chunkAt, recordsFrom, recordsOf, keptOf, leanLevel, tidyChunk, tidyFrom, levelFormed}
 use Rattle.directory.proofs.Laws.{formed-is}
 use Rattle.form.specs.Form.{topOf, spareOk, Headed}
 use Rattle.form.proofs.Tests.{test-same, and-swap, all-append, range, range-split}
@@ -28,7 +28,7 @@ use Rattle.form.proofs.Sizes.{top-paged}
 
 -- the smaller of two numbers
 abbrev pub least : ℕ → ℕ → ℕ
-least r b = pickℕ (ltb r b) r b
+least r b = if ltb r b then r else b
 
 least-is : (P : ℕ → Type 0) (r b : ℕ) → (r < b → P r) → (b ≤ r → P b) → P (least r b)
 least-is P r b f k = dite (decLt r b) (λ y. rw (lt-ltb r b y) (f y)) (λ n. let l : b ≤ r = omega arith in rw (le-ltb r b l) (k l))

@@ -27,7 +27,7 @@ use Rattle.search.specs.declared.Found.{Found}
 use Rattle.search.specs.declared.Found.the-variants as found
 use Rattle.search.specs.declared.Enclosed.{Enclosed}
 use Rattle.search.specs.declared.Enclosed.the-variants as enclosed
-use Rattle.search.specs.Search.{foundOf, encloses, pickEnclosed, enclosedFrom, enclosedOf}
+use Rattle.search.specs.Search.{foundOf, encloses, enclosedFrom, enclosedOf}
 use Rattle.form.specs.declared.Checked.the-variants.{Ready, Refused}
 use Rattle.form.specs.Form.{topOf, levelOf}
 use Rattle.form.specs.Checked.{checkedOf}
@@ -160,7 +160,7 @@ unfolding enclosedFrom
 enclosed-inside ws d k i ℕ.zero j e = absurd (let z : _≡_ {A = ℕ} 0 1 = cc in omega arith)
 enclosed-inside ws d k i (suc n) j e = go (encloses k (chunkRecs ws (chunkAt ws d i))) e (λ q. enclosed-inside ws d k (suc i) n j q)
   where
-    go : (t : Bool) → pickEnclosed t (enclosed.At i) (enclosedFrom ws d k (suc i) n) ≡ enclosed.At j → (enclosedFrom ws d k (suc i) n ≡ enclosed.At j → j < suc i + n) → j < i + suc n
+    go : (t : Bool) → (if t then enclosed.At i else enclosedFrom ws d k (suc i) n) ≡ enclosed.At j → (enclosedFrom ws d k (suc i) n ≡ enclosed.At j → j < suc i + n) → j < i + suc n
     go true q ih = let w : i ≡ j = cc in omega arith
     go false q ih = omega (arith, ih q)
 
@@ -189,7 +189,7 @@ module _ (ws : List ℕ) (g : Geometry) (e : checkedOf ws ≡ Ready g) where
         ∙ go k j n (encloses k (chunkRecs ws (chunkAt ws (levelOf g ws i) j))) (enclosing k (map (blockAt g ws) (wordsFrom ws (suc (listStart g i + j)) n))) (enclosedFrom ws (levelOf g ws i) k (suc j) n) ih
       where
         go : (k j n : ℕ) (t : Bool) (o : Option Block) (r : Enclosed) → o ≡ listedBlock g ws (listStart g i) r
-            → elim t [ true ↦ some (blockAt g ws (word ws (listStart g i + j))) | false ↦ o ] ≡ listedBlock g ws (listStart g i) (pickEnclosed t (enclosed.At j) r)
+            → elim t [ true ↦ some (blockAt g ws (word ws (listStart g i + j))) | false ↦ o ] ≡ listedBlock g ws (listStart g i) (if t then enclosed.At j else r)
         go k j n true o r u = refl
         go k j n false o r u = u
 
