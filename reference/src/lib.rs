@@ -11,6 +11,7 @@
 #![forbid(unsafe_code)]
 
 pub mod block;
+pub mod breach;
 pub mod calls;
 pub mod choose;
 mod fault;
@@ -21,6 +22,7 @@ pub mod layout;
 pub mod level;
 pub mod merge;
 pub mod random;
+pub mod readings;
 pub mod script;
 pub mod unreachable;
 pub mod work;
