@@ -150,7 +150,7 @@ fn perform(s: &mut [u32], n: usize, command: u32) -> usize
 fn main() {
     let mut words = [0u32; 4096];
     let mut n: usize = 0;
-    for _ in 0..1000000 {
+    for _ in 0..1000000u32 {
         let command = word();
         if command == 0 {
             return;

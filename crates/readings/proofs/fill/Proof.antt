@@ -1,8 +1,8 @@
+use lib.ListN.{length, length-set}
 use borrow.Author.Needs.{needs}
 use native.Mathlib.Omega.{arith}
 use mathlib.Core.Path.{_≡_}
 use Prim.Native.Nat.{_≤_, _<_, _-_}
-use lib.ListN.{length}
 use Rattle.readings.proofs.fill.Statement.{statement}
 use Rattle.readings.proofs.fill.Tie as tie
 use Rattle.readings.proofs.fill.Reads as reads
@@ -10,10 +10,10 @@ use Rattle.readings.proofs.fill.Lts as lts
 use Rattle.readings.proofs.word.Reads as word-reads
 
 abbrev Inv-loop : tie.InvT-loop
-Inv-loop s₀ i₀ i-end s i = (i ≤ length s) × ((length s ≡ length s₀) × (i-end ≡ length s₀))
+Inv-loop s₀ i₀ i-end s i = (i ≤ length s₀) × ((length s ≡ length s₀) × (i-end ≡ length s₀))
 
 abbrev μ-loop : tie.MeasureT-loop
-μ-loop s₀ i₀ i-end s i = length s - i
+μ-loop s₀ i₀ i-end s i = length s₀ - i
 
 loop-holds : tie.Need-loop-holds Inv-loop μ-loop
 loop-holds c = search needs
@@ -31,10 +31,10 @@ add-i : tie.Need-add-i Inv-loop μ-loop
 add-i c = search needs
 
 loop-less : tie.Need-loop-less Inv-loop μ-loop
-loop-less c = search needs
+loop-less c = omega arith
 
 loop-again : tie.Need-loop-again Inv-loop μ-loop
-loop-again c = search needs
+loop-again c = (omega arith, (simp length-set (omega arith), omega arith))
 
 same-length : tie.Need-same-length Inv-loop μ-loop
 same-length c = search needs

@@ -1,3 +1,8 @@
+use borrow.Author.Needs.{needs}
+use native.Mathlib.Omega.{arith}
+use mathlib.Core.Path.{_≡_}
+use Prim.Native.Nat.{_≤_, _<_, _-_}
+use lib.ListN.{length}
 use Rattle.readings.proofs.main.Statement.{statement}
 use Rattle.readings.proofs.main.Tie as tie
 use Rattle.readings.proofs.main.Reads as reads
@@ -6,46 +11,37 @@ use Rattle.readings.proofs.perform.Reads as perform-reads
 use Rattle.readings.proofs.word.Reads as word-reads
 
 abbrev Inv-loop : tie.InvT-loop
-Inv-loop words₀ n₀ counter₀ words n counter = ?
+Inv-loop words₀ n₀ counter₀ words n counter = (n ≤ 4096) × ((length words ≡ 4096) × (counter ≤ 1000000))
 
 abbrev μ-loop : tie.MeasureT-loop
-μ-loop words₀ n₀ counter₀ words n counter = ?
+μ-loop words₀ n₀ counter₀ words n counter = 1000000 - counter
 
--- src/main.rt:153:5
 loop-holds : tie.Need-loop-holds Inv-loop μ-loop
-loop-holds c = ?
+loop-holds c = search needs
 
--- src/main.rt:154:13
 word-requires : tie.Need-word-requires Inv-loop μ-loop
-word-requires c κs = ?
+word-requires c κs = search needs
 
--- src/main.rt:156:13
 returns : tie.Need-returns Inv-loop μ-loop
-returns c = ?
+returns c = search needs
 
--- src/main.rt:158:21
 slice-aggregate-perform : tie.Need-slice-aggregate-perform Inv-loop μ-loop
-slice-aggregate-perform c = ?
+slice-aggregate-perform c = search needs
 
--- src/main.rt:158:9
 perform-requires : tie.Need-perform-requires Inv-loop μ-loop
-perform-requires c κs = ?
+perform-requires c κs = search needs
 
--- src/main.rt:153:9
 add-counter : tie.Need-add-counter Inv-loop μ-loop
-add-counter c = ?
+add-counter c = search needs
 
--- src/main.rt:153:5
 loop-less : tie.Need-loop-less Inv-loop μ-loop
-loop-less c = ?
+loop-less c = search needs
 
--- src/main.rt:153:5
 loop-again : tie.Need-loop-again Inv-loop μ-loop
-loop-again c = ?
+loop-again c = search needs
 
--- src/main.rt:150:1
 returns-2 : tie.Need-returns-2 Inv-loop μ-loop
-returns-2 c = ?
+returns-2 c = search needs
 
 pub main-spec : {M : Type 1} → statement M
 main-spec =
