@@ -13,6 +13,8 @@ use crate::random::Random;
 use crate::script::Line;
 use crate::unreachable;
 
+/// The seed of the stored test.
+pub const STORED: u64 = 1;
 /// The words that the program has room for.
 pub const ROOM: usize = 4096;
 /// The words of the longest random store.
@@ -276,9 +278,7 @@ pub fn records(view: View, level: usize) -> Vec<Record> {
         return (0..view.count(0)).map(|at| view.zero_record(at)).collect();
     }
     let blocks = view.list(level).iter();
-    blocks
-        .flat_map(|&slot| view.slot(slot).records())
-        .collect()
+    blocks.flat_map(|&slot| view.slot(slot).records()).collect()
 }
 
 /// What a store is formatted with: its own geometry, or one that does not fit it.
@@ -366,7 +366,7 @@ fn refused(random: &mut Random) -> Vec<Case> {
 }
 
 /// The store with any one word changed, mostly one that the form check reads.
-fn one_word(random: &mut Random, words: &[u32]) -> Vec<u32> {
+pub fn one_word(random: &mut Random, words: &[u32]) -> Vec<u32> {
     let mut words = words.to_vec();
     let Ok(view) = View::of(&words) else {
         return words;
@@ -387,12 +387,14 @@ fn one_word(random: &mut Random, words: &[u32]) -> Vec<u32> {
     let at = random.between(start, end - 1);
     let old = words[at];
     let other = words[random.below(end)];
+    let bit = old ^ 1 << random.below(32);
     let near = [old.wrapping_add(1), old.wrapping_sub(1), other];
-    let far = [0, u32::MAX, old ^ 1 << random.below(32)];
-    words[at] = match random.one_in(2) {
+    let far = [0, u32::MAX, bit];
+    let value = match random.one_in(2) {
         true => random.pick(&near),
         false => random.pick(&far),
     };
+    words[at] = if value == old { bit } else { value };
     words
 }
 
@@ -507,6 +509,17 @@ fn borders(random: &mut Random) -> Vec<Vec<u32>> {
     let levels = [marks[0].clone(), marks[1].clone(), Vec::new()];
     stores.push(compose(random, three, &pages, &levels));
     stores.push(compose(random, three, &[], &levels));
+    // Every level full and the map at its limit; then one mark less for a key of
+    // level h, and the map is above it.
+    let full = with_fewest_slots([5, 1, 2, 3, 3]).expect("three levels");
+    for last in [78, 79] {
+        let mut zero = sized(&[10], 60, 2, mark).concat();
+        zero[9].key = last;
+        let upper = [sized(&[5; 6], 0, 2, mark), sized(&[5; 18], 1, 2, mark)];
+        let bottom = sized(&[4; 54], 0, 1, plain);
+        let levels = [upper[0].clone(), upper[1].clone(), bottom];
+        stores.push(compose(random, full, &zero, &levels));
+    }
     // The map at its limit.
     stores.push(limited(random, three, 0));
     stores.push(limited(random, two, 0));
@@ -722,7 +735,9 @@ fn wasteful(random: &mut Random, geometry: Geometry, breach: Breach) -> Option<V
         }
         Breach::Level if capacity >= 4 => {
             let blocks = random.between(4, capacity);
-            (0..blocks).map(|at| if at % 2 == 0 { b } else { 1 }).collect()
+            (0..blocks)
+                .map(|at| if at % 2 == 0 { b } else { 1 })
+                .collect()
         }
         _ => return None,
     };

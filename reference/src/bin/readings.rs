@@ -41,6 +41,8 @@ fn kinds(cases: &[Case]) -> String {
     for case in cases {
         *counts.entry(case.kind).or_insert(0) += 1;
     }
-    let lines = counts.iter().map(|(kind, count)| format!("{count} {kind:?}\n"));
+    let lines = counts
+        .iter()
+        .map(|(kind, count)| format!("{count} {kind:?}\n"));
     lines.collect()
 }
