@@ -14,7 +14,7 @@
 //
 // All but l and f leave the store as it is; what is not there is printed as 0.
 
-ghost use Prim.Native.Nat.{_≤_, _<_};
+ghost use Prim.Native.Nat.{_≤_};
 ghost use lib.ListN.{length};
 use store::Formatted;
 use store::Looked;

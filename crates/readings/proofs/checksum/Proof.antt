@@ -1,3 +1,4 @@
+-- Safe and ends; the sum stays below the modulus, so that neither the product nor the last cast overflows.
 use borrow.Author.Needs.{needs}
 use native.Mathlib.Omega.{arith}
 use mathlib.Core.Path.{_≡_}

@@ -1,3 +1,4 @@
+-- Safe: four bytes below 256 fit a word.
 use native.Mathlib.Omega.{arith}
 use borrow.Author.Needs.{needs}
 use Rattle.readings.proofs.joined.Statement.{statement}

@@ -1,7 +1,8 @@
+-- Safe and ends.
 use borrow.Author.Needs.{needs}
 use native.Mathlib.Omega.{arith}
 use mathlib.Core.Path.{_≡_}
-use Prim.Native.Nat.{_≤_, _<_, _-_}
+use Prim.Native.Nat.{_≤_, _-_}
 use lib.ListN.{length}
 use Rattle.readings.proofs.print.Statement.{statement}
 use Rattle.readings.proofs.print.Tie as tie
