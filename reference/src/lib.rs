@@ -11,9 +11,11 @@
 #![forbid(unsafe_code)]
 
 pub mod block;
+pub mod borders;
 pub mod breach;
 pub mod calls;
 pub mod choose;
+pub mod damage;
 mod fault;
 pub mod form;
 pub mod generate;
