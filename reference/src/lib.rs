@@ -11,8 +11,11 @@
 #![forbid(unsafe_code)]
 
 pub mod block;
+pub mod borders;
+pub mod breach;
 pub mod calls;
 pub mod choose;
+pub mod damage;
 mod fault;
 pub mod form;
 pub mod generate;
@@ -21,6 +24,7 @@ pub mod layout;
 pub mod level;
 pub mod merge;
 pub mod random;
+pub mod readings;
 pub mod script;
 pub mod unreachable;
 pub mod work;

@@ -7,6 +7,7 @@ mod faults;
 mod figures;
 mod geometry;
 mod lists;
+mod readings;
 mod refusals;
 mod scripts;
 mod steps;
