@@ -33,7 +33,7 @@ blocks-snoc z ws ys i (suc n) = let e : i + suc n ≡ suc i + n = omega arith in
 
 no-blocks : (z : Layout) (ws ys : List ℕ) → blocks z false ws ys 0 0 ≡ []
 unfolding blocks chunkOf
-no-blocks z false ws ys = refl
+no-blocks z ws ys = refl
 
 reverse-snoc : (l : Level) (b : Block) (acc : Level) → reverseAux (l ++ (b ∷ [])) acc ≡ b ∷ reverseAux l acc
 reverse-snoc [] b acc = refl
@@ -49,7 +49,7 @@ module _ (z : Layout) (a : Memory) (ys : List ℕ) (empty : a .st .buf ≡ empty
   ends-with : (m : ℕ) → ((i : ℕ) → i < m → getD (a .out) i 0 ≡ getD ys i 0)
       → (lastSize z (a .words) (a .out) m ≡ headSize (z .b) (reverseAux (blocks z false (a .words) ys 0 m) [])) × LastIs z (a .words) (a .out) m (reverseAux (blocks z false (a .words) ys 0 m) [])
   unfolding lastSize
-  ends-with zero f = rw (no-blocks z false (a .words) ys) (refl, tt)
+  ends-with zero f = rw (no-blocks z (a .words) ys) (refl, tt)
   ends-with (suc m) f =
       let e : suc m - 1 ≡ m = omega arith in
       let g : 0 + m ≡ m = omega arith in
