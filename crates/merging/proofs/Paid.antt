@@ -178,7 +178,7 @@ module _ (z : Layout) (t : Inputs) (s a : Memory) (p : Paid z t s a) where
       }
 
   module _ (bottom : Bool) (c : Chunk) (hi : c .n ≤ z .b) where
-    took-x-paid : (h : Head) (e : ℕ) → a .st .xi < t .x → a .st .xj < c .n → Paid z t s (tookX z bottom a (headAt (a .words) c (a .st .xj)) h e)
+    pub took-x-paid : (h : Head) (e : ℕ) → a .st .xi < t .x → a .st .xj < c .n → Paid z t s (tookX z bottom a (headAt (a .words) c (a .st .xj)) h e)
     unfolding tookX
     took-x-paid h e gx jx = go (follows z bottom (headAt (a .words) c (a .st .xj)) h (a .st .buf .n) e) refl
       where
@@ -196,7 +196,7 @@ module _ (z : Layout) (t : Inputs) (s a : Memory) (p : Paid z t s a) where
             let ye = p .y-end in
             paid-by (passX (a .st) (c .n)) _ 1 1 (q .m) (q .writes) (q .buf) (omega (arith, f .twice)) (omega (arith, f .far)) (f .end-high) (omega arith) (gather-spent z (withProgress a (passX (a .st) (c .n))) bottom (headAt (a .words) c (a .st .xj)))
 
-    took-y-paid : (h : Head) (e : ℕ) → a .st .yi < t .y → a .st .yj < c .n → Paid z t s (tookY z bottom a (headAt (a .words) c (a .st .yj)) h e)
+    pub took-y-paid : (h : Head) (e : ℕ) → a .st .yi < t .y → a .st .yj < c .n → Paid z t s (tookY z bottom a (headAt (a .words) c (a .st .yj)) h e)
     unfolding tookY
     took-y-paid h e gy jy = go (follows z bottom (headAt (a .words) c (a .st .yj)) h (a .st .buf .n) e) refl
       where
@@ -214,7 +214,7 @@ module _ (z : Layout) (t : Inputs) (s a : Memory) (p : Paid z t s a) where
             let xe = p .x-end in
             paid-by (passY (a .st) (c .n)) _ 1 1 (q .m) (q .writes) (q .buf) (omega (arith, f .twice)) (omega (arith, f .far)) (omega arith) (f .end-high) (gather-spent z (withProgress a (passY (a .st) (c .n))) bottom (headAt (a .words) c (a .st .yj)))
 
-    took-both-paid : (d : Chunk) → d .n ≤ z .b → a .st .xi < t .x → a .st .xj < c .n → a .st .yi < t .y → a .st .yj < d .n → Paid z t s (tookBoth z bottom a (headAt (a .words) c (a .st .xj)) (headAt (a .words) d (a .st .yj)))
+    pub took-both-paid : (d : Chunk) → d .n ≤ z .b → a .st .xi < t .x → a .st .xj < c .n → a .st .yi < t .y → a .st .yj < d .n → Paid z t s (tookBoth z bottom a (headAt (a .words) c (a .st .xj)) (headAt (a .words) d (a .st .yj)))
     unfolding tookBoth
     took-both-paid d hd gx jx gy jy =
         let f = pass-x-far (z .b) (t .x) (a .st) (c .n) gx jx hi in

@@ -365,11 +365,11 @@ module _ (z : Layout) (t : Inputs) (xs ys : List ℕ) (d : Flash) where
           (rw (q .i, q .j) (pass-x-in z (t .pages) (a .words) xs (t .x) (a .st) (formed (t .pages) a xs (t .x) (c .upper)) gx (c .in-x gx))) ny-in (rw (q .i) (pass-x-le (a .st) nx (t .x) gx)) (pass-y-le (passX (a .st) nx) ny (t .y) iy)
           (head-x gx) (block-x gx) (shows-x gx .head) (bit-low (a .words) (chunk-x gx) (a .st .xj)) (rest (block-x gx ∷ rest-of-x gx)) (rest (block-y gy ∷ rest-of-y gy)) (rw (q .i, q .j) px) py
 
-  head-at : (pages : Bool) (ws list : List ℕ) (i j end : ℕ) → i < end → headOf z pages ws list i j end ≡ headAt ws (chunkOf z pages ws list i) j
+  pub head-at : (pages : Bool) (ws list : List ℕ) (i j end : ℕ) → i < end → headOf z pages ws list i j end ≡ headAt ws (chunkOf z pages ws list i) j
   unfolding headOf
   head-at pages ws list i j end h = rw (lt-leb end i h)
 
-  head-no : (pages : Bool) (ws list : List ℕ) (i j end : ℕ) → end ≤ i → headOf z pages ws list i j end ≡ noHead
+  pub head-no : (pages : Bool) (ws list : List ℕ) (i j end : ℕ) → end ≤ i → headOf z pages ws list i j end ≡ noHead
   unfolding headOf
   head-no pages ws list i j end h = rw (le-leb end i h)
 
