@@ -178,4 +178,4 @@ closable z t xs ys end d o a c h g all he hy r =
     ja : Joined v (afterJoined z (a .words) (a .out) ys v end)
     ja = after-joined z (a .words) (a .out) ys v end af
     yi : (v .yi ≤ afterJoined z (a .words) (a .out) ys v end .yi) × (afterJoined z (a .words) (a .out) ys v end .yi ≤ end)
-    yi = after-yi z (a .words) (a .out) ys v end af (omega arith)
+    yi = after-yi z (a .words) (a .out) ys v end af (omega (arith, vy))
