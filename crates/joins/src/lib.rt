@@ -153,8 +153,8 @@ fn join_after(
     w
 }
 
-// The blocks that are left of the lower list follow.
-fn copy_rest(out: &mut [u32; 4096], ys: &[u32; 4096], m: usize, from: usize, end: usize)
+// The entries of a place list from `from` to `end`, into another list from entry m on.
+pub fn copy_entries(out: &mut [u32; 4096], ys: &[u32; 4096], m: usize, from: usize, end: usize)
     requires { ⌜ (end ≤ 4096) × (m + (end - from) ≤ 4096) ⌝ }
     ensures { λ _. ⌜ now (out .exit) ≡ restedOut (now (out .entry)) m (now (ys .entry)) from (end - from) ⌝ }
 {
@@ -184,7 +184,7 @@ pub fn close(
     let mut v = stream::flush(s, used, out, z, b);
     let m = v.m;
     let from = v.yi;
-    copy_rest(out, ys, m, from, end);
+    copy_entries(out, ys, m, from, end);
     v.m = m + (end - from);
     v
 }

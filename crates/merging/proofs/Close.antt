@@ -54,7 +54,7 @@ pub entries-snoc : (ys : List ℕ) (i n : ℕ) → entries ys i (suc n) ≡ entr
 entries-snoc ys i zero = let e : i + zero ≡ i = omega arith in rw e
 entries-snoc ys i (suc n) = let e : i + suc n ≡ suc i + n = omega arith in rw (e, ← entries-snoc ys (suc i) n)
 
-rested-length : (out : List ℕ) (m : ℕ) (ys : List ℕ) (i n : ℕ) → length (restedOut out m ys i n) ≡ length out
+pub rested-length : (out : List ℕ) (m : ℕ) (ys : List ℕ) (i n : ℕ) → length (restedOut out m ys i n) ≡ length out
 unfolding restedOut
 rested-length out m ys i zero = refl
 rested-length out m ys i (suc n) = simp length-set (rested-length out m ys i n)
@@ -163,7 +163,7 @@ flushed-yi : (z : Layout) (a : Memory) → flushed z a .st .yi ≡ a .st .yi
 unfolding flushed
 flushed-yi z a = if-either (λ (b : Memory). b .st .yi ≡ a .st .yi) (eqb (a .st .buf .n) 0) a (writtenAt z a (nextFree z a)) refl refl
 
-flushed-out : (z : Layout) (a : Memory) → length (flushed z a .out) ≡ length (a .out)
+pub flushed-out : (z : Layout) (a : Memory) → length (flushed z a .out) ≡ length (a .out)
 unfolding flushed
 flushed-out z a = if-either (λ (b : Memory). length (b .out) ≡ length (a .out)) (eqb (a .st .buf .n) 0) a (writtenAt z a (nextFree z a)) refl (length-set (a .out) (a .st .m) (nextFree z a))
 
@@ -237,6 +237,7 @@ module _ (z : Layout) (d : Flash) (a : Memory) (ys : List ℕ) (end : ℕ) (size
       where
         test : size (storedAt z (a .words) q) ≡ countAt z (a .words) q
         test = recs-length (a .words) (blockChunk z (a .words) q) 0 (countAt z (a .words) q)
+
         go : (t : Bool) → leb (size e + countAt z (a .words) q) (z .b) ≡ t → Laid [] (e ∷ es) w (if t then afterTaken z (a .words) q (pulled z (a .words) (a .out) w) else w)
         go true g =
             let l = leb-true (size e + countAt z (a .words) q) (z .b) g in
@@ -254,8 +255,10 @@ module _ (z : Layout) (d : Flash) (a : Memory) (ys : List ℕ) (end : ℕ) (size
       where
         test : size (storedAt z (a .words) q) ≡ countAt z (a .words) q
         test = recs-length (a .words) (blockChunk z (a .words) q) 0 (countAt z (a .words) q)
+
         same : leb (w .buf .n + countAt z (a .words) q) (z .b) ≡ leb (length (s ∷ rs) + countAt z (a .words) q) (z .b)
         same = ap (λ (n : ℕ). leb (n + countAt z (a .words) q) (z .b)) (some-left s rs done k .1)
+
         go : (t : Bool) → leb (w .buf .n + countAt z (a .words) q) (z .b) ≡ t → Laid (s ∷ rs) done w (if t then afterTaken z (a .words) q w else w)
         go true g =
             let h : leb (length (s ∷ rs) + countAt z (a .words) q) (z .b) ≡ true = sym same ∙ g in
@@ -275,11 +278,13 @@ module _ (z : Layout) (d : Flash) (a : Memory) (ys : List ℕ) (end : ℕ) (size
       ended : (l : Level) → layAll z (layDone z d l) [] ≡ layAll z d (join (z .b) l [])
       ended [] = sym (lay-reverse z d [] [])
       ended (e ∷ es) = sym (lay-reverse z d (e ∷ es) [])
+
       cases : (p : List Rec) (done : Level) → Pend z d a p done w → (length p ≡ 0 → lastSize z (a .words) (a .out) (w .m) ≡ headSize (z .b) done) → (length p ≡ 0 → LastIs z (a .words) (a .out) (w .m) done) → w .yi < end
           → Laid p done w (afterJoined z (a .words) (a .out) ys w end)
       cases [] [] k l t y = after-none w h r y (f y) k (l refl)
       cases [] (e ∷ es) k l t y = after-last w h r y (f y) e es k (l refl) (t refl) (pend-listed z d a [] e es w k)
       cases (s ∷ rs) done k l t y = after-new w h r y (f y) s rs done k
+
       go : Dec (w .yi < end) → flashOf (rested (flushed z (withProgress a (afterJoined z (a .words) (a .out) ys w end))) ys end) ≡ layAll z d (join (z .b) (flush p done) (blocks z false (a .words) ys (w .yi) (end - w .yi)))
       go (no n) = rw (le-leb end (w .yi) (omega arith)) (finish-at p done w h r k ∙ rw (blocks-end z (a .words) ys (w .yi) end (omega arith)) (ended (flush p done)))
       go (yes y) = cases p done k last tail y
@@ -303,13 +308,16 @@ module _ (z : Layout) (d : Flash) (a : Memory) (ys : List ℕ) (end : ℕ) (o : 
     where
       Closes : List Rec → Level → Type 0
       Closes p done = flashOf (closed z ys end a) ≡ layAll z d (join (z .b) (joinLeft (z .b) p done) (blocks z false (a .words) ys (a .st .yi) (end - a .st .yi)))
+
       count-is : (p : List Rec) (done : Level) → Pend z d a p done (a .st) → a .st .buf .n ≡ length p
       count-is p done k = ap (λ (b : Buffer). b .n) (k .buf) ∙ buffer-n p
+
       stay : (s : Rec) (rs : List Rec) (done : Level) → Pend z d a (s ∷ rs) done (a .st) → leb (lastSize z (a .words) (a .out) (a .st .m) + a .st .buf .n) (z .b) ≡ false
           → flashOf (closed z ys end a) ≡ layAll z d (join (z .b) (flush (s ∷ rs) done) (blocks z false (a .words) ys (a .st .yi) (end - a .st .yi)))
       stay s rs done k e =
           rw (left-some z (a .words) (a .out) (a .st) false (ne-eqb (a .st .buf .n) 0 (λ g. omega (arith, count-is (s ∷ rs) done k))) e)
           (after-laid z d a ys end sized (s ∷ rs) done (a .st) cursor room form k (λ g. absurd (omega arith)) (λ g. absurd (omega arith)))
+
       two : (s : Rec) (rs : List Rec) (e : Block) (es : Level) (t : Bool) → leb (size e + length (s ∷ rs)) (z .b) ≡ t → Pend z d a (s ∷ rs) (e ∷ es) (a .st) → lastSize z (a .words) (a .out) (a .st .m) ≡ size e
           → (size e < z .b → e ≡ storedAt z (a .words) (getD (a .out) (a .st .m - 1) 0))
           → flashOf (closed z ys end a) ≡ layAll z d (join (z .b) (if t then new (e .recs ++ (s ∷ rs)) ∷ es else new (s ∷ rs) ∷ e ∷ es) (blocks z false (a .words) ys (a .st .yi) (end - a .st .yi)))
@@ -319,10 +327,13 @@ module _ (z : Layout) (d : Flash) (a : Memory) (ys : List ℕ) (end : ℕ) (o : 
           let b = sized .b-high in
           let m = pend-listed z d a (s ∷ rs) e es (a .st) k in
           let f = after-laid z d a ys end sized (e .recs ++ (s ∷ rs)) es (pulled z (a .words) (a .out) (a .st)) cursor (omega arith) form (pull-pend z d a (s ∷ rs) e es (a .st) k (t (omega arith)) (omega arith) m (omega arith))
-              (λ w. absurd (omega (arith, length-append (e .recs) (s ∷ rs)))) (λ w. absurd (omega (arith, length-append (e .recs) (s ∷ rs)))) in
-          rw (left-some z (a .words) (a .out) (a .st) true (ne-eqb (a .st .buf .n) 0 (λ w. omega (arith, count-is (s ∷ rs) (e ∷ es) k)))
-          (ap (λ (n : ℕ). leb (n + a .st .buf .n) (z .b)) l ∙ ap (λ (n : ℕ). leb (size e + n) (z .b)) (count-is (s ∷ rs) (e ∷ es) k) ∙ g),
-          ← flush-filled (e .recs ++ (s ∷ rs)) es (rw length-append (omega arith))) f
+          (λ w. absurd (omega (arith, length-append (e .recs) (s ∷ rs)))) (λ w. absurd (omega (arith, length-append (e .recs) (s ∷ rs)))) in
+          rw (
+            left-some z (a .words) (a .out) (a .st) true (ne-eqb (a .st .buf .n) 0 (λ w. omega (arith, count-is (s ∷ rs) (e ∷ es) k)))
+                (ap (λ (n : ℕ). leb (n + a .st .buf .n) (z .b)) l ∙ ap (λ (n : ℕ). leb (size e + n) (z .b)) (count-is (s ∷ rs) (e ∷ es) k) ∙ g),
+            ← flush-filled (e .recs ++ (s ∷ rs)) es (rw length-append (omega arith)),
+          ) f
+
       go : (p : List Rec) (done : Level) → Pend z d a p done (a .st) → lastSize z (a .words) (a .out) (a .st .m) ≡ headSize (z .b) done → LastIs z (a .words) (a .out) (a .st .m) done → length p < z .b → Closes p done
       go [] done k l t n = rw (left-none z (a .words) (a .out) (a .st) (eq-eqb (a .st .buf .n) 0 (count-is [] done k))) (after-laid z d a ys end sized [] done (a .st) cursor room form k (λ _. l) (λ _. t))
       go (s ∷ rs) [] k l t n = stay s rs [] k (lt-leb (lastSize z (a .words) (a .out) (a .st .m) + a .st .buf .n) (z .b) (omega (arith, count-is (s ∷ rs) [] k)))

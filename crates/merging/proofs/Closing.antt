@@ -70,6 +70,7 @@ module _ (z : Layout) (xs out : List ℕ) (w : Progress) where
     where
       same : Joined w w
       same = record { m = le-refl (w .m); cursor = refl; writes = refl; few = k .few }
+
       go : (t u : Bool) → eqb (w .buf .n) 0 ≡ t → leb (lastSize z xs out (w .m) + w .buf .n) (z .b) ≡ u → Joined w (if t then w else if u then pulled z xs out w else w)
       go true u e f = same
       go false false e f = same
@@ -96,10 +97,13 @@ module _ (z : Layout) (xs out ys : List ℕ) (w : Progress) (end : ℕ) (k : Aft
     where
       q : ℕ
       q = getD ys (w .yi) 0
+
       size : ℕ
       size = getD xs (startOf z q) 0
+
       same : Joined w w
       same = record { m = le-refl (w .m); cursor = refl; writes = refl; few = k .lefts .few }
+
       go : (t u v x : Bool) → leb end (w .yi) ≡ t → eqb (w .buf .n) 0 ≡ u → leb (lastSize z xs out (w .m) + size) (z .b) ≡ v → leb (w .buf .n + size) (z .b) ≡ x
           → Joined w (if t then w else if u then (if v then afterTaken z xs q (pulled z xs out w) else w) else if x then afterTaken z xs q w else w)
       go true u v x e f g h = same
@@ -122,10 +126,13 @@ module _ (z : Layout) (xs out ys : List ℕ) (w : Progress) (end : ℕ) (k : Aft
     where
       q : ℕ
       q = getD ys (w .yi) 0
+
       size : ℕ
       size = getD xs (startOf z q) 0
+
       Ends : Progress → Type 0
       Ends v = (w .yi ≤ v .yi) × (v .yi ≤ end)
+
       go : (t : Bool) → leb end (w .yi) ≡ t → Ends (if t then w else if eqb (w .buf .n) 0 then (if leb (lastSize z xs out (w .m) + size) (z .b) then afterTaken z xs q (pulled z xs out w) else w) else if leb (w .buf .n + size) (z .b) then afterTaken z xs q w else w)
       go true e = (le-refl (w .yi), l)
       go false e =
@@ -156,16 +163,22 @@ closable z t xs ys end d o a c h g all he hy r =
   where
     n : a .st .buf .n ≡ length (o .buffer)
     n = ap (λ (b : Buffer). b .n) (h .buf)
+
     clean : Clean (a .st .buf)
     clean = record { bits = rw (h .buf) (marks-low (o .buffer)) }
+
     lf : Lefts z (a .words) (a .out) (a .st)
     lf = record { sized = c .sized; m-high = omega arith; few = omega (arith, n, c .few, c .sized .b-high); places = c .listed }
+
     v : Progress
     v = leftJoined z (a .words) (a .out) (a .st)
+
     jl : Joined (a .st) v
     jl = left-joined z (a .words) (a .out) (a .st) lf
+
     vy : v .yi ≡ a .st .yi
     vy = left-yi z (a .words) (a .out) (a .st)
+
     af : Afters z (a .words) (a .out) ys v end
     af =
         record {
@@ -175,7 +188,9 @@ closable z t xs ys end d o a c h g all he hy r =
           place = λ l. all (v .yi) l .place refl;
           filled = λ l. all (v .yi) l .formed .low;
         }
+
     ja : Joined v (afterJoined z (a .words) (a .out) ys v end)
     ja = after-joined z (a .words) (a .out) ys v end af
+
     yi : (v .yi ≤ afterJoined z (a .words) (a .out) ys v end .yi) × (afterJoined z (a .words) (a .out) ys v end .yi ≤ end)
     yi = after-yi z (a .words) (a .out) ys v end af (omega (arith, vy))

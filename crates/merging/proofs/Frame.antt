@@ -48,7 +48,10 @@ same-kept : (z : Layout) (a b : Memory) → b .words ≡ a .words → b .used �
     → b .st .xi ≡ a .st .xi → b .st .xj ≡ a .st .xj → b .st .yi ≡ a .st .yi → b .st .yj ≡ a .st .yj → Kept z a b
 same-kept z a b ew eu eo em eh xi xj yi yj =
     record {
-      xi = xi; xj = xj; yi = yi; yj = yj;
+      xi = xi;
+      xj = xj;
+      yi = yi;
+      yj = yj;
       words = λ q u j l. rw ew;
       low = λ k l. rw ew;
       used = λ q u. rw eu u;
@@ -69,7 +72,10 @@ put-places out m q p l f h i k =
 pub written-kept : (z : Layout) (a : Memory) → getD (a .used) (nextFree z a) false ≡ false → Kept z a (writtenAt z a (nextFree z a))
 written-kept z a f =
     record {
-      xi = refl; xj = refl; yi = refl; yj = refl;
+      xi = refl;
+      xj = refl;
+      yi = refl;
+      yj = refl;
       words = λ q u j l. written-other z (a .words) (nextFree z a) (a .st .buf) q j (other q u) l;
       low = λ k l. written-low z (a .words) (nextFree z a) (a .st .buf) k l;
       used = λ q u. getD-set-other (a .used) (nextFree z a) q true false (other q u) ∙ u;
@@ -100,7 +106,10 @@ gather-kept z bottom a h f =
 pub append-kept : (z : Layout) (a c : Memory) (q : ℕ) → c .st .m < length (c .out) → c .st .m ≤ a .st .m + 1 → q < z .p → Kept z a c → Kept z a (append c q)
 append-kept z a c q l m h k =
     record {
-      xi = k .xi; xj = k .xj; yi = k .yi; yj = k .yj;
+      xi = k .xi;
+      xj = k .xj;
+      yi = k .yi;
+      yj = k .yj;
       words = k .words;
       low = k .low;
       used = k .used;
@@ -137,9 +146,9 @@ module _ (z : Layout) (a b : Memory) (sized : Sized z (a .words)) (k : Same z a 
         is = rw (count-kept q u);
         marks = k .words q u 1 (omega arith);
         recs = λ i h.
-          let e : startOf z q + 2 + i ≡ startOf z q + (2 + i) = omega arith in
-          let f : startOf z q + 2 + z .b + i ≡ startOf z q + (2 + z .b + i) = omega arith in
-          (rw e (k .words q u (2 + i) (omega arith)), rw f (k .words q u (2 + z .b + i) (omega arith)));
+            let e : startOf z q + 2 + i ≡ startOf z q + (2 + i) = omega arith in
+            let f : startOf z q + 2 + z .b + i ≡ startOf z q + (2 + z .b + i) = omega arith in
+            (rw e (k .words q u (2 + i) (omega arith)), rw f (k .words q u (2 + z .b + i) (omega arith)));
       }
 
   page-agree : (i : ℕ) → i < z .top → Agree (pageChunk z i) (pageChunk z i)

@@ -59,6 +59,7 @@ recs-tombstone ws c j (suc n) h = go (getD ws (c .marks) 0 / 2 ^ j) refl (recs-t
       where
         half : m < 2 ^ suc n → m / 2 < 2 ^ n
         half l = let w = pow-suc 2 n in omega arith
+
         cases : (r : ℕ) → m % 2 ≡ r → (eqb (m % 2) 1 || not (eqb (m / 2) 0)) ≡ not (eqb m 0)
         cases zero e = rw (ne-eqb (m % 2) 1 (λ f. omega arith)) (same (λ f. omega arith) (λ f. omega arith))
           where
@@ -108,6 +109,7 @@ shows-at z ws c zero f l = go (c .n) (c .listed) refl refl (f .low)
         starts : (t : Bool) → (t && true) ≡ placed (record { place = if t then some (c .place) else none; recs = recsFrom ws c 0 (suc n) })
         starts true = refl
         starts false = refl
+
         placed-at : (t : Bool) → (t && true) ≡ true → (if t then some (c .place) else none) ≡ some (c .place)
         placed-at true e = refl
         placed-at false e = absurd (true≢false (sym e))
@@ -117,6 +119,7 @@ shows-at z ws c (suc j) f l =
     and-none : (t : Bool) → (t && false) ≡ false
     and-none true = refl
     and-none false = refl
+
     go : (n : ℕ) → c .n - suc j ≡ n → Shows (headAt ws c (suc j)) (new (recsFrom ws c (0 + suc j) n))
     go zero e = absurd (omega arith)
     go (suc n) e =

@@ -16,7 +16,7 @@ use Rattle.stream.specs.Machine.{chunkOf}
 use Rattle.merging.specs.Blocks.{recAt, recsFrom, blockOf, blocks, begun, beginWith, side}
 use Rattle.merging.proofs.Heads.{recs-drop}
 
-begin-zero : (l : Level) → beginWith 0 l ≡ l
+pub begin-zero : (l : Level) → beginWith 0 l ≡ l
 begin-zero [] = refl
 begin-zero (b ∷ bs) = refl
 

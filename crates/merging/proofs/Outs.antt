@@ -127,14 +127,19 @@ gather-holds z bottom d o a h f l k s = go (bottom && eqb (h .tombstone) 1) (leb
   where
     r : Rec
     r = record { key = h .key; tombstone = eqb (h .tombstone) 1; pay = h .pay }
+
     full : Memory
     full = withProgress a (withBuffer (a .st) (pushed (a .st .buf) (h .key) (h .tombstone) (h .pay)))
+
     pushes : pushed (a .st .buf) (h .key) (h .tombstone) (h .pay) ≡ bufferOf (o .buffer ++ (r ∷ []))
     pushes = rw (s .buf) (buffer-push (o .buffer) r (h .tombstone) l (bit-eqb (h .tombstone) k))
+
     held : Holds z d (record { buffer = o .buffer ++ (r ∷ []); done = o .done }) full
     held = record { buf = pushes; flash = s .flash; last = s .last }
+
     test : leb (z .b) (a .st .buf .n + 1) ≡ leb (z .b) (suc (length (o .buffer)))
     test = rw (s .buf, add-one (length (o .buffer)))
+
     go : (t u : Bool) → leb (z .b) (suc (length (o .buffer))) ≡ u → Holds z d (if t then o else if u then record { buffer = []; done = new (o .buffer ++ (r ∷ [])) ∷ o .done } else record { buffer = o .buffer ++ (r ∷ []); done = o .done })
         (if t then a else if leb (z .b) (a .st .buf .n + 1) then flushed z full else full)
     go true u e = s

@@ -95,8 +95,10 @@ module _ (z : Layout) (a : Memory) where
     where
       full : Memory
       full = withProgress a (withBuffer (a .st) (pushed (a .st .buf) (h .key) (h .tombstone) (h .pay)))
+
       more : Spent z a full 1 1
       more = record { list = omega arith; places = omega arith; marks = omega arith; xi = refl; xj = refl; yi = refl; yj = refl }
+
       go : (t u : Bool) → leb (z .b) (a .st .buf .n + 1) ≡ u → Spent z a (if t then a else if u then flushed z full else full) 1 1
       go true u e = record { list = omega arith; places = omega arith; marks = omega arith; xi = refl; xj = refl; yi = refl; yj = refl }
       go false false e = more

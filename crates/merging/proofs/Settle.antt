@@ -147,3 +147,14 @@ module _ (g : Geometry) where
             marks-length = i .marks-length ∙ length-set (d .used) q true;
             writes = omega (arith, i .writes);
           })
+
+-- every block of a settled level has a place
+pub settle-placed : (P : ℕ) (a : Allocation) (l : Level) → length (placesOf (settle P a l .level)) ≡ length (settle P a l .level)
+unfolding settle
+settle-placed P a [] = refl
+settle-placed P a (b ∷ bs) = go (b .place) (b .recs) (λ c. settle-placed P c bs)
+  where
+    go : (o : Option ℕ) (rs : List Rec) → ((c : Allocation) → length (placesOf (settle P c bs .level)) ≡ length (settle P c bs .level))
+        → length (placesOf (settle P a (record { place = o; recs = rs } ∷ bs) .level)) ≡ length (settle P a (record { place = o; recs = rs } ∷ bs) .level)
+    go (some q) rs ih = ap suc (ih a)
+    go none rs ih = ap suc (ih (record { used = firstFree P a ∷ a .used; cursor = firstFree P a }))

@@ -170,12 +170,16 @@ gather-tail z bottom o a h n l = go (bottom && eqb (h .tombstone) 1) (leb (z .b)
   where
     r : Rec
     r = record { key = h .key; tombstone = eqb (h .tombstone) 1; pay = h .pay }
+
     full : Memory
     full = withProgress a (withBuffer (a .st) (pushed (a .st .buf) (h .key) (h .tombstone) (h .pay)))
+
     test : leb (z .b) (a .st .buf .n + 1) ≡ leb (z .b) (suc (length (o .buffer)))
     test = rw (n, add-one (length (o .buffer)))
+
     Tail : Memory → Out → Type 0
     Tail b p = LastIs z (b .words) (b .out) (b .st .m) (p .done)
+
     go : (t u : Bool) → leb (z .b) (suc (length (o .buffer))) ≡ u
         → Tail (if t then a else if leb (z .b) (a .st .buf .n + 1) then flushed z full else full)
         (if t then o else if u then record { buffer = []; done = new (o .buffer ++ (r ∷ [])) ∷ o .done } else record { buffer = o .buffer ++ (r ∷ []); done = o .done })
@@ -230,11 +234,10 @@ module _ (z : Layout) (t : Inputs) (xs ys : List ℕ) (d : Flash) where
     gather-step h x e m u l eu el =
         let k = gather-kept z bottom (withProgress a w) h free in
         let n = c .few in
-        let b = c .sized .b-high in
-        (
+        let b = c .sized .b-high in (
           core-kept (gather (z .b) bottom (headRec x) o) (withProgress a w) (gathered z bottom (withProgress a w) h) (keep-few (z .b) bottom (headRec x) o n) k (c .sized) (fit .cursor) (rw em (g .room)) (c .upper) (c .lower) (rw em (c .listed)) ix iy (c .full) (rw e (gather-tail z bottom o (withProgress a w) h (ap (λ (b : Buffer). b .n) (eb ∙ hs .buf)) (rw em (c .tail)))) wx wy,
           sim-kept (record { upper = u; lower = l; out = gather (z .b) bottom (headRec x) o }) (withProgress a w) (gathered z bottom (withProgress a w) h) (c .sized) k (c .upper) (c .lower) eu el
-          (rw e (gather-holds z bottom d o (withProgress a w) h fit (omega arith) m (moved-holds z d o a w eb em en eh hs))),
+              (rw e (gather-holds z bottom d o (withProgress a w) h fit (omega arith) m (moved-holds z d o a w eb em en eh hs))),
         )
 
     -- a block is reused
@@ -250,18 +253,16 @@ module _ (z : Layout) (t : Inputs) (xs ys : List ℕ) (d : Flash) where
         let k = append-kept z (withProgress a w) (flushed z (withProgress a w)) q room fm qp kf in
         let b = c .sized .b-low in
         let last : getD (set (flushed z (withProgress a w) .out) (flushed z (withProgress a w) .st .m) q) (flushed z (withProgress a w) .st .m + 1 - 1) 0 ≡ q = (let j : flushed z (withProgress a w) .st .m + 1 - 1 ≡ flushed z (withProgress a w) .st .m = omega arith in rw j (getD-set-same (flushed z (withProgress a w) .out) (flushed z (withProgress a w) .st .m) q 0 room)) in
-        let tl : x ≡ storedAt z (flushed z (withProgress a w) .words) (getD (set (flushed z (withProgress a w) .out) (flushed z (withProgress a w) .st .m) q) (flushed z (withProgress a w) .st .m + 1 - 1) 0) = rw last (is ∙ sym (block-same z (withProgress a w) (flushed z (withProgress a w)) (c .sized) (kept-same z (withProgress a w) (flushed z (withProgress a w)) kf) q qu hi)) in
-        (
+        let tl : x ≡ storedAt z (flushed z (withProgress a w) .words) (getD (set (flushed z (withProgress a w) .out) (flushed z (withProgress a w) .st .m) q) (flushed z (withProgress a w) .st .m + 1 - 1) 0) = rw last (is ∙ sym (block-same z (withProgress a w) (flushed z (withProgress a w)) (c .sized) (kept-same z (withProgress a w) (flushed z (withProgress a w)) kf) q qu hi)) in (
           core-kept (reuse x o) (withProgress a w) (append (flushed z (withProgress a w)) q) (omega arith) k (c .sized) (fit .cursor) (rw em (g .room)) (c .upper) (c .lower) (rw em (c .listed)) ix iy (c .full) (λ _. tl) wx wy,
           sim-kept (record { upper = u; lower = l; out = reuse x o }) (withProgress a w) (append (flushed z (withProgress a w)) q) (c .sized) k (c .upper) (c .lower) eu el
-          (append-holds z d x q (flush (o .buffer) (o .done)) (flushed z (withProgress a w)) room e (count-kept z (withProgress a w) (flushed z (withProgress a w)) (c .sized) (kept-same z (withProgress a w) (flushed z (withProgress a w)) kf) q qu ∙ n) (flush-holds z d o (withProgress a w) fit (moved-holds z d o a w eb em en eh hs))),
+              (append-holds z d x q (flush (o .buffer) (o .done)) (flushed z (withProgress a w)) room e (count-kept z (withProgress a w) (flushed z (withProgress a w)) (c .sized) (kept-same z (withProgress a w) (flushed z (withProgress a w)) kf) q qu ∙ n) (flush-holds z d o (withProgress a w) fit (moved-holds z d o a w eb em en eh hs))),
         )
 
   formed : (pages : Bool) (a : Memory) (list : List ℕ) (end : ℕ) → Listed z pages a list end → (k : ℕ) → k < end → 1 ≤ chunkOf z pages (a .words) list k .n
   formed pages a list end f k h = f k h .formed .low
 
   module _ (bottom : Bool) (o : Out) (a : Memory) (c : Core z t xs ys o a) (g : Budget z a) (hs : Holds z d o a) where
-
     module _ (gx : a .st .xi < t .x) where
       abbrev chunk-x : Chunk
       chunk-x = chunkOf z (t .pages) (a .words) xs (a .st .xi)

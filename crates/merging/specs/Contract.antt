@@ -10,7 +10,9 @@ use Rattle.levels.specs.Record.{Block, Level, new}
 use Rattle.levels.specs.Merge.{merge}
 use Rattle.levels.specs.Place.{Allocation, Settled, settle, placesOf}
 use Rattle.words.specs.Layout.{word, slotsAt, recordCount, markWordAt, blockAt, each, bit, areaOf, writeBlocks}
-use Rattle.blocks.specs.Blocks.{Marks}
+use Rattle.blocks.specs.Blocks.{Marks, emptyBuffer}
+use Rattle.stream.specs.declared.Progress.{Progress}
+use Rattle.stream.specs.declared.Inputs.{Inputs}
 use Rattle.merging.specs.declared.Cut.{Cut}
 use Rattle.merging.specs.declared.Merged.{Merged}
 
@@ -58,12 +60,14 @@ pub record FullPage (g : Geometry) (ws : List ℕ) (i : ℕ) : Type 0 where
   pub low : i < capacityOf g 0
   pub bits : word ws (marksStart g + i) < 2 ^ g .b
 
--- what a merge asks: a legal store, X and Y within their levels, room in the new list, and a free place for each block of X and Y and one more
+-- what a merge asks: a legal store, work arrays of their full length, X and Y within their levels, room in the new list, and a free place for each block of X and Y and one more
 pub record Mergeable (g : Geometry) (ws : List ℕ) (used : List Bool) (out xs ys : List ℕ) (c : Cut) (cursor : ℕ) : Type 0 where
   pub valid : Valid g
   pub words : length ws ≡ storeLength g
-  pub marks : length used ≡ 8192
-  pub list : length out ≡ 4096
+  pub marks-long : length used ≡ 8192
+  pub out-long : length out ≡ 4096
+  pub xs-long : length xs ≡ 4096
+  pub ys-long : length ys ≡ 4096
   pub cursor-low : cursor < g .p
   pub x-low : c .x ≤ c .xend
   pub x-high : c .xend ≤ 4096
@@ -75,13 +79,24 @@ pub record Mergeable (g : Geometry) (ws : List ℕ) (used : List Bool) (out xs y
   pub room : c .end + 2 * ((c .xend - c .x) + (c .yend - c .y)) + 2 ≤ 4096
   pub free : countMarks (g .p) used + ((c .xend - c .x) + (c .yend - c .y)) + 1 ≤ g .p
 
+-- the ends of X and Y, where the merge begins, and more steps than there are records
+abbrev pub inputsOf : Cut → Inputs
+inputsOf c = record { x = c .xend; y = c .yend; pages = c .pages; bottom = c .bottom }
+
+abbrev pub beginOf : Cut → ℕ → Progress
+beginOf c cursor = record { xi = c .x; xj = 0; yi = c .y; yj = 0; m = c .y; writes = 0; cursor = cursor; buf = emptyBuffer }
+
+abbrev pub limitOf : Cut → ℕ
+limitOf c = 16 * ((c .xend - c .x) + (c .yend - c .y))
+
 -- What a merge leaves of blocks that have been given places: all words, the new list and its length, the cursor, the marks, the number of blocks written.
 pub record Leaves (g : Geometry) (st : Settled) (ws : List ℕ) (ws' : List ℕ) (used' : List Bool) (out' : List ℕ) (r : Merged) : Type 0 where
   pub words : ws' ≡ take (placesStart g) ws ++ writeBlocks g (areaOf g ws) (st .written)
   pub list : take (r .count) out' ≡ placesOf (st .level)
-  pub list-length : length out' ≡ 4096
+  pub list-long : length out' ≡ 4096
+  pub count : r .count ≡ length (st .level)
   pub count-high : r .count ≤ 4096
   pub cursor : r .cursor ≡ st .allocation .cursor
   pub marks : Marks used' (st .allocation .used)
-  pub marks-length : length used' ≡ 8192
+  pub marks-long : length used' ≡ 8192
   pub writes : r .writes ≡ length (st .written)

@@ -9,7 +9,7 @@ use Rattle.joins.proofs.close.Statement.{statement}
 use Rattle.joins.proofs.close.Tie as tie
 use Rattle.joins.proofs.close.Reads as reads
 use Rattle.joins.proofs.close.Lts as lts
-use Rattle.joins.proofs.copy_rest.Reads as copy-rest-reads
+use Rattle.joins.proofs.copy_entries.Reads as copy-entries-reads
 use Rattle.joins.proofs.join_after.Reads as join-after-reads
 use Rattle.joins.proofs.join_left.Reads as join-left-reads
 use Rattle.stream.proofs.flush.Reads as flush-reads
@@ -27,8 +27,8 @@ join-after-requires c κs = rw (c .before .before .join-left .ensures) (c .befor
 flush-requires : tie.Need-flush-requires
 flush-requires c κs = rw (c .before .before .before .join-after .ensures, c .before .before .before .before .before .before .join-left .ensures) (c .before .before .before .before .before .before .before .before .before .before .pre .flushable)
 
-copy-rest-requires : tie.Need-copy-rest-requires
-copy-rest-requires c κs = let e = ends (c .before .before .before) in rw e (c .before .before .before .before .before .before .before .before .before .before .before .before .before .before .pre .afters .end-high, c .before .before .before .before .before .before .before .before .before .before .before .before .before .before .pre .room)
+copy-entries-requires : tie.Need-copy-entries-requires
+copy-entries-requires c κs = let e = ends (c .before .before .before) in rw e (c .before .before .before .before .before .before .before .before .before .before .before .before .before .before .pre .afters .end-high, c .before .before .before .before .before .before .before .before .before .before .before .before .before .before .pre .room)
 
 sub-v : tie.Need-sub-v
 sub-v c = let e = ends (c .before .before .before .before) in rw e (c .before .before .before .before .before .before .before .before .before .before .before .before .before .before .before .pre .yi-high)
@@ -41,7 +41,7 @@ same-length c = search needs
 
 returns : tie.Need-returns
 unfolding closed
-returns c = rw (c .copy-rest .ensures) (ap (λ (a : Memory). rested a (c .before .before .before .before .before .before .before .before .before .before .before .before .before .before .before .args .ys .now) (c .before .before .before .before .before .before .before .before .before .before .before .before .before .before .before .args .end)) (c .before .before .before .before .flush .ensures ∙ rw (c .before .before .before .before .before .before .before .before .join-after .ensures, c .before .before .before .before .before .before .before .before .before .before .before .join-left .ensures)))
+returns c = rw (c .copy-entries .ensures) (ap (λ (a : Memory). rested a (c .before .before .before .before .before .before .before .before .before .before .before .before .before .before .before .args .ys .now) (c .before .before .before .before .before .before .before .before .before .before .before .before .before .before .before .args .end)) (c .before .before .before .before .flush .ensures ∙ rw (c .before .before .before .before .before .before .before .before .join-after .ensures, c .before .before .before .before .before .before .before .before .before .before .before .join-left .ensures)))
 
 pub close-spec : {M : Type 1} → statement M
 close-spec =
@@ -50,7 +50,7 @@ close-spec =
     join-left-requires
     join-after-requires
     flush-requires
-    copy-rest-requires
+    copy-entries-requires
     sub-v
     add-v
     same-length
