@@ -1,0 +1,6 @@
+pub mod Lists
+pub mod Kept
+pub mod Chosen
+pub mod Room
+pub mod Merges
+pub mod After
