@@ -4,3 +4,5 @@ pub mod Chosen
 pub mod Room
 pub mod Merges
 pub mod After
+pub mod Closing
+pub mod Pair
