@@ -6,3 +6,4 @@ pub mod Merges
 pub mod After
 pub mod Closing
 pub mod Pair
+pub mod Numbers

@@ -1,3 +1,4 @@
+use Rattle.pair.proofs.Closing.{shut-mergeable, shut-leaves}
 use borrow.Author.Needs.{needs}
 use Rattle.pair.proofs.close_run.Statement.{statement}
 use Rattle.pair.proofs.close_run.Tie as tie
@@ -20,7 +21,9 @@ sub-t13 c = search needs
 
 -- src/lib.rt:135:5
 merge-list-requires : tie.Need-merge-list-requires
-merge-list-requires c κs = ?
+merge-list-requires c κs =
+    let a = c .before .before .before .before .before .before .args in
+    rw (c .before .before .before .copy-entries .ensures) (shut-mergeable (a .g) (a .s .now) (a .used .now) (a .upper .now) (a .xs .now) (a .first) (a .w) (a .a) (a .cursor) (c .before .before .before .before .before .before .pre))
 
 -- src/lib.rt:110:1
 same-length : tie.Need-same-length
@@ -28,7 +31,9 @@ same-length c = search needs
 
 -- src/lib.rt:110:1
 returns : tie.Need-returns
-returns c = ?
+returns c =
+    let a = c .before .before .before .before .before .before .before .before .before .args in
+    λ al e m. shut-leaves (a .g) (a .s .now) (a .used .now) (a .upper .now) (a .xs .now) (a .first) (a .w) (a .a) (a .cursor) (c .before .before .before .before .before .before .before .before .before .pre) al _ _ _ _ (rw (c .before .before .before .before .before .before .copy-entries .ensures) at (c .before .before .merge-list .ensures al e m))
 
 pub close-run-spec : {M : Type 1} → statement M
 close-run-spec =
