@@ -112,7 +112,7 @@ module _ (g : Geometry) (ws : List ℕ) (used : List Bool) (upper xs : List ℕ)
       let n : length left ≡ first = level-length g ws upper first (omega (arith, inside, short, k .upper-long)) in
       let z : first - first ≡ 0 = omega arith in
       let h = inside in
-      merge-is g ws xs shut (gapAt first w a) [] (left ++ right) refl (omega arith) (omega arith) (omega (arith, shut-length, short)) refl shut-level
+      merge-is g ws xs shut (gapAt first w a) [] (left ++ right) (omega arith) (omega arith) (omega (arith, shut-length, short)) refl shut-level
       ∙ rw (z, take-at left right first n, drop-at left right first n)
 
   -- what the merge of nothing leaves

@@ -3,6 +3,7 @@ pub mod Kept
 pub mod Chosen
 pub mod Room
 pub mod Merges
+pub mod Below
 pub mod After
 pub mod Closing
 pub mod Pair

@@ -15,7 +15,7 @@ use Rattle.choice.proofs.Lists.{map-take, map-drop}
 use Rattle.joins.specs.Joins.{restedOut}
 use Rattle.merging.specs.declared.Cut.{Cut}
 use Rattle.merging.specs.declared.Merged.{Merged}
-use Rattle.merging.specs.Contract.{blocksOf, mergeOf, Mergeable, Leaves}
+use Rattle.merging.specs.Contract.{blocksOf, runOf, mergeOf, Mergeable, Leaves}
 use Rattle.merging.proofs.Close.{rested-length}
 use Rattle.pair.specs.Contract.{levelOf}
 use Rattle.pair.proofs.Lists.{copied-take, take-drop}
@@ -73,13 +73,12 @@ rest-is g ws list i n h l =
     part-is g ws list i (n - i) n (omega arith) ∙ take-all (n - i) (drop i (levelOf g ws list n)) (omega (arith, length-drop i (levelOf g ws list n), level-length g ws list n l))
 
 -- the merge of a cut by numbers, as the merge of parts of two levels
-pub merge-is : (g : Geometry) (ws xs ys : List ℕ) (c : Cut) (run under : Level) → c .pages ≡ false → c .y ≤ c .yend → c .yend ≤ c .end → c .end ≤ length ys
-    → blocksOf g ws xs (c .x) (c .xend - c .x) ≡ run → levelOf g ws ys (c .end) ≡ under
+pub merge-is : (g : Geometry) (ws xs ys : List ℕ) (c : Cut) (run under : Level) → c .y ≤ c .yend → c .yend ≤ c .end → c .end ≤ length ys
+    → runOf (c .pages) g ws xs (c .x) (c .xend - c .x) ≡ run → levelOf g ws ys (c .end) ≡ under
     → mergeOf g ws xs ys c ≡ merge (g .b) (c .bottom) (take (c .y) under) run (take (c .yend - c .y) (drop (c .y) under)) (drop (c .yend) under)
 unfolding mergeOf
-merge-is g ws xs ys c run under ep h l n er eu =
+merge-is g ws xs ys c run under h l n er eu =
     rw (
-      ep,
       er,
       part-is g ws ys 0 (c .y) (c .end) (omega arith),
       part-is g ws ys (c .y) (c .yend - c .y) (c .end) (omega arith),

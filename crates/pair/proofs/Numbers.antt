@@ -22,6 +22,7 @@ use Rattle.merging.proofs.Close.{rested-length}
 use Rattle.pair.specs.declared.Picked.{Picked}
 use Rattle.pair.specs.Contract.{levelOf, cutOf, upperAfter, lowerAfter, InUse, Chosen, Readables, Closable, leftOf, rightOf, PairReady, PairLeaves}
 use Rattle.pair.proofs.Lists.{copied-take}
+use Rattle.pair.proofs.Below.{meetsAt}
 use Rattle.pair.proofs.Pair.{stored-readable, inside, pair-closable, pair-mergeable, pair-writes, pair-leaves}
 
 module _ (g : Geometry) (ws : List ℕ) (used : List Bool) (upper lower : List ℕ) (i a n cursor : ℕ) (k : PairReady g ws used upper lower i a n cursor) where
@@ -54,15 +55,15 @@ module _ (g : Geometry) (ws : List ℕ) (used : List Bool) (upper lower : List �
           (al : Allocation) → al .cursor ≡ cursor → Marks used (al .used)
           → Leaves g (settle (g .p) al (close (g .b) 1 (leftOf g ws upper (r .first)) (rightOf g ws upper (r .first) w a))) ws ws1 used1 upper1 u
 
-      abbrev meetsAt : ℕ → ℕ → Cut
-      meetsAt w h = record { x = r .first; xend = r .first + w; y = r .start; yend = r .end; end = n; pages = false; bottom = eqb (i + 1) h }
+      abbrev meets : ℕ → ℕ → Cut
+      meets w h = meetsAt w n false (eqb (i + 1) h) r
 
       bottom-is : (h : ℕ) → h ≡ g .h → eqb (i + 1) h ≡ eqb (suc i) (g .h)
       bottom-is h e = rw (e, add-one i)
 
       module _ (ws1 : List ℕ) (used1 : List Bool) (upper1 : List ℕ) (u : Merged) (h : ℕ) (eh : h ≡ g .h) where
         pub code-mergeable : (w : ℕ) → w ≡ windowOf g i → Chosen w (levelOf g ws upper a) (levelOf g ws lower n) r → Shut w ws1 used1 upper1 u
-            → InUse used1 × Mergeable g ws1 used1 lower xs lower (meetsAt w h) (u .cursor)
+            → InUse used1 × Mergeable g ws1 used1 lower xs lower (meets w h) (u .cursor)
         code-mergeable w e = rw e (λ ch k2. pair-mergeable g ws used upper lower i a n cursor k r ch xs long same ws1 used1 upper1 u k2 (eqb (i + 1) h) (bottom-is h eh))
 
         module _ (ws2 : List ℕ) (used2 : List Bool) (lower2 : List ℕ) (v : Merged) where
@@ -70,7 +71,7 @@ module _ (g : Geometry) (ws : List ℕ) (used : List Bool) (upper lower : List �
           abbrev Met : ℕ → Type 0
           Met w =
               (al : Allocation) → al .cursor ≡ u .cursor → Marks used1 (al .used)
-              → Leaves g (settle (g .p) al (mergeOf g ws1 xs lower (meetsAt w h))) ws1 ws2 used2 lower2 v
+              → Leaves g (settle (g .p) al (mergeOf g ws1 xs lower (meets w h))) ws1 ws2 used2 lower2 v
 
           pub code-writes : (w : ℕ) → w ≡ windowOf g i → Chosen w (levelOf g ws upper a) (levelOf g ws lower n) r → Shut w ws1 used1 upper1 u → Met w → u .writes + v .writes ≤ 8192
           code-writes w e = rw e (λ ch k2 k3. pair-writes g ws used upper lower i a n cursor k r ch xs long same ws1 used1 upper1 u k2 (eqb (i + 1) h) (bottom-is h eh) ws2 used2 lower2 v k3)

@@ -33,9 +33,10 @@ use Rattle.pair.specs.declared.Step.{Step}
 use Rattle.pair.specs.Contract.{levelOf, cutOf, upperAfter, lowerAfter, InUse, Chosen, Readables, Stored, Closable, leftOf, rightOf, PairReady, PairLeaves}
 use Rattle.pair.proofs.Lists.{take-entry}
 use Rattle.pair.proofs.Kept.{base-take, base-drop}
-use Rattle.pair.proofs.Chosen.{run-inside, ends-in-order, ends-inside, overlap-is, before-is, over-is, behind-is}
+use Rattle.pair.proofs.Chosen.{run-inside, ends-in-order, ends-inside, overlap-is}
+use Rattle.pair.proofs.Below.{meetsAt, met-merge}
 use Rattle.pair.proofs.Room.{count-few}
-use Rattle.pair.proofs.Merges.{part-is, level-length, merge-is}
+use Rattle.pair.proofs.Merges.{part-is, level-length}
 use Rattle.pair.proofs.After.{listed-fresh, close-fit, close-one, after-long, after-cursor, after-in-use, after-count, after-block, after-level}
 
 -- a listed block holds as many records as its count says
@@ -149,10 +150,6 @@ module _ (g : Geometry) (ws : List ℕ) (used : List Bool) (upper lower : List �
   unfolding cutAt
   right-is = rw (← ch .first) refl
 
-  run-is : cut .run ≡ take w (drop (r .first) above)
-  unfolding cutAt
-  run-is = rw (← ch .first) refl
-
   upper-is : close (g .b) i (cut .left) (cut .right) ≡ close (g .b) 1 left right
   upper-is = close-level (g .b) i (cut .left) (cut .right) (k .level-low) ∙ rw (left-is, right-is)
 
@@ -202,7 +199,7 @@ module _ (g : Geometry) (ws : List ℕ) (used : List Bool) (upper lower : List �
 
     module _ (bottom : Bool) (eb : bottom ≡ eqb (suc i) (g .h)) where
       abbrev pub meets : Cut
-      meets = record { x = r .first; xend = r .first + w; y = r .start; yend = r .end; end = n; pages = false; bottom = bottom }
+      meets = meetsAt w n false bottom r
 
       in-order : r .start ≤ r .end
       in-order = ends-in-order w above under r ch oa ou w-low fits
@@ -249,19 +246,16 @@ module _ (g : Geometry) (ws : List ℕ) (used : List Bool) (upper lower : List �
           })
 
       -- and are what document 01 asks for
-      run-blocks : blocksOf g ws1 xs (r .first) (r .first + w - r .first) ≡ cut .run
+      run-blocks : blocksOf g ws1 xs (r .first) w ≡ take w (drop (r .first) above)
       run-blocks =
-          let h = inside in
-          rw run-long
-          (part-is g ws1 xs (r .first) w a inside
-          ∙ ap (λ (l : Level). take w (drop (r .first) l)) (kept-level xs a xs-block ∙ ap (map (blockAt g ws)) ex) ∙ sym run-is)
+          part-is g ws1 xs (r .first) w a inside
+          ∙ ap (λ (l : Level). take w (drop (r .first) l)) (kept-level xs a xs-block ∙ ap (map (blockAt g ws)) ex)
 
       lower-is : mergeOf g ws1 xs lower meets ≡ merge (g .b) (eqb (suc i) (g .h)) (cut .before) (cut .run) (cut .over) (cut .behind)
       lower-is =
           let l = k .under .long in
           let h = k .under .high in
-          merge-is g ws1 xs lower meets (cut .run) under refl in-order ends-in (omega arith) run-blocks (kept-level lower n (k .under .blocks))
-          ∙ rw (eb, before-is w above under r ch oa ou w-low fits, over-is w above under r ch oa ou w-low fits, behind-is w above under r ch oa ou w-low fits)
+          met-merge w above under r ch oa ou w-low fits g ws1 xs lower n false bottom (omega arith) lu run-blocks (kept-level lower n (k .under .blocks)) ∙ rw eb
 
       -- after steps 3 and 4
       module _ (ws2 : List ℕ) (used2 : List Bool) (lower2 : List ℕ) (v : Merged)
