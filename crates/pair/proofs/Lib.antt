@@ -8,3 +8,4 @@ pub mod After
 pub mod Closing
 pub mod Pair
 pub mod Numbers
+pub mod Pages

@@ -116,6 +116,13 @@ leftOf g ws upper first = levelOf g ws upper first
 abbrev pub rightOf : Geometry → List ℕ → List ℕ → ℕ → ℕ → ℕ → Level
 rightOf g ws upper first w a = drop (first + w) (levelOf g ws upper a)
 
+-- level 0 is a full pages in key order
+pub record Paged (g : Geometry) (ws : List ℕ) (a : ℕ) : Type 0 where
+  pub count : topCountAt ws ≡ a * g .b
+  pub fits : topCountAt ws ≤ topCapacityOf g
+  pub high : a ≤ 2048
+  pub ordered : Ordered 0 (map fenceOf (pages (g .b) (topRecs g ws)))
+
 -- what a merge out of level 0 asks, which is full
 pub record PagesReady (g : Geometry) (ws : List ℕ) (used : List Bool) (lower : List ℕ) (n cursor : ℕ) : Type 0 where
   pub valid : Valid g
@@ -130,9 +137,10 @@ pub record PagesReady (g : Geometry) (ws : List ℕ) (used : List Bool) (lower :
   pub free : length (in-use .places) + (windowOf g 0 + choose (windowOf g 0) (pages (g .b) (topRecs g ws)) (levelOf g ws lower n) .value) + 1 ≤ g .p
   pub room : n + 2 * (windowOf g 0 + choose (windowOf g 0) (pages (g .b) (topRecs g ws)) (levelOf g ws lower n) .value) + 2 ≤ 4096
 
--- what a merge out of level 0 leaves: l is level 1 then; level 0 keeps its records, those of the run with them
+-- what a merge out of level 0 leaves: l is level 1 then; level 0 keeps its words, and W(0) of its pages are to leave it
 pub record PagesLeaves (g : Geometry) (l : Settled) (chosen : Least) (ws ws' : List ℕ) (used' : List Bool) (lower' : List ℕ) (r : Step) : Type 0 where
   pub words : ws' ≡ take (placesStart g) ws ++ writeBlocks g (areaOf g ws) (l .written)
+  pub above : r .above ≡ capacityOf g 0 - windowOf g 0
   pub lower : take (r .under) lower' ≡ placesOf (l .level)
   pub lower-long : length lower' ≡ 4096
   pub under : r .under ≡ length (l .level)

@@ -13,7 +13,7 @@ ghost use Rattle.words.specs.Layout.{topRecs};
 ghost use Rattle.choice.specs.Fences.{Fenced, fenceOf, fencesOf};
 ghost use Rattle.blocks.specs.Blocks.{Marks};
 ghost use Rattle.merging.specs.Contract.{mergeOf, Mergeable, Leaves};
-ghost use Rattle.pair.specs.Contract.{levelOf, cutOf, upperAfter, lowerAfter, Chosen, Readables, InUse, Closable, leftOf, rightOf, PairReady, PairLeaves, PagesReady, PagesLeaves};
+ghost use Rattle.pair.specs.Contract.{levelOf, cutOf, upperAfter, lowerAfter, Chosen, Readables, Paged, InUse, Closable, leftOf, rightOf, PairReady, PairLeaves, PagesReady, PagesLeaves};
 use choice::Choice;
 use choice::Stretch;
 use geometry::Geometry;
@@ -81,6 +81,27 @@ fn choose_listed(
     let mut starts = [0u32; 2048];
     let mut ends = [0u32; 2048];
     choice::fence_blocks(s, g, upper, a, &mut firsts, &mut lasts);
+    choice::fence_blocks(s, g, lower, n, &mut starts, &mut ends);
+    pick(&firsts, &lasts, a, &starts, &ends, n, w)
+}
+
+// Step 1 out of level 0, all of whose pages are full.
+fn choose_pages(
+    s: &[u32],
+    lower: &[u32; 4096],
+    g: Geometry,
+    a: usize,
+    n: usize,
+    w: usize,
+) -> Picked
+    requires { ⌜ Valid g × ((length (now s) ≡ storeLength g) × ((1 ≤ w) × ((w ≤ a) × (Paged g (now s) a × Readables g (now s) (now lower) n)))) ⌝ }
+    ensures { λ r. ⌜ Chosen w (pages (g .b) (topRecs g (now (s .entry)))) (levelOf g (now (s .entry)) (now (lower .entry)) n) r ⌝ }
+{
+    let mut firsts = [0u32; 2048];
+    let mut lasts = [0u32; 2048];
+    let mut starts = [0u32; 2048];
+    let mut ends = [0u32; 2048];
+    choice::fence_pages(s, g, a, &mut firsts, &mut lasts);
     choice::fence_blocks(s, g, lower, n, &mut starts, &mut ends);
     pick(&firsts, &lasts, a, &starts, &ends, n, w)
 }
@@ -177,6 +198,48 @@ pub fn merge_pair(
         under: l.count,
         cursor: l.cursor,
         writes: u.writes + l.writes,
+        first: first,
+        overlap: p.overlap,
+    }
+}
+
+// Steps 1, 3 and 4 of a merge out of level 0, which is full. The run's pages stay where they are: step 2 writes nothing there, and the
+// caller takes the pages out afterwards, `above` of them staying.
+pub fn merge_pages(
+    s: &mut [u32],
+    used: &mut [bool; 8192],
+    lower: &mut [u32; 4096],
+    g: Geometry,
+    n: usize,
+    cursor: usize,
+) -> Step
+    requires { ⌜ PagesReady g (now s) (now used) (now lower) n cursor ⌝ }
+    ensures { λ r. ⌜ ((al : Allocation) → al .cursor ≡ cursor → Marks (now (used .entry)) (al .used)
+        → PagesLeaves g (lowerAfter g 0 al (cutOf g 0 (pages (g .b) (topRecs g (now (s .entry)))) (levelOf g (now (s .entry)) (now (lower .entry)) n)))
+            (choose (windowOf g 0) (pages (g .b) (topRecs g (now (s .entry)))) (levelOf g (now (s .entry)) (now (lower .entry)) n))
+            (now (s .entry)) (now (s .exit)) (now (used .exit)) (now (lower .exit)) r) ⌝ }
+{
+    let h = g.levels();
+    let a = g.capacity(0);
+    let w = g.window(0);
+    let p = choose_pages(s, lower, g, a, n, w);
+    let first = p.first;
+    let xs = [0u32; 4096];
+    let c = Cut {
+        x: first,
+        xend: first + w,
+        y: p.start,
+        yend: p.end,
+        end: n,
+        pages: true,
+        bottom: 1 == h,
+    };
+    let l = merge_list(s, used, lower, &xs, g, c, cursor);
+    Step {
+        above: a - w,
+        under: l.count,
+        cursor: l.cursor,
+        writes: l.writes,
         first: first,
         overlap: p.overlap,
     }
