@@ -199,12 +199,12 @@ module _ (g : Geometry) (ws : List ℕ) (used : List Bool) (lower : List ℕ) (n
           })
 
   -- the same with the numbers as the code has them
+  pub pages-inside : (r : Picked) (v : ℕ) → v ≡ windowOf g 0 → Chosen v above under r → r .first + v ≤ 1024
+  pages-inside r v e = rw e (λ ch. omega (arith, inside r ch, few))
+
   module _ (r : Picked) (xs : List ℕ) (xl : length xs ≡ 4096) (h : ℕ) (eh : h ≡ g .h) where
     bottom-is : eqb 1 h ≡ eqb 1 (g .h)
     bottom-is = rw eh
-
-    pub pages-inside : (v : ℕ) → v ≡ windowOf g 0 → Chosen v above under r → r .first + v ≤ 1024
-    pages-inside v e = rw e (λ ch. omega (arith, inside r ch, few))
 
     pub pages-mergeable : (v : ℕ) → v ≡ windowOf g 0 → Chosen v above under r → InUse used × Mergeable g ws used lower xs lower (meetsAt v n true (eqb 1 h) r) cursor
     pages-mergeable v e = rw e (λ ch. top-mergeable r ch xs xl (eqb 1 h) bottom-is)
