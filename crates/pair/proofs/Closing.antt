@@ -78,25 +78,27 @@ module _ (g : Geometry) (ws : List ℕ) (used : List Bool) (upper xs : List ℕ)
       let h = inside in
       let s = short in
       let f = k .free in
-      let c = count-few (g .p) used (k .in-use .places) (k .in-use .marks) in
-      (k .in-use, record {
-        valid = k .valid;
-        words = k .words;
-        marks-long = k .marks-long;
-        out-long = shut-length;
-        xs-long = k .xs-long;
-        ys-long = shut-length;
-        cursor-low = k .cursor-low;
-        x-low = omega arith;
-        x-high = omega arith;
-        y-low = omega arith;
-        y-high = omega arith;
-        upper = λ e i l. absurd (omega arith);
-        paged = λ e. absurd (true≢false (sym e));
-        lower = shut-blocks;
-        room = omega arith;
-        free = omega arith;
-      })
+      let c = count-few (g .p) used (k .in-use .places) (k .in-use .marks) in (
+        k .in-use,
+        record {
+          valid = k .valid;
+          words = k .words;
+          marks-long = k .marks-long;
+          out-long = shut-length;
+          xs-long = k .xs-long;
+          ys-long = shut-length;
+          cursor-low = k .cursor-low;
+          x-low = omega arith;
+          x-high = omega arith;
+          y-low = omega arith;
+          y-high = omega arith;
+          upper = λ e i l. absurd (omega arith);
+          paged = λ e. absurd (true≢false (sym e));
+          lower = shut-blocks;
+          room = omega arith;
+          free = omega arith;
+        },
+      )
 
   shut-level : levelOf g ws shut (a - w) ≡ leftOf g ws upper first ++ rightOf g ws upper first w a
   shut-level =

@@ -142,25 +142,27 @@ module _ (g : Geometry) (ws : List ℕ) (used : List Bool) (lower : List ℕ) (n
           let f = k .free in
           let m = k .room in
           let s = few in
-          let c = count-few (g .p) used (k .in-use .places) (k .in-use .marks) in
-          (k .in-use, record {
-            valid = k .valid;
-            words = k .words;
-            marks-long = k .marks-long;
-            out-long = k .under .long;
-            xs-long = xl;
-            ys-long = k .under .long;
-            cursor-low = k .cursor-low;
-            x-low = omega arith;
-            x-high = omega arith;
-            y-low = ends-in-order w above under r ch oa ou w-low fits;
-            y-high = rw lu at (ends-inside w above under r ch oa ou w-low fits);
-            upper = λ t. absurd (true≢false t);
-            paged = λ _ j b. record { low = omega arith; bits = k .bits j (omega arith) };
-            lower = k .under .blocks;
-            room = omega arith;
-            free = omega arith;
-          })
+          let c = count-few (g .p) used (k .in-use .places) (k .in-use .marks) in (
+            k .in-use,
+            record {
+              valid = k .valid;
+              words = k .words;
+              marks-long = k .marks-long;
+              out-long = k .under .long;
+              xs-long = xl;
+              ys-long = k .under .long;
+              cursor-low = k .cursor-low;
+              x-low = omega arith;
+              x-high = omega arith;
+              y-low = ends-in-order w above under r ch oa ou w-low fits;
+              y-high = rw lu at (ends-inside w above under r ch oa ou w-low fits);
+              upper = λ t. absurd (true≢false t);
+              paged = λ _ j b. record { low = omega arith; bits = k .bits j (omega arith) };
+              lower = k .under .blocks;
+              room = omega arith;
+              free = omega arith;
+            },
+          )
 
       run-pages : each (pageAt g ws) (r .first) w ≡ take w (drop (r .first) above)
       run-pages =

@@ -225,25 +225,27 @@ module _ (g : Geometry) (ws : List ℕ) (used : List Bool) (upper lower : List �
           let f = k .free in
           let m = k .room in
           let c = count-few (g .p) used1 (used-then .places) (used-then .marks) in
-          let d = used-few in
-          (used-then, record {
-            valid = k .valid;
-            words = after-long g ws ws1 used used1 upper1 u at-start (close (g .b) 1 left right) (k .words) (k .cursor-low) shut-free shut-fit (k .in-use .marks) shut;
-            marks-long = shut .marks-long;
-            out-long = k .under .long;
-            xs-long = xl;
-            ys-long = k .under .long;
-            cursor-low = after-cursor g ws ws1 used used1 upper1 u at-start (close (g .b) 1 left right) (k .words) (k .cursor-low) shut-free shut-fit (k .in-use .marks) shut;
-            x-low = omega arith;
-            x-high = omega arith;
-            y-low = e;
-            y-high = l;
-            upper = λ _ j b. kept-block (getD xs j 0) (xs-block j (omega arith));
-            paged = λ t. absurd (true≢false (sym t));
-            lower = λ j b. kept-block (getD lower j 0) (k .under .blocks j b);
-            room = omega arith;
-            free = omega arith;
-          })
+          let d = used-few in (
+            used-then,
+            record {
+              valid = k .valid;
+              words = after-long g ws ws1 used used1 upper1 u at-start (close (g .b) 1 left right) (k .words) (k .cursor-low) shut-free shut-fit (k .in-use .marks) shut;
+              marks-long = shut .marks-long;
+              out-long = k .under .long;
+              xs-long = xl;
+              ys-long = k .under .long;
+              cursor-low = after-cursor g ws ws1 used used1 upper1 u at-start (close (g .b) 1 left right) (k .words) (k .cursor-low) shut-free shut-fit (k .in-use .marks) shut;
+              x-low = omega arith;
+              x-high = omega arith;
+              y-low = e;
+              y-high = l;
+              upper = λ _ j b. kept-block (getD xs j 0) (xs-block j (omega arith));
+              paged = λ t. absurd (true≢false (sym t));
+              lower = λ j b. kept-block (getD lower j 0) (k .under .blocks j b);
+              room = omega arith;
+              free = omega arith;
+            },
+          )
 
       -- and are what document 01 asks for
       run-blocks : blocksOf g ws1 xs (r .first) w ≡ take w (drop (r .first) above)

@@ -86,14 +86,7 @@ fn choose_listed(
 }
 
 // Step 1 out of level 0, all of whose pages are full.
-fn choose_pages(
-    s: &[u32],
-    lower: &[u32; 4096],
-    g: Geometry,
-    a: usize,
-    n: usize,
-    w: usize,
-) -> Picked
+fn choose_pages(s: &[u32], lower: &[u32; 4096], g: Geometry, a: usize, n: usize, w: usize) -> Picked
     requires { ⌜ Valid g × ((length (now s) ≡ storeLength g) × ((1 ≤ w) × ((w ≤ a) × (Paged g (now s) a × Readables g (now s) (now lower) n)))) ⌝ }
     ensures { λ r. ⌜ Chosen w (pages (g .b) (topRecs g (now (s .entry)))) (levelOf g (now (s .entry)) (now (lower .entry)) n) r ⌝ }
 {
@@ -171,9 +164,9 @@ pub fn merge_pair(
     requires { ⌜ PairReady g (now s) (now used) (now upper) (now lower) level a n cursor ⌝ }
     ensures { λ r. ⌜ ((al : Allocation) → al .cursor ≡ cursor → Marks (now (used .entry)) (al .used)
         → PairLeaves g (upperAfter g level al (cutOf g level (levelOf g (now (s .entry)) (now (upper .entry)) a) (levelOf g (now (s .entry)) (now (lower .entry)) n)))
-            (lowerAfter g level (upperAfter g level al (cutOf g level (levelOf g (now (s .entry)) (now (upper .entry)) a) (levelOf g (now (s .entry)) (now (lower .entry)) n)) .allocation) (cutOf g level (levelOf g (now (s .entry)) (now (upper .entry)) a) (levelOf g (now (s .entry)) (now (lower .entry)) n)))
-            (choose (windowOf g level) (levelOf g (now (s .entry)) (now (upper .entry)) a) (levelOf g (now (s .entry)) (now (lower .entry)) n))
-            (now (s .entry)) (now (s .exit)) (now (used .exit)) (now (upper .exit)) (now (lower .exit)) r) ⌝ }
+        (lowerAfter g level (upperAfter g level al (cutOf g level (levelOf g (now (s .entry)) (now (upper .entry)) a) (levelOf g (now (s .entry)) (now (lower .entry)) n)) .allocation) (cutOf g level (levelOf g (now (s .entry)) (now (upper .entry)) a) (levelOf g (now (s .entry)) (now (lower .entry)) n)))
+        (choose (windowOf g level) (levelOf g (now (s .entry)) (now (upper .entry)) a) (levelOf g (now (s .entry)) (now (lower .entry)) n))
+        (now (s .entry)) (now (s .exit)) (now (used .exit)) (now (upper .exit)) (now (lower .exit)) r) ⌝ }
 {
     let h = g.levels();
     let w = g.window(level);
@@ -216,8 +209,8 @@ pub fn merge_pages(
     requires { ⌜ PagesReady g (now s) (now used) (now lower) n cursor ⌝ }
     ensures { λ r. ⌜ ((al : Allocation) → al .cursor ≡ cursor → Marks (now (used .entry)) (al .used)
         → PagesLeaves g (lowerAfter g 0 al (cutOf g 0 (pages (g .b) (topRecs g (now (s .entry)))) (levelOf g (now (s .entry)) (now (lower .entry)) n)))
-            (choose (windowOf g 0) (pages (g .b) (topRecs g (now (s .entry)))) (levelOf g (now (s .entry)) (now (lower .entry)) n))
-            (now (s .entry)) (now (s .exit)) (now (used .exit)) (now (lower .exit)) r) ⌝ }
+        (choose (windowOf g 0) (pages (g .b) (topRecs g (now (s .entry)))) (levelOf g (now (s .entry)) (now (lower .entry)) n))
+        (now (s .entry)) (now (s .exit)) (now (used .exit)) (now (lower .exit)) r) ⌝ }
 {
     let h = g.levels();
     let a = g.capacity(0);
