@@ -1,18 +1,17 @@
 -- What stands after blocks have been written at free places: every block that was listed.
-use Prim.Native.Nat.{ℕ, zero, suc, _+_, _-_, _≤_, _<_}
-use mathlib.Core.Path.{_≡_, refl, sym, ap, _∙_}
+use Prim.Native.Nat.{ℕ, zero, suc, _+_, _≤_, _<_}
+use mathlib.Core.Path.{_≡_, refl, sym, _∙_}
 use mathlib.Core.Bool.{Bool, true, false, true≢false}
-use mathlib.Core.List.{List, [], _∷_, _++_, map, reverse}
+use mathlib.Core.List.{List, [], _∷_, map, reverse}
 use mathlib.Core.Option.{Option, none, some}
 use native.Mathlib.Omega.{arith}
-use lib.ListN.{length, getD, take, drop}
+use lib.ListN.{length, getD}
 use Rattle.geometry.specs.declared.Geometry.{Geometry}
-use Rattle.geometry.specs.Geometry.{placesStart, storeLength}
-use Rattle.levels.specs.Basics.{member}
-use Rattle.levels.specs.Record.{Rec, Block, Level, size, placed}
-use Rattle.levels.specs.Merge.{join, close}
-use Rattle.levels.specs.Place.{Allocation, Settled, settle}
-use Rattle.levels.proofs.Fresh.{fresh, one, reverse-fresh}
+use Rattle.geometry.specs.Geometry.{storeLength}
+use Rattle.levels.specs.Record.{Rec, Level}
+use Rattle.levels.specs.Merge.{close}
+use Rattle.levels.specs.Place.{Allocation, settle}
+use Rattle.levels.proofs.Fresh.{fresh, reverse-fresh}
 use Rattle.levels.proofs.MergeWrites.{close-writes}
 use Rattle.levels.proofs.Settling.{settle-used}
 use Rattle.words.specs.Layout.{blockAt, areaOf, writeBlocks}

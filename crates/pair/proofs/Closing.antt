@@ -1,8 +1,8 @@
 -- Step 2: the run's entries leave the list, and a merge of nothing between the neighbours of the run is the join that document 01 asks for.
-use Prim.Native.Nat.{ℕ, zero, suc, _+_, _-_, _≤_, _<_}
+use Prim.Native.Nat.{ℕ, _+_, _-_, _≤_, _<_}
 use mathlib.Core.Path.{_≡_, refl, sym, ap, _∙_}
-use mathlib.Core.Bool.{Bool, true, false, true≢false}
-use mathlib.Core.List.{List, [], _∷_, _++_, map, map-append}
+use mathlib.Core.Bool.{Bool, false, true≢false}
+use mathlib.Core.List.{List, [], _++_, map, map-append}
 use mathlib.Core.Logic.{dite}
 use native.Mathlib.Decide.{decLt}
 use native.Mathlib.Omega.{arith}
@@ -10,7 +10,7 @@ use lib.ListN.{length, getD, take, drop, List·getD-append}
 use lib.Seq.{length-take-le, getD-take, getD-drop, getD-append-add, take-at, drop-at}
 use Rattle.geometry.specs.declared.Geometry.{Geometry}
 use Rattle.levels.specs.Record.{Level}
-use Rattle.levels.specs.Merge.{merge, close}
+use Rattle.levels.specs.Merge.{close}
 use Rattle.levels.specs.Place.{Allocation, settle}
 use Rattle.words.specs.Layout.{blockAt}
 use Rattle.choice.proofs.Lists.{map-drop}

@@ -1,25 +1,24 @@
 -- Blocks that are written at free places change no word of a place in use.
-use Prim.Native.Nat.{ℕ, zero, suc, _+_, _-_, _*_, _^_, _≤_, _<_}
+use Prim.Native.Nat.{ℕ, _+_, _*_, _≤_, _<_}
 use mathlib.Core.Path.{_≡_, refl, sym, ap, _∙_}
-use mathlib.Core.Bool.{Bool, true, false, _||_, or-true, true≢false}
-use mathlib.Core.List.{List, [], _∷_, _++_, map}
-use mathlib.Core.Logic.{_≢_}
+use mathlib.Core.Bool.{true, false, or-true, true≢false}
+use mathlib.Core.List.{List, [], _∷_, _++_}
 use mathlib.Core.Option.{Option, none, some}
 use native.Mathlib.Nat.{add-zero}
 use native.Mathlib.Omega.{arith}
 use lib.Dec.{eqb}
-use lib.ListN.{length, getD, take, drop, length-append, length-drop}
+use lib.ListN.{length, getD, take, length-append, length-drop}
 use lib.Seq.{take-at, drop-at, length-take-le}
 use Rattle.geometry.specs.declared.Geometry.{Geometry}
 use Rattle.geometry.specs.Geometry.{placesStart, placeStart, blockWidth, storeLength}
 use Rattle.levels.specs.Basics.{member}
-use Rattle.levels.specs.Record.{Rec, Block, Level, size, placed}
+use Rattle.levels.specs.Record.{Rec, Block, Level, placed}
 use Rattle.levels.specs.Place.{firstFree, Allocation, Settled, settle}
 use Rattle.levels.proofs.FirstFree.{first-free}
 use Rattle.levels.proofs.Fresh.{fresh}
 use Rattle.levels.proofs.Settling.{taking}
 use Rattle.words.specs.Layout.{word, recordCount, markWordAt, blockSlots, blockAt, areaOf, writeBlock, writeBlocks}
-use Rattle.words.proofs.Parts.{part, part-word}
+use Rattle.words.proofs.Parts.{part-word}
 use Rattle.words.proofs.Slots.{slots-agree}
 use Rattle.words.proofs.Blocks.{placeWords, place-words, write-length, write-other}
 use Rattle.merging.proofs.Settle.{NewFit}

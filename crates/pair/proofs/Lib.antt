@@ -9,3 +9,4 @@ pub mod Closing
 pub mod Pair
 pub mod Numbers
 pub mod Pages
+pub mod Ready

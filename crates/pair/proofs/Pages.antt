@@ -1,17 +1,17 @@
 -- The whole merge out of level 0.
-use Prim.Native.Nat.{ℕ, zero, suc, _+_, _-_, _*_, _≤_, _<_}
+use Prim.Native.Nat.{ℕ, zero, suc, _+_, _-_, _*_, _≤_}
 use mathlib.Core.Path.{_≡_, refl, sym, ap, _∙_}
-use mathlib.Core.Bool.{Bool, true, false, true≢false}
-use mathlib.Core.List.{List, [], _∷_, _++_, map}
+use mathlib.Core.Bool.{Bool, true, true≢false}
+use mathlib.Core.List.{List, [], _++_, map}
 use native.Mathlib.Nat.{zero-add}
 use native.Mathlib.Omega.{arith}
 use lib.Dec.{eqb}
-use lib.ListN.{length, getD, take, drop, length-append}
+use lib.ListN.{length, take, drop, length-append}
 use lib.Seq.{take-all, take-at, drop-at}
 use Rattle.geometry.specs.declared.Geometry.{Geometry}
 use Rattle.geometry.specs.Geometry.{Valid, windowOf, capacityOf, topCapacityOf, marksStart, keysStart, paysStart, storeLength}
-use Rattle.geometry.proofs.Laws.{window-low, capacity-windows, level-high}
-use Rattle.levels.specs.Record.{Block, Level, records, rising, pages}
+use Rattle.geometry.proofs.Laws.{window-low, level-high}
+use Rattle.levels.specs.Record.{Level, records, rising, pages}
 use Rattle.levels.specs.Choose.{choose}
 use Rattle.levels.specs.Choose as choosing
 use Rattle.levels.specs.Merge.{merge}

@@ -1,26 +1,26 @@
 -- The whole merge between two listed levels.
-use Prim.Native.Nat.{ℕ, zero, suc, _+_, _-_, _*_, _≤_, _<_}
+use Prim.Native.Nat.{ℕ, zero, suc, _+_, _-_, _≤_, _<_}
 use mathlib.Core.Path.{_≡_, refl, sym, ap, _∙_}
-use mathlib.Core.Bool.{Bool, true, false, true≢false}
+use mathlib.Core.Bool.{Bool, false, true≢false}
 use mathlib.Core.List.{List, [], _∷_, _++_, map}
 use native.Mathlib.Omega.{arith}
 use lib.Dec.{eqb}
 use lib.ListN.{length, getD, take, drop, length-append}
 use lib.Seq.{length-take-le, take-take}
 use Rattle.geometry.specs.declared.Geometry.{Geometry}
-use Rattle.geometry.specs.Geometry.{windowOf, placesStart, storeLength}
+use Rattle.geometry.specs.Geometry.{windowOf, placesStart}
 use Rattle.geometry.proofs.Laws.{window-low}
-use Rattle.levels.specs.Record.{Block, Level, size, rising, records}
+use Rattle.levels.specs.Record.{Level, size}
 use Rattle.levels.specs.Choose.{choose, cutAt}
 use Rattle.levels.specs.Choose as choosing
 use Rattle.levels.specs.Merge.{merge, close}
-use Rattle.levels.specs.Place.{Allocation, Settled, settle, placesOf}
-use Rattle.levels.proofs.Fresh.{fresh, olds, count-all}
+use Rattle.levels.specs.Place.{Allocation, settle}
+use Rattle.levels.proofs.Fresh.{fresh, count-all}
 use Rattle.levels.proofs.Settling.{written-length, settle-length}
-use Rattle.words.specs.Layout.{word, recordCount, blockSlots, blockAt, areaOf, writeBlocks}
+use Rattle.words.specs.Layout.{recordCount, blockSlots, blockAt, areaOf, writeBlocks}
 use Rattle.words.proofs.Slots.{slots-length}
 use Rattle.words.proofs.Blocks.{writes-append}
-use Rattle.choice.specs.Fences.{Ordered, Readable, fenceOf}
+use Rattle.choice.specs.Fences.{Ordered, fenceOf}
 use Rattle.choice.proofs.Levels.{Filled, level-ordered}
 use Rattle.choice.proofs.Lists.{map-take, map-drop}
 use Rattle.blocks.specs.Blocks.{Marks}
@@ -29,7 +29,6 @@ use Rattle.merging.specs.declared.Merged.{Merged}
 use Rattle.merging.specs.Contract.{ListedBlock, blocksOf, mergeOf, Mergeable, Leaves}
 use Rattle.merging.proofs.Settle.{NewFit}
 use Rattle.pair.specs.declared.Picked.{Picked}
-use Rattle.pair.specs.declared.Step.{Step}
 use Rattle.pair.specs.Contract.{levelOf, cutOf, upperAfter, lowerAfter, InUse, Chosen, Readables, Stored, Closable, leftOf, rightOf, PairReady, PairLeaves}
 use Rattle.pair.proofs.Lists.{take-entry}
 use Rattle.pair.proofs.Kept.{base-take, base-drop}

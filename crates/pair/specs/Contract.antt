@@ -1,24 +1,23 @@
 -- Steps 1 to 4 of a merge between two levels, as the lists and the words have them: what is asked, and what is left.
 use Prim.Native.Nat.{ℕ, suc, _+_, _-_, _*_, _^_, _≤_, _<_}
 use mathlib.Core.Path.{_≡_}
-use mathlib.Core.Bool.{Bool, true, false}
-use mathlib.Core.List.{List, [], _∷_, _++_, map}
+use mathlib.Core.Bool.{Bool, true}
+use mathlib.Core.List.{List, _++_, map}
 use lib.Dec.{eqb}
 use lib.ListN.{length, take, drop, getD}
 use Rattle.geometry.specs.declared.Geometry.{Geometry}
 use Rattle.geometry.specs.Geometry.{Valid, windowOf, capacityOf, topCapacityOf, marksStart, placesStart, storeLength}
-use Rattle.levels.specs.Record.{Block, Level, records, rising, pages}
+use Rattle.levels.specs.Record.{Level, records, rising, pages}
 use Rattle.levels.specs.Choose.{Least, choose, cutAt}
 use Rattle.levels.specs.Choose as choosing
 use Rattle.levels.specs.Merge.{merge, close}
 use Rattle.levels.specs.Place.{Allocation, Settled, settle, placesOf}
 use Rattle.words.specs.Layout.{word, blockAt, areaOf, writeBlocks, topRecs, topCountAt}
 use Rattle.choice.specs.declared.Stretch.{Stretch}
-use Rattle.choice.specs.Fences.{Fence, Ordered, Readable, fenceOf, fencesOf, stretchOf}
+use Rattle.choice.specs.Fences.{Ordered, Readable, fenceOf, stretchOf}
 use Rattle.blocks.specs.Blocks.{Marks}
 use Rattle.merging.specs.declared.Cut.{Cut}
-use Rattle.merging.specs.declared.Merged.{Merged}
-use Rattle.merging.specs.Contract.{ListedBlock, FullPage, Mergeable, Leaves}
+use Rattle.merging.specs.Contract.{ListedBlock}
 use Rattle.pair.specs.declared.Picked.{Picked}
 use Rattle.pair.specs.declared.Step.{Step}
 

@@ -2,8 +2,8 @@
 
 ghost use mathlib.Core.Path.{_≡_};
 ghost use mathlib.Core.List.{map};
-ghost use Prim.Native.Nat.{ℕ, _+_, _*_, _≤_, _<_};
-ghost use lib.ListN.{length, take};
+ghost use Prim.Native.Nat.{_≤_};
+ghost use lib.ListN.{length};
 ghost use Rattle.geometry.specs.Geometry.{Valid, windowOf, storeLength};
 ghost use Rattle.levels.specs.Record.{Level, pages};
 ghost use Rattle.levels.specs.Choose.{choose};
@@ -14,8 +14,6 @@ ghost use Rattle.choice.specs.Fences.{Fenced, fenceOf, fencesOf};
 ghost use Rattle.blocks.specs.Blocks.{Marks};
 ghost use Rattle.merging.specs.Contract.{mergeOf, Mergeable, Leaves};
 ghost use Rattle.pair.specs.Contract.{levelOf, cutOf, upperAfter, lowerAfter, Chosen, Readables, Paged, InUse, Closable, leftOf, rightOf, PairReady, PairLeaves, PagesReady, PagesLeaves};
-use choice::Choice;
-use choice::Stretch;
 use geometry::Geometry;
 use merging::Cut;
 use merging::Merged;
