@@ -1,0 +1,99 @@
+-- The places of blocks as the code sees them: offsets computed once, marks of places in use, the buffer of a block, and what writing it leaves.
+use Prim.Native.Nat.{ℕ, zero, suc, _+_, _-_, _*_, _^_, _≤_, _<_}
+use mathlib.Core.Path.{_≡_}
+use mathlib.Core.Bool.{Bool, true, false}
+use mathlib.Core.List.{List, [], _∷_, _++_}
+use mathlib.Core.Option.{some}
+use lib.Dec.{ltb}
+use lib.ListN.{getD, set, length, replicate, take}
+use Rattle.geometry.specs.declared.Geometry.{Geometry}
+use Rattle.geometry.specs.Geometry.{capacityOf, marksStart, keysStart, paysStart, placesStart}
+use Rattle.levels.specs.Basics.{if_then_else_, member}
+use Rattle.levels.specs.Record.{Rec}
+use Rattle.levels.specs.Place.{after}
+use Rattle.words.specs.Layout.{pad, keysOf, paysOf, markWord, areaOf, writeBlock}
+use Rattle.blocks.specs.declared.Layout.{Layout}
+use Rattle.blocks.specs.declared.Buffer.{Buffer}
+
+-- the numbers of a geometry that a merge reads at every step
+abbrev pub layoutOf : Geometry → Layout
+layoutOf g =
+    record { b = g .b; p = g .p; top = capacityOf g 0; marks = marksStart g; keys = keysStart g; pays = paysStart g; base = placesStart g }
+
+-- a store of this layout: its places end it, and level 0 lies before them
+pub record Sized (z : Layout) (xs : List ℕ) : Type 0 where
+  pub b-low : 2 ≤ z .b
+  pub b-high : z .b ≤ 16
+  pub places : z .p ≤ 8192
+  pub base-high : z .base ≤ 1000000
+  pub marks-end : z .marks + z .top ≤ z .base
+  pub keys-end : z .keys + z .top * z .b ≤ z .base
+  pub pays-end : z .pays + z .top * z .b ≤ z .base
+  pub words : length xs ≡ z .base + z .p * (2 + 2 * z .b)
+
+-- the first word of a place
+unfoldable pub startOf : Layout → ℕ → ℕ
+startOf z place = z .base + place * (2 + 2 * z .b)
+
+-- the place k steps after the cursor, going round at p
+unfoldable pub afterBy : ℕ → ℕ → ℕ → ℕ
+afterBy p cursor k = if ltb (cursor + k) p then cursor + k else cursor + k - p
+
+-- a place is not marked as in use
+abbrev pub Free : List Bool → ℕ → Type 0
+Free used q = getD used q false ≡ false
+
+-- some place below p is free
+pub record SomeFree (used : List Bool) (p : ℕ) : Type 0 where
+  pub at : ℕ
+  pub low : at < p
+  pub free : Free used at
+
+-- levels' `freeAfter` over marks: the first of the n places after q, going round, that is not in use; the last of them if all are
+unfoldable pub freeMark : ℕ → ℕ → List Bool → ℕ → ℕ
+freeMark zero p used q = q
+freeMark (suc n) p used q = elim (getD used (after p q) false) [ true ↦ freeMark n p used (after p q) | false ↦ after p q ]
+
+-- "the first free place after hand, going round"
+abbrev pub nextMark : ℕ → List Bool → ℕ → ℕ
+nextMark p used cursor = freeMark p p used cursor
+
+-- the marks, with the first n entries of a place list marked too
+unfoldable pub marked : List Bool → List ℕ → ℕ → List Bool
+marked used list zero = used
+marked used list (suc n) = set (marked used list n) (getD list n 0) true
+
+-- the marks say of each place whether it is one of these
+abbrev pub Marks : List Bool → List ℕ → Type 0
+Marks used places = (q : ℕ) → getD used q false ≡ member q places
+
+abbrev pub emptyBuffer : Buffer
+emptyBuffer = record { keys = replicate 16 0; pays = replicate 16 0; marks = 0; n = 0 }
+
+abbrev pub pushed : Buffer → ℕ → ℕ → ℕ → Buffer
+pushed b key tombstone pay =
+    record { keys = set (b .keys) (b .n) key; pays = set (b .pays) (b .n) pay; marks = b .marks + tombstone * 2 ^ b .n; n = b .n + 1 }
+
+-- the buffer that holds these records
+unfoldable pub bufferOf : List Rec → Buffer
+bufferOf rs = record { keys = pad 16 (keysOf rs); pays = pad 16 (paysOf rs); marks = markWord rs; n = length rs }
+
+-- the first n words of src, put over the words from `to` on
+unfoldable pub copied : List ℕ → ℕ → List ℕ → ℕ → List ℕ
+copied xs to src zero = xs
+copied xs to src (suc n) = set (copied xs to src n) (to + n) (getD src n 0)
+
+-- count, mark word, keys and payloads of a buffer, put over the words of a place
+unfoldable pub written : Layout → List ℕ → ℕ → Buffer → List ℕ
+written z xs place buf =
+    let at = startOf z place in
+    copied (copied (set (set xs at (buf .n)) (at + 1) (buf .marks)) (at + 2) (buf .keys) (z .b)) (at + 2 + z .b) (buf .pays) (z .b)
+
+-- the whole store after a block of these records has been written at a place: no word before the places changes
+abbrev pub withBlock : Geometry → List ℕ → ℕ → List Rec → List ℕ
+withBlock g ws place rs = take (placesStart g) ws ++ writeBlock g (areaOf g ws) (record { place = some place; recs = rs })
+
+-- what a write says in records: whenever the buffer holds rs, the place holds a block of rs afterwards
+abbrev pub WritesRecords : Layout → List ℕ → ℕ → Buffer → List ℕ → Type 0
+WritesRecords z xs place buf ys =
+    (g : Geometry) → z ≡ layoutOf g → (rs : List Rec) → buf ≡ bufferOf rs → length rs ≤ g .b → ys ≡ withBlock g xs place rs

@@ -1,0 +1,149 @@
+// Places of blocks: the offsets of a geometry, the first free place after the cursor, the marks of
+// places in use, the buffer that gathers the records of a block, and the writing of a block.
+
+ghost use mathlib.Core.Path.{_≡_};
+ghost use Prim.Native.Nat.{ℕ, _+_, _-_, _*_, _^_, _≤_, _<_};
+ghost use lib.ListN.{length, getD};
+ghost use Rattle.geometry.specs.Geometry.{Valid};
+ghost use Rattle.blocks.specs.Blocks.{Sized, layoutOf, startOf, afterBy, SomeFree, nextMark, marked, pushed, emptyBuffer, copied, written, WritesRecords};
+use geometry::Geometry;
+
+// What a merge reads of the geometry at every step, computed once: B, P, K(0), and where level 0's
+// mark words, keys and payloads and place 0 start.
+pub struct Layout {
+    pub b: usize,
+    pub p: usize,
+    pub top: usize,
+    pub marks: usize,
+    pub keys: usize,
+    pub pays: usize,
+    pub base: usize,
+}
+
+// Records that wait for a block: bit j of marks is record j's tombstone bit.
+pub struct Buffer {
+    pub keys: [u32; 16],
+    pub pays: [u32; 16],
+    pub marks: u32,
+    pub n: usize,
+}
+
+impl Layout {
+    pub fn of(g: Geometry) -> Layout
+        requires { ⌜ Valid g ⌝ }
+        ensures { λ r. ⌜ r ≡ layoutOf g ⌝ }
+    {
+        Layout {
+            b: g.block_records(),
+            p: g.places(),
+            top: g.capacity(0),
+            marks: g.marks_start(),
+            keys: g.keys_start(),
+            pays: g.pays_start(),
+            base: g.places_start(),
+        }
+    }
+}
+
+pub fn empty() -> Buffer
+    ensures { λ r. ⌜ r ≡ emptyBuffer ⌝ }
+{
+    Buffer {
+        keys: [0; 16],
+        pays: [0; 16],
+        marks: 0,
+        n: 0,
+    }
+}
+
+impl Buffer {
+    // One record more; tombstone is 0 or 1.
+    pub fn push(mut self, key: u32, tombstone: u32, pay: u32) -> Buffer
+        requires { ⌜ (self .n < 16) × (tombstone < 2) × (self .marks < 2 ^ self .n) ⌝ }
+        ensures { λ r. ⌜ r ≡ pushed self key tombstone pay ⌝ }
+    {
+        let n = self.n;
+        self.keys[n] = key;
+        self.pays[n] = pay;
+        self.marks = self.marks + (tombstone << n);
+        self.n = n + 1;
+        self
+    }
+}
+
+// The first word of a place.
+pub fn place_start(z: Layout, place: usize) -> usize
+    requires { ⌜ (z .b ≤ 16) × (z .base ≤ 1000000) × (place ≤ 8192) ⌝ }
+    ensures { λ r. ⌜ r ≡ startOf z place ⌝ }
+{
+    let b = z.b;
+    z.base + place * (2 + 2 * b)
+}
+
+// The place k steps after the cursor, going round at p.
+fn place_after(p: usize, cursor: usize, k: usize) -> usize
+    requires { ⌜ (p ≤ 8192) × (cursor < p) × (k ≤ p) ⌝ }
+    ensures { λ r. ⌜ r ≡ afterBy p cursor k ⌝ }
+{
+    if cursor + k < p {
+        cursor + k
+    } else {
+        cursor + k - p
+    }
+}
+
+// The first free place after the cursor, going round.
+pub fn first_free(used: &[bool; 8192], p: usize, cursor: usize) -> usize
+    requires { ⌜ (p ≤ 8192) × (cursor < p) × SomeFree (now used) p ⌝ }
+    ensures { λ r. ⌜ r ≡ nextMark p (now (used .entry)) cursor ⌝ }
+{
+    let mut k = 1;
+    loop {
+        let q = place_after(p, cursor, k);
+        if !used[q] {
+            break q;
+        }
+        k += 1;
+    }
+}
+
+// The first n places of a list are marked as in use.
+pub fn mark_listed(used: &mut [bool; 8192], list: &[u32; 4096], n: usize)
+    requires { ⌜ (n ≤ 4096) × ((i : ℕ) → i < n → getD (now list) i 0 < 8192) ⌝ }
+    ensures { λ _. ⌜ now (used .exit) ≡ marked (now (used .entry)) (now (list .entry)) n ⌝ }
+{
+    for i in 0..n {
+        let q = list[i] as usize;
+        used[q] = true;
+    }
+}
+
+// The first n words of src, to the words of s from `to` on.
+fn copy(s: &mut [u32], to: usize, src: &[u32; 16], n: usize)
+    requires { ⌜ (n ≤ 16) × (to + n ≤ length (now s)) ⌝ }
+    ensures { λ _. ⌜ now (s .exit) ≡ copied (now (s .entry)) to (now (src .entry)) n ⌝ }
+{
+    for i in 0..n {
+        let v = src[i];
+        s[to + i] = v;
+    }
+}
+
+// The buffer's count, mark word, keys and payloads, at a place; unused slots are 0 in the buffer
+// already, so the place's whole width is filled.
+pub fn write_block(s: &mut [u32], z: Layout, place: usize, buf: Buffer)
+    requires { ⌜ Sized z (now s) × (place < z .p) × (buf .n ≤ 16) ⌝ }
+    ensures { λ _. ⌜ (now (s .exit) ≡ written z (now (s .entry)) place buf)
+        × WritesRecords z (now (s .entry)) place buf (now (s .exit)) ⌝ }
+{
+    let at = place_start(z, place);
+    let b = z.b;
+    let n = buf.n;
+    let m = buf.marks;
+    let keys = buf.keys;
+    let pays = buf.pays;
+    s[at] = n as u32;
+    s[at + 1] = m;
+    copy(s, at + 2, &keys, b);
+    copy(s, at + 2 + b, &pays, b);
+}

@@ -1,0 +1,190 @@
+// Step 4 of a merge: a leftover joins the block before it, the last block joins the block after Y,
+// and the blocks after Y follow.
+
+ghost use mathlib.Core.Path.{_≡_};
+ghost use Prim.Native.Nat.{ℕ, _+_, _-_, _*_, _^_, _/_, _%_, _≤_, _<_};
+ghost use lib.ListN.{length, getD, set};
+ghost use Rattle.blocks.specs.Blocks.{Sized, startOf};
+ghost use Rattle.stream.specs.Machine.{Memory, lastSize, Flushable, flushed};
+ghost use Rattle.joins.specs.Joins.{Clean, Loadable, appended, joined, Pullable, pulled, Lefts, leftJoined, Afters, afterTaken, afterJoined, restedOut, Closable, closed};
+use blocks::Buffer;
+use blocks::Layout;
+use stream::Progress;
+
+// The first n records of the block whose words start at `at`, after those of the buffer.
+fn append_words(s: &[u32], z: Layout, at: usize, n: usize, buf: Buffer) -> Buffer
+    requires { ⌜ (at + (2 + 2 * z .b) ≤ length (now s)) × (n ≤ z .b) × (z .b ≤ 16) × (buf .n + n ≤ 16) × Clean buf ⌝ }
+    ensures { λ r. ⌜ r ≡ appended (z .b) (now (s .entry)) at buf n ⌝ }
+{
+    let b = z.b;
+    let m = s[at + 1];
+    let mut r = buf;
+    for j in 0..n {
+        let k = s[at + 2 + j];
+        let v = s[at + 2 + b + j];
+        r = r.push(k, (m >> j) % 2, v);
+    }
+    r
+}
+
+// The records of the block at place q, after those of the buffer.
+fn append_block(s: &[u32], z: Layout, q: usize, buf: Buffer) -> Buffer
+    requires { ⌜ Loadable z (now s) q buf ⌝ }
+    ensures { λ r. ⌜ r ≡ appended (z .b) (now (s .entry)) (startOf z q) buf (getD (now (s .entry)) (startOf z q) 0) ⌝ }
+{
+    let at = blocks::place_start(z, q);
+    let n = stream::word(s, at);
+    append_words(s, z, at, n, buf)
+}
+
+// The records of two buffers.
+fn append_buffer(a: Buffer, b: Buffer) -> Buffer
+    requires { ⌜ Clean a × (a .n + b .n ≤ 16) ⌝ }
+    ensures { λ r. ⌜ r ≡ joined a (b .keys) (b .pays) (b .marks) (b .n) ⌝ }
+{
+    let keys = b.keys;
+    let pays = b.pays;
+    let m = b.marks;
+    let n = b.n;
+    let mut r = a;
+    for j in 0..n {
+        let k = keys[j];
+        let v = pays[j];
+        r = r.push(k, (m >> j) % 2, v);
+    }
+    r
+}
+
+// The last block listed is taken back: its records stand before those of the buffer.
+fn pull_last(s: &[u32], z: Layout, out: &[u32; 4096], w: Progress) -> Progress
+    requires { ⌜ Pullable z (now s) (now out) w ⌝ }
+    ensures { λ r. ⌜ r ≡ pulled z (now (s .entry)) (now (out .entry)) w ⌝ }
+{
+    let m = w.m - 1;
+    let q = stream::listed(out, m);
+    let none = blocks::empty();
+    let last = append_block(s, z, q, none);
+    let old = w.buf;
+    let all = append_buffer(last, old);
+    Progress {
+        xi: w.xi,
+        xj: w.xj,
+        yi: w.yi,
+        yj: w.yj,
+        m: m,
+        writes: w.writes,
+        cursor: w.cursor,
+        buf: all,
+    }
+}
+
+// A leftover that with the last block holds B or fewer joins it.
+fn join_left(s: &[u32], z: Layout, out: &[u32; 4096], w: Progress) -> Progress
+    requires { ⌜ Lefts z (now s) (now out) w ⌝ }
+    ensures { λ r. ⌜ r ≡ leftJoined z (now (s .entry)) (now (out .entry)) w ⌝ }
+{
+    let buf = w.buf;
+    let n = buf.n;
+    if n == 0 {
+        return w;
+    }
+    let m = w.m;
+    let e = stream::last_size(s, z, out, m);
+    let b = z.b;
+    if e + n <= b {
+        return pull_last(s, z, out, w);
+    }
+    w
+}
+
+// The block after Y joins the buffer.
+fn take_after(s: &[u32], z: Layout, q: usize, w: Progress) -> Progress
+    requires { ⌜ Loadable z (now s) q (w .buf) × (w .yi < 4096) ⌝ }
+    ensures { λ r. ⌜ r ≡ afterTaken z (now (s .entry)) q w ⌝ }
+{
+    let buf = w.buf;
+    let all = append_block(s, z, q, buf);
+    Progress {
+        xi: w.xi,
+        xj: w.xj,
+        yi: w.yi + 1,
+        yj: 0,
+        m: w.m,
+        writes: w.writes,
+        cursor: w.cursor,
+        buf: all,
+    }
+}
+
+// The buffer, or if it is empty the last block, joins the block after Y by the same rule.
+fn join_after(
+    s: &[u32],
+    z: Layout,
+    out: &[u32; 4096],
+    ys: &[u32; 4096],
+    w: Progress,
+    end: usize,
+) -> Progress
+    requires { ⌜ Afters z (now s) (now out) (now ys) w end ⌝ }
+    ensures { λ r. ⌜ r ≡ afterJoined z (now (s .entry)) (now (out .entry)) (now (ys .entry)) w end ⌝ }
+{
+    let yi = w.yi;
+    if end <= yi {
+        return w;
+    }
+    let q = stream::listed(ys, yi);
+    let at = blocks::place_start(z, q);
+    let size = stream::word(s, at);
+    let buf = w.buf;
+    let n = buf.n;
+    let b = z.b;
+    if n == 0 {
+        let m = w.m;
+        let e = stream::last_size(s, z, out, m);
+        if e + size <= b {
+            let v = pull_last(s, z, out, w);
+            return take_after(s, z, q, v);
+        }
+        return w;
+    }
+    if n + size <= b {
+        return take_after(s, z, q, w);
+    }
+    w
+}
+
+// The entries of a place list from `from` to `end`, into another list from entry m on.
+pub fn copy_entries(out: &mut [u32; 4096], ys: &[u32; 4096], m: usize, from: usize, end: usize)
+    requires { ⌜ (end ≤ 4096) × (m + (end - from) ≤ 4096) ⌝ }
+    ensures { λ _. ⌜ now (out .exit) ≡ restedOut (now (out .entry)) m (now (ys .entry)) from (end - from) ⌝ }
+{
+    let mut k = m;
+    for i in from..end {
+        let q = ys[i];
+        out[k] = q;
+        k += 1;
+    }
+}
+
+// Step 4 of a merge: the joins, the last write, and the blocks after.
+pub fn close(
+    s: &mut [u32],
+    used: &mut [bool; 8192],
+    out: &mut [u32; 4096],
+    ys: &[u32; 4096],
+    z: Layout,
+    w: Progress,
+    end: usize,
+) -> Progress
+    requires { ⌜ Closable z (now ys) end (record { words = now s; used = now used; out = now out; st = w }) ⌝ }
+    ensures { λ r. ⌜ _≡_ {A = Memory} (record { words = now (s .exit); used = now (used .exit); out = now (out .exit); st = r }) (closed z (now (ys .entry)) end (record { words = now (s .entry); used = now (used .entry); out = now (out .entry); st = w })) ⌝ }
+{
+    let a = join_left(s, z, out, w);
+    let b = join_after(s, z, out, ys, a, end);
+    let mut v = stream::flush(s, used, out, z, b);
+    let m = v.m;
+    let from = v.yi;
+    copy_entries(out, ys, m, from, end);
+    v.m = m + (end - from);
+    v
+}

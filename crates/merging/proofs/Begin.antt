@@ -1,0 +1,69 @@
+-- A merge can begin: the blocks before Y are listed, nothing is in the buffer.
+use Prim.Native.Nat.{ℕ, zero, suc, _+_, _-_, _*_, _≤_, _<_}
+use mathlib.Core.Path.{_≡_, sym, ap, _∙_, refl}
+use mathlib.Core.Bool.{Bool, true, false}
+use mathlib.Core.List.{List, [], _∷_, _++_, reverseAux}
+use native.Mathlib.Nat.{le-refl}
+use native.Mathlib.Omega.{arith}
+use lib.Dec.{eqb}
+use lib.ListN.{length, getD, take}
+use lib.Seq.{take-suc}
+use borrow.Author.Tests.{eq-eqb, ne-eqb}
+use Rattle.levels.specs.Basics.{if_then_else_}
+use Rattle.levels.specs.Record.{Rec, Block, Level, size}
+use Rattle.blocks.specs.declared.Layout.{Layout}
+use Rattle.blocks.specs.declared.Buffer.{Buffer}
+use Rattle.blocks.specs.Blocks.{emptyBuffer, bufferOf}
+use Rattle.stream.specs.declared.Progress.{Progress}
+use Rattle.stream.specs.Machine.{Memory, blockChunk, chunkOf, lastSize}
+use Rattle.merging.specs.Relation.{headSize, flashOf, Holds, LastIs, start}
+use Rattle.merging.specs.Blocks.{recsFrom, countAt, storedAt, blocks, Flash, lay, layAll, layDone}
+use Rattle.merging.proofs.Heads.{recs-length}
+use Rattle.merging.proofs.Close.{lay-blocks, entries, entries-snoc, empty-is}
+
+lay-done : (z : Layout) (d : Flash) (l acc : Level) → layDone z d (reverseAux l acc) ≡ layAll z (layDone z d acc) l
+unfolding layAll layDone
+lay-done z d [] acc = refl
+lay-done z d (b ∷ l) acc = lay-done z d l (b ∷ acc)
+
+blocks-snoc : (z : Layout) (ws ys : List ℕ) (i n : ℕ) → blocks z false ws ys i (suc n) ≡ blocks z false ws ys i n ++ (storedAt z ws (getD ys (i + n) 0) ∷ [])
+unfolding blocks chunkOf
+blocks-snoc z ws ys i zero = let e : i + zero ≡ i = omega arith in rw e
+blocks-snoc z ws ys i (suc n) = let e : i + suc n ≡ suc i + n = omega arith in rw (e, ← blocks-snoc z ws ys (suc i) n)
+
+no-blocks : (z : Layout) (ws ys : List ℕ) → blocks z false ws ys 0 0 ≡ []
+unfolding blocks chunkOf
+no-blocks z ws ys = refl
+
+reverse-snoc : (l : Level) (b : Block) (acc : Level) → reverseAux (l ++ (b ∷ [])) acc ≡ b ∷ reverseAux l acc
+reverse-snoc [] b acc = refl
+reverse-snoc (c ∷ l) b acc = reverse-snoc l b (c ∷ acc)
+
+take-entries : (out ys : List ℕ) (m : ℕ) → m ≤ length out → ((i : ℕ) → i < m → getD out i 0 ≡ getD ys i 0) → take m out ≡ entries ys 0 m
+take-entries out ys zero h f = refl
+take-entries out ys (suc m) h f =
+    let e : 0 + m ≡ m = omega arith in
+    rw (take-suc out m 0 (omega arith), entries-snoc ys 0 m, take-entries out ys m (omega arith) (λ i l. f i (omega arith)), f m (omega arith), e)
+
+module _ (z : Layout) (a : Memory) (ys : List ℕ) (empty : a .st .buf ≡ emptyBuffer) (le : a .st .m ≤ length (a .out)) (same : (i : ℕ) → i < a .st .m → getD (a .out) i 0 ≡ getD ys i 0) where
+  ends-with : (m : ℕ) → ((i : ℕ) → i < m → getD (a .out) i 0 ≡ getD ys i 0)
+      → (lastSize z (a .words) (a .out) m ≡ headSize (z .b) (reverseAux (blocks z false (a .words) ys 0 m) [])) × LastIs z (a .words) (a .out) m (reverseAux (blocks z false (a .words) ys 0 m) [])
+  unfolding lastSize
+  ends-with zero f = rw (no-blocks z (a .words) ys) (refl, tt)
+  ends-with (suc m) f =
+      let e : suc m - 1 ≡ m = omega arith in
+      let g : 0 + m ≡ m = omega arith in
+      rw (blocks-snoc z (a .words) ys 0 m, reverse-snoc (blocks z false (a .words) ys 0 m) (storedAt z (a .words) (getD ys (0 + m) 0)) [], ne-eqb (suc m) 0 (λ h. omega arith), e, g, f m (omega arith))
+      (sym (recs-length (a .words) (blockChunk z (a .words) (getD ys m 0)) 0 (countAt z (a .words) (getD ys m 0))), λ h. refl)
+
+  pub begin-holds : Holds z (start a) (record { buffer = []; done = reverseAux (blocks z false (a .words) ys 0 (a .st .m)) [] }) a
+  unfolding layDone
+  begin-holds =
+      record {
+        buf = empty ∙ empty-is;
+        flash = lay-done z (start a) (blocks z false (a .words) ys 0 (a .st .m)) [] ∙ lay-blocks z (start a) (a .words) ys 0 (a .st .m) ∙ rw (take-entries (a .out) ys (a .st .m) le same);
+        last = ends-with (a .st .m) same .0;
+      }
+
+  pub begin-tail : LastIs z (a .words) (a .out) (a .st .m) (reverseAux (blocks z false (a .words) ys 0 (a .st .m)) [])
+  begin-tail = ends-with (a .st .m) same .1

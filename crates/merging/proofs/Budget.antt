@@ -1,0 +1,140 @@
+-- Every step of a merge finds room in the list and a free place, since its inputs pay for them.
+use Prim.Native.Nat.{ℕ, zero, suc, _+_, _-_, _*_, _≤_, _<_}
+use mathlib.Core.Path.{_≡_, sym, ap, _∙_, refl}
+use mathlib.Core.Bool.{Bool, true, false, not, _&&_, _||_, true≢false}
+use mathlib.Core.List.{List, [], _∷_}
+use mathlib.Core.Logic.{dite}
+use native.Mathlib.Decide.{decLt}
+use native.Mathlib.Nat.{mul-le-mul-left, le-of-mul-le-mul-right}
+use native.Mathlib.Omega.{arith}
+use lib.Dec.{ltb, leb, eqb}
+use lib.ListN.{length, getD}
+use borrow.Author.Tests.{le-leb}
+use Rattle.levels.specs.Basics.{if_then_else_, iterate}
+use Rattle.levels.specs.Merge.{Out, State, step}
+use Rattle.blocks.specs.declared.Layout.{Layout}
+use Rattle.blocks.specs.declared.Buffer.{Buffer}
+use Rattle.blocks.specs.Blocks.{SomeFree, bufferOf}
+use Rattle.stream.specs.declared.Progress.{Progress}
+use Rattle.stream.specs.declared.Inputs.{Inputs}
+use Rattle.stream.specs.Machine.{Memory, chunkOf, headOf, headAt, noHead, lastSize, first, tookX, tookY, tookBoth, turn, idle, turns}
+use Rattle.stream.proofs.Laws.{if-either}
+use Rattle.merging.specs.Contract.{countMarks}
+use Rattle.merging.specs.Relation.{Holds, Listed, Core, Budget, Sim, start}
+use Rattle.merging.specs.Relation as relation
+use Rattle.merging.proofs.Sim.{head-at, head-no}
+use Rattle.merging.proofs.Run.{sim-turns}
+use Rattle.merging.proofs.Paid.{Paid, took-x-paid, took-y-paid, took-both-paid, count-free}
+
+-- a step keeps the potential
+pub turn-paid : (z : Layout) (t : Inputs) (xs ys : List ℕ) (s : Memory) (o : Out) (a : Memory) → Core z t xs ys o a → Paid z t s a → idle z t xs ys a ≡ false → Paid z t s (turn z t xs ys a)
+unfolding turn
+turn-paid z t xs ys s o a c p idles = go (decLt (a .st .xi) (t .x)) (decLt (a .st .yi) (t .y))
+  where
+    go : Dec (a .st .xi < t .x) → Dec (a .st .yi < t .y) → Paid z t s (turn z t xs ys a)
+    go (no nx) (no ny) = absurd (true≢false (sym (rw (le-leb (t .x) (a .st .xi) (omega arith), le-leb (t .y) (a .st .yi) (omega arith))) ∙ idles))
+    go (yes gx) (no ny) =
+        rw (head-at z t xs ys (start s) (t .pages) (a .words) xs (a .st .xi) (a .st .xj) (t .x) gx, head-no z t xs ys (start s) false (a .words) ys (a .st .yi) (a .st .yj) (t .y) (omega arith))
+        (took-x-paid z t s a p (t .bottom) (chunkOf z (t .pages) (a .words) xs (a .st .xi)) (c .upper (a .st .xi) gx .formed .high) noHead (lastSize z (a .words) (a .out) (a .st .m)) gx (c .in-x gx))
+    go (no nx) (yes gy) =
+        rw (head-no z t xs ys (start s) (t .pages) (a .words) xs (a .st .xi) (a .st .xj) (t .x) (omega arith), head-at z t xs ys (start s) false (a .words) ys (a .st .yi) (a .st .yj) (t .y) gy)
+        (took-y-paid z t s a p (t .bottom) (chunkOf z false (a .words) ys (a .st .yi)) (c .lower (a .st .yi) gy .formed .high) noHead (lastSize z (a .words) (a .out) (a .st .m)) gy (c .in-y gy))
+    go (yes gx) (yes gy) =
+        let x = chunkOf z (t .pages) (a .words) xs (a .st .xi) in
+        let y = chunkOf z false (a .words) ys (a .st .yi) in
+        let hx = c .upper (a .st .xi) gx .formed .high in
+        let hy = c .lower (a .st .yi) gy .formed .high in
+        let kx = headAt (a .words) x (a .st .xj) in
+        let ky = headAt (a .words) y (a .st .yj) in
+        let e = lastSize z (a .words) (a .out) (a .st .m) in
+        rw (head-at z t xs ys (start s) (t .pages) (a .words) xs (a .st .xi) (a .st .xj) (t .x) gx, head-at z t xs ys (start s) false (a .words) ys (a .st .yi) (a .st .yj) (t .y) gy)
+        (if-either (Paid z t s) (first ky kx) _ _ (took-y-paid z t s a p (t .bottom) y hy kx e gy (c .in-y gy))
+        (if-either (Paid z t s) (first kx ky) _ _ (took-x-paid z t s a p (t .bottom) x hx ky e gx (c .in-x gx))
+        (took-both-paid z t s a p (t .bottom) x hx y hy gx (c .in-x gx) gy (c .in-y gy))))
+
+-- what a merge starts with: nothing written, nothing begun, room and free places for its inputs
+pub record Supplied (z : Layout) (t : Inputs) (xs ys : List ℕ) (a : Memory) : Type 0 where
+  pub core : Core z t xs ys (relation.first z t xs ys a .out) a
+  pub holds : Holds z (start a) (relation.first z t xs ys a .out) a
+  pub x-start : a .st .xj ≡ 0
+  pub y-start : a .st .yj ≡ 0
+  pub writes : a .st .writes ≡ 0
+  pub x-high : t .x ≤ 4096
+  pub y-high : t .y ≤ 4096
+  pub room : a .st .m + 2 * ((t .x - a .st .xi) + (t .y - a .st .yi)) + 2 ≤ 4096
+  pub free : countMarks (z .p) (a .used) + ((t .x - a .st .xi) + (t .y - a .st .yi)) + 1 ≤ z .p
+
+-- the potential bounds what is listed, written and marked
+pub record Bounded (z : Layout) (t : Inputs) (s a : Memory) : Type 0 where
+  pub m : a .st .m ≤ s .st .m + 2 * ((t .x - s .st .xi) + (t .y - s .st .yi))
+  pub writes : a .st .writes ≤ s .st .writes + ((t .x - s .st .xi) + (t .y - s .st .yi))
+  pub marks : countMarks (z .p) (a .used) ≤ countMarks (z .p) (s .used) + ((t .x - s .st .xi) + (t .y - s .st .yi))
+
+pub paid-bounded : (z : Layout) (t : Inputs) (s a : Memory) → 1 ≤ z .b → s .st .xi ≤ t .x → s .st .yi ≤ t .y → Paid z t s a → Bounded z t s a
+paid-bounded z t s a b hx hy p =
+    let nx = t .x - s .st .xi in
+    let ny = t .y - s .st .yi in
+    let ex : z .b * t .x ≡ z .b * (s .st .xi + nx) = ap (λ (i : ℕ). z .b * i) (omega arith) in
+    let ey : z .b * t .y ≡ z .b * (s .st .yi + ny) = ap (λ (i : ℕ). z .b * i) (omega arith) in
+    let px = p .x-end in
+    let py = p .y-end in
+    let l : a .st .m * z .b ≤ (s .st .m + 2 * (nx + ny)) * z .b = (let u = p .list in omega arith) in
+    let w : a .st .writes * z .b ≤ (s .st .writes + (nx + ny)) * z .b = (let u = p .places in omega arith) in
+    let ml = le-of-mul-le-mul-right l b in
+    let wl = le-of-mul-le-mul-right w b in
+    record { m = ml; writes = wl; marks = (let u = p .marks in omega arith) }
+
+module _ (z : Layout) (t : Inputs) (xs ys : List ℕ) (a : Memory) (k : Supplied z t xs ys a) where
+  buffer-empty : a .st .buf .n ≡ 0
+  unfolding bufferOf
+  buffer-empty = ap (λ (b : Buffer). b .n) (k .holds .buf)
+
+  first-paid : Paid z t a a
+  first-paid =
+      let n = buffer-empty in
+      let x = mul-le-mul-left {m = a .st .xi} {n = t .x} (z .b) (k .core .x-in) in
+      let y = mul-le-mul-left {m = a .st .yi} {n = t .y} (z .b) (k .core .y-in) in
+      let xj = k .x-start in
+      let yj = k .y-start in
+      record { x-end = omega arith; y-end = omega arith; list = omega arith; places = omega arith; marks = omega arith }
+
+  cores : (n : ℕ) → ((i : ℕ) → i < n → Budget z (turns z t xs ys i a)) → Core z t xs ys (iterate n (step (z .b) (t .bottom)) (relation.first z t xs ys a) .out) (turns z t xs ys n a)
+  cores n g = sim-turns z t xs ys (start a) n (relation.first z t xs ys a) a (k .core) (record { upper = refl; lower = refl; out = k .holds }) g .0
+
+  turns-paid : (n : ℕ) → ((i : ℕ) → i < n → Budget z (turns z t xs ys i a)) → Paid z t a (turns z t xs ys n a)
+  unfolding turns
+  turns-paid zero g = first-paid
+  turns-paid (suc n) g = go (idle z t xs ys (turns z t xs ys n a)) refl (turns-paid n (λ i h. g i (omega arith))) (cores n (λ i h. g i (omega arith)))
+    where
+      go : (b : Bool) → idle z t xs ys (turns z t xs ys n a) ≡ b → Paid z t a (turns z t xs ys n a) → Core z t xs ys (iterate n (step (z .b) (t .bottom)) (relation.first z t xs ys a) .out) (turns z t xs ys n a)
+          → Paid z t a (if b then turns z t xs ys n a else turn z t xs ys (turns z t xs ys n a))
+      go true e p c = p
+      go false e p c = turn-paid z t xs ys a (iterate n (step (z .b) (t .bottom)) (relation.first z t xs ys a) .out) (turns z t xs ys n a) c p e
+
+  bounded : (n : ℕ) → ((i : ℕ) → i < n → Budget z (turns z t xs ys i a)) → Bounded z t a (turns z t xs ys n a)
+  bounded n g = paid-bounded z t a (turns z t xs ys n a) (let l = k .core .sized .b-low in omega arith) (k .core .x-in) (k .core .y-in) (turns-paid n g)
+
+  budget-here : (n : ℕ) → ((i : ℕ) → i < n → Budget z (turns z t xs ys i a)) → Budget z (turns z t xs ys n a)
+  budget-here n g =
+      let b = bounded n g in
+      let c = cores n g .full in
+      let w = b .writes in
+      let m = b .m in
+      let r = k .room in
+      let z0 = k .writes in
+      record { room = omega arith; count = omega arith; free = count-free (z .p) (turns z t xs ys n a .used) (let u = b .marks in let f = k .free in omega arith) }
+
+  budgets-below : (n i : ℕ) → i < n → Budget z (turns z t xs ys i a)
+  budgets-below zero i h = absurd (omega arith)
+  budgets-below (suc n) i h = go (decLt i n) (budgets-below n)
+    where
+      go : Dec (i < n) → ((j : ℕ) → j < n → Budget z (turns z t xs ys j a)) → Budget z (turns z t xs ys i a)
+      go (yes l) f = f i l
+      go (no l) f = let e : i ≡ n = omega arith in rw e (budget-here n f)
+
+  -- there is room at every step
+  pub budgets : (i : ℕ) → Budget z (turns z t xs ys i a)
+  budgets i = budgets-below (suc i) i (omega arith)
+
+  pub turns-bounded : (n : ℕ) → Bounded z t a (turns z t xs ys n a)
+  turns-bounded n = bounded n (λ i h. budgets i)

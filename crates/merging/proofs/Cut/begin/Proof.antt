@@ -1,0 +1,15 @@
+use borrow.Author.Needs.{needs}
+use Rattle.merging.proofs.Cut.begin.Statement.{statement}
+use Rattle.merging.proofs.Cut.begin.Tie as tie
+use Rattle.merging.proofs.Cut.begin.Reads as reads
+use Rattle.merging.proofs.Cut.begin.Lts as lts
+use Rattle.blocks.proofs.empty.Reads as empty-reads
+
+empty-requires : tie.Need-empty-requires
+empty-requires c κs = search needs
+
+returns : tie.Need-returns
+returns c = rw (c .empty .ensures)
+
+pub begin-spec : {M : Type 1} → statement M
+begin-spec = tie.close (tie.spec empty-requires returns)

@@ -1,0 +1,201 @@
+-- What writing a block at a free place leaves as it was.
+use Prim.Native.Nat.{ℕ, zero, suc, _+_, _-_, _*_, _/_, _%_, _^_, _≤_, _<_}
+use mathlib.Core.Path.{_≡_, sym, ap, _∙_, refl}
+use mathlib.Core.Bool.{Bool, true, false, not, _&&_, _||_, true≢false}
+use mathlib.Core.List.{List, [], _∷_, _++_, map}
+use mathlib.Core.Option.{Option, none, some}
+use mathlib.Core.Logic.{_≢_, dite}
+use native.Mathlib.Decide.{decLt}
+use native.Mathlib.Numerals.{add-one}
+use native.Mathlib.Nat.{add-zero}
+use native.Mathlib.Omega.{arith}
+use lib.Arith.{digits-lt}
+use lib.Dec.{ltb, leb, eqb}
+use lib.ListN.{length, getD, set, length-set}
+use lib.Seq.{getD-set-same, getD-set-other}
+use Rattle.levels.specs.Basics.{if_then_else_}
+use Rattle.levels.specs.Record.{Rec, Block, Level, new, size}
+use Rattle.levels.specs.Merge.{Out}
+use Rattle.blocks.specs.declared.Layout.{Layout}
+use Rattle.blocks.specs.declared.Buffer.{Buffer}
+use Rattle.blocks.specs.Blocks.{Sized, startOf, Free, SomeFree, nextMark, pushed, written}
+use Rattle.blocks.proofs.Laws.{free-low}
+use Rattle.stream.specs.declared.Head.{Head}
+use Rattle.stream.specs.declared.Progress.{Progress}
+use Rattle.stream.specs.Machine.{Memory, chunkOf, pageChunk, blockChunk, flushed, writtenAt, append, gathered, reused, withProgress, withBuffer}
+use Rattle.stream.proofs.Laws.{if-either}
+use Rattle.merging.specs.Relation.{Formed, nextFree, Stands, Listed}
+use Rattle.stream.specs.declared.Chunk.{Chunk}
+use Rattle.merging.specs.Blocks.{recsFrom, blockOf, storedAt, countAt, blocks, beginWith, side}
+use Rattle.merging.proofs.Words.{written-other, written-low, written-length, recs-agree}
+
+-- the words of places in use, the places in use and the two sides' positions are as they were
+pub record Kept (z : Layout) (a b : Memory) : Type 0 where
+  pub xi : b .st .xi ≡ a .st .xi
+  pub xj : b .st .xj ≡ a .st .xj
+  pub yi : b .st .yi ≡ a .st .yi
+  pub yj : b .st .yj ≡ a .st .yj
+  pub words : (q : ℕ) → getD (a .used) q false ≡ true → (j : ℕ) → j < 2 + 2 * z .b → getD (b .words) (startOf z q + j) 0 ≡ getD (a .words) (startOf z q + j) 0
+  pub low : (k : ℕ) → k < z .base → getD (b .words) k 0 ≡ getD (a .words) k 0
+  pub used : (q : ℕ) → getD (a .used) q false ≡ true → getD (b .used) q false ≡ true
+  pub length-words : length (b .words) ≡ length (a .words)
+  pub length-out : length (b .out) ≡ length (a .out)
+  pub cursor : a .st .cursor < z .p → b .st .cursor < z .p
+  pub places : a .st .m < length (a .out) → ((i : ℕ) → i < a .st .m → getD (a .out) i 0 < z .p) → (a .st .cursor < z .p) → (i : ℕ) → i < b .st .m → getD (b .out) i 0 < z .p
+  pub m : b .st .m ≤ a .st .m + 2
+
+same-kept : (z : Layout) (a b : Memory) → b .words ≡ a .words → b .used ≡ a .used → b .out ≡ a .out → b .st .m ≡ a .st .m → b .st .cursor ≡ a .st .cursor
+    → b .st .xi ≡ a .st .xi → b .st .xj ≡ a .st .xj → b .st .yi ≡ a .st .yi → b .st .yj ≡ a .st .yj → Kept z a b
+same-kept z a b ew eu eo em eh xi xj yi yj =
+    record {
+      xi = xi;
+      xj = xj;
+      yi = yi;
+      yj = yj;
+      words = λ q u j l. rw ew;
+      low = λ k l. rw ew;
+      used = λ q u. rw eu u;
+      length-words = rw ew;
+      length-out = rw eo;
+      cursor = λ h. rw eh h;
+      places = λ l f h i k. rw eo (f i (rw (← em) k));
+      m = omega arith;
+    }
+
+pub full-kept : (z : Layout) (a : Memory) (b : Buffer) → Kept z a (withProgress a (withBuffer (a .st) b))
+full-kept z a b = same-kept z a (withProgress a (withBuffer (a .st) b)) refl refl refl refl refl refl refl refl refl
+
+put-places : (out : List ℕ) (m q p : ℕ) → m < length out → ((i : ℕ) → i < m → getD out i 0 < p) → q < p → (i : ℕ) → i < m + 1 → getD (set out m q) i 0 < p
+put-places out m q p l f h i k =
+    dite (decLt i m) (λ y. rw (getD-set-other out m i q 0 (λ e. omega arith)) (f i y)) (λ n. let e : i ≡ m = omega arith in rw (e, getD-set-same out m q 0 l) h)
+
+pub written-kept : (z : Layout) (a : Memory) → getD (a .used) (nextFree z a) false ≡ false → Kept z a (writtenAt z a (nextFree z a))
+written-kept z a f =
+    record {
+      xi = refl;
+      xj = refl;
+      yi = refl;
+      yj = refl;
+      words = λ q u j l. written-other z (a .words) (nextFree z a) (a .st .buf) q j (other q u) l;
+      low = λ k l. written-low z (a .words) (nextFree z a) (a .st .buf) k l;
+      used = λ q u. getD-set-other (a .used) (nextFree z a) q true false (other q u) ∙ u;
+      length-words = written-length z (a .words) (nextFree z a) (a .st .buf);
+      length-out = length-set (a .out) (a .st .m) (nextFree z a);
+      cursor = λ h. free-low (z .p) (z .p) (a .used) (a .st .cursor) h;
+      places = λ l g h. put-places (a .out) (a .st .m) (nextFree z a) (z .p) l g (free-low (z .p) (z .p) (a .used) (a .st .cursor) h);
+      m = omega arith;
+    }
+  where
+    other : (q : ℕ) → getD (a .used) q false ≡ true → q ≢ nextFree z a
+    other q u e = true≢false (sym u ∙ ap (λ (k : ℕ). getD (a .used) k false) e ∙ f)
+
+pub flush-kept : (z : Layout) (a : Memory) → getD (a .used) (nextFree z a) false ≡ false → Kept z a (flushed z a)
+unfolding flushed
+flush-kept z a f = if-either (Kept z a) (eqb (a .st .buf .n) 0) a (writtenAt z a (nextFree z a)) (same-kept z a a refl refl refl refl refl refl refl refl refl) (written-kept z a f)
+
+pub gather-kept : (z : Layout) (bottom : Bool) (a : Memory) (h : Head) → getD (a .used) (nextFree z a) false ≡ false → Kept z a (gathered z bottom a h)
+unfolding gathered flushed
+gather-kept z bottom a h f =
+    let full : Memory = withProgress a (withBuffer (a .st) (pushed (a .st .buf) (h .key) (h .tombstone) (h .pay))) in
+    if-either (Kept z a) (bottom && eqb (h .tombstone) 1) a _ (same-kept z a a refl refl refl refl refl refl refl refl refl)
+    (if-either (Kept z a) (leb (z .b) (a .st .buf .n + 1)) (flushed z full) full (through (flush-kept z full f)) (full-kept z a (pushed (a .st .buf) (h .key) (h .tombstone) (h .pay))))
+  where
+    through : (let full : Memory = withProgress a (withBuffer (a .st) (pushed (a .st .buf) (h .key) (h .tombstone) (h .pay))) in Kept z full (flushed z full)) → Kept z a (flushed z (withProgress a (withBuffer (a .st) (pushed (a .st .buf) (h .key) (h .tombstone) (h .pay)))))
+    through k = record { xi = k .xi; xj = k .xj; yi = k .yi; yj = k .yj; words = k .words; low = k .low; used = k .used; length-words = k .length-words; length-out = k .length-out; cursor = k .cursor; places = k .places; m = k .m }
+
+pub append-kept : (z : Layout) (a c : Memory) (q : ℕ) → c .st .m < length (c .out) → c .st .m ≤ a .st .m + 1 → q < z .p → Kept z a c → Kept z a (append c q)
+append-kept z a c q l m h k =
+    record {
+      xi = k .xi;
+      xj = k .xj;
+      yi = k .yi;
+      yj = k .yj;
+      words = k .words;
+      low = k .low;
+      used = k .used;
+      length-words = k .length-words;
+      length-out = length-set (c .out) (c .st .m) q ∙ k .length-out;
+      cursor = k .cursor;
+      places = λ n f g. put-places (c .out) (c .st .m) q (z .p) l (k .places n f g) h;
+      m = omega arith;
+    }
+
+-- the words of places in use and those before the places are as they were
+pub record Same (z : Layout) (a b : Memory) : Type 0 where
+  pub words : (q : ℕ) → getD (a .used) q false ≡ true → (j : ℕ) → j < 2 + 2 * z .b → getD (b .words) (startOf z q + j) 0 ≡ getD (a .words) (startOf z q + j) 0
+  pub low : (k : ℕ) → k < z .base → getD (b .words) k 0 ≡ getD (a .words) k 0
+  pub used : (q : ℕ) → getD (a .used) q false ≡ true → getD (b .used) q false ≡ true
+
+pub kept-same : (z : Layout) (a b : Memory) → Kept z a b → Same z a b
+kept-same z a b k = record { words = k .words; low = k .low; used = k .used }
+
+-- so the chunks that stand there hold the same records
+module _ (z : Layout) (a b : Memory) (sized : Sized z (a .words)) (k : Same z a b) where
+  pub count-kept : (q : ℕ) → getD (a .used) q false ≡ true → countAt z (b .words) q ≡ countAt z (a .words) q
+  count-kept q u = rw add-zero at (k .words q u 0 (omega arith))
+
+  -- the words of a chunk, under its name at either time
+  pub record Agree (c e : Chunk) : Type 0 where
+    pub is : e ≡ c
+    pub marks : getD (b .words) (c .marks) 0 ≡ getD (a .words) (c .marks) 0
+    pub recs : (i : ℕ) → i < z .b → (getD (b .words) (c .keys + i) 0 ≡ getD (a .words) (c .keys + i) 0) × (getD (b .words) (c .pays + i) 0 ≡ getD (a .words) (c .pays + i) 0)
+
+  stored-agree : (q : ℕ) → getD (a .used) q false ≡ true → Agree (blockChunk z (a .words) q) (blockChunk z (b .words) q)
+  stored-agree q u =
+      record {
+        is = rw (count-kept q u);
+        marks = k .words q u 1 (omega arith);
+        recs = λ i h.
+            let e : startOf z q + 2 + i ≡ startOf z q + (2 + i) = omega arith in
+            let f : startOf z q + 2 + z .b + i ≡ startOf z q + (2 + z .b + i) = omega arith in
+            (rw e (k .words q u (2 + i) (omega arith)), rw f (k .words q u (2 + z .b + i) (omega arith)));
+      }
+
+  page-agree : (i : ℕ) → i < z .top → Agree (pageChunk z i) (pageChunk z i)
+  page-agree i l =
+      let s = sized in
+      record {
+        is = refl;
+        marks = k .low (z .marks + i) (omega arith);
+        recs = λ j h. let d = digits-lt {q = i} {m = z .top} {r = j} {c = z .b} l h in (k .low (z .keys + i * z .b + j) (omega arith), k .low (z .pays + i * z .b + j) (omega arith));
+      }
+
+  chunk-agree : (pages : Bool) (list : List ℕ) (i : ℕ) → Stands z pages (a .words) (a .used) list i → Agree (chunkOf z pages (a .words) list i) (chunkOf z pages (b .words) list i)
+  unfolding chunkOf
+  chunk-agree true list i s = page-agree i (s .page refl)
+  chunk-agree false list i s = stored-agree (getD list i 0) (s .taken refl)
+
+  agree-block : (c e : Chunk) → c .n ≤ z .b → Agree c e → blockOf (b .words) e ≡ blockOf (a .words) c
+  agree-block c e h g = rw (g .is, recs-agree (b .words) (a .words) c 0 (c .n) (g .marks) (λ i l. g .recs i (omega arith)))
+
+  pub block-same : (q : ℕ) → getD (a .used) q false ≡ true → countAt z (a .words) q ≤ z .b → storedAt z (b .words) q ≡ storedAt z (a .words) q
+  block-same q u h = agree-block (blockChunk z (a .words) q) (blockChunk z (b .words) q) h (stored-agree q u)
+
+  pub chunk-kept : (pages : Bool) (list : List ℕ) (i : ℕ) → Stands z pages (a .words) (a .used) list i → chunkOf z pages (b .words) list i ≡ chunkOf z pages (a .words) list i
+  chunk-kept pages list i s = chunk-agree pages list i s .is
+
+  pub stands-kept : (pages : Bool) (list : List ℕ) (i : ℕ) → Stands z pages (a .words) (a .used) list i → Stands z pages (b .words) (b .used) list i
+  stands-kept pages list i s =
+      let g = chunk-agree pages list i s in
+      record {
+        place = s .place;
+        taken = λ e. k .used (getD list i 0) (s .taken e);
+        page = s .page;
+        formed = rw (g .is) (record { low = s .formed .low; high = s .formed .high; bits = rw (g .marks) (s .formed .bits) });
+      }
+
+  pub listed-kept : (pages : Bool) (list : List ℕ) (end : ℕ) → Listed z pages a list end → Listed z pages b list end
+  listed-kept pages list end f i h = stands-kept pages list i (f i h)
+
+  pub blocks-same : (pages : Bool) (list : List ℕ) (i n end : ℕ) → Listed z pages a list end → i + n ≤ end → blocks z pages (b .words) list i n ≡ blocks z pages (a .words) list i n
+  unfolding blocks
+  blocks-same pages list i zero end f h = refl
+  blocks-same pages list i (suc n) end f h =
+      let s = f i (omega arith) in
+      rw (agree-block (chunkOf z pages (a .words) list i) (chunkOf z pages (b .words) list i) (s .formed .high) (chunk-agree pages list i s), blocks-same pages list (suc i) n end f (omega arith))
+
+  pub side-same : (pages : Bool) (list : List ℕ) (i j end : ℕ) → Listed z pages a list end → side z pages (b .words) list i j end ≡ side z pages (a .words) list i j end
+  unfolding side blocks
+  side-same pages list i j end f = dite (decLt i end)
+      (λ y. ap (beginWith j) (blocks-same pages list i (end - i) end f (omega arith)))
+      (λ n. let e : end - i ≡ 0 = omega arith in rw e)

@@ -1,0 +1,298 @@
+-- The whole merge: what it asks of the store gives all that its steps ask, and what it leaves is what levels' merge and settle say.
+use Prim.Native.Nat.{ℕ, zero, suc, _+_, _-_, _*_, _^_, _≤_, _<_}
+use mathlib.Core.Path.{_≡_, sym, ap, _∙_, refl}
+use mathlib.Core.Bool.{Bool, true, false, _&&_, true≢false}
+use mathlib.Core.List.{List, [], _∷_, _++_, reverse, reverseAux}
+use mathlib.Core.Logic.{dite}
+use native.Mathlib.Decide.{decLt}
+use native.Mathlib.Nat.{le-refl}
+use native.Mathlib.Omega.{arith}
+use lib.Dec.{leb}
+use lib.ListN.{length, getD, set, take, length-append, length-take}
+use lib.Seq.{getD-set-same, getD-set-other, length-take-le}
+use borrow.Author.Tests.{le-leb, leb-true}
+use Rattle.geometry.specs.declared.Geometry.{Geometry}
+use Rattle.geometry.specs.Geometry.{placeStart, capacityOf}
+use Rattle.levels.specs.Basics.{if_then_else_, iterate}
+use Rattle.levels.specs.Record.{Block, Level, size, placed, records}
+use Rattle.levels.specs.Merge.{Out, State, step, joinLeft, join, merge}
+use Rattle.levels.specs.Place.{Allocation, Settled, settle, placesOf}
+use Rattle.blocks.specs.declared.Layout.{Layout}
+use Rattle.blocks.specs.declared.Buffer.{Buffer}
+use Rattle.blocks.specs.Blocks.{Sized, layoutOf, startOf, Free, Marks, emptyBuffer}
+use Rattle.blocks.proofs.Laws.{sized-of, start-place, free-found}
+use Rattle.stream.specs.declared.Chunk.{Chunk}
+use Rattle.stream.specs.declared.Progress.{Progress}
+use Rattle.stream.specs.declared.Inputs.{Inputs}
+use Rattle.stream.specs.Machine.{Memory, blockChunk, pageChunk, chunkOf, Ready, turns, idle}
+use Rattle.joins.specs.Joins.{restedOut, rested, joinedUp, closed, Closable}
+use Rattle.merging.specs.declared.Cut.{Cut}
+use Rattle.merging.specs.declared.Merged.{Merged}
+use Rattle.merging.specs.Blocks.{recsFrom, blockOf, blocks, beginWith, side, Flash, layAll}
+use Rattle.merging.specs.Relation.{Formed, Stands, Listed, Holds, Core, Sim, Begun, flashOf, start, nextFree, merged}
+use Rattle.merging.specs.Relation as relation
+use Rattle.merging.specs.Contract.{blocksOf, runOf, mergeOf, countMarks, ListedBlock, FullPage, Mergeable, Leaves, inputsOf, beginOf, limitOf}
+use Rattle.merging.proofs.Heads.{recs-length}
+use Rattle.merging.proofs.Moves.{begin-zero, side-cons, side-none}
+use Rattle.merging.proofs.Frame.{Same, listed-kept}
+use Rattle.merging.proofs.Sim.{and-left, and-right}
+use Rattle.merging.proofs.Run.{begun-turns, begun-ready}
+use Rattle.merging.proofs.Close.{rested-length, flushed-out}
+use Rattle.merging.proofs.Whole.{turns-same, merge-laid}
+use Rattle.merging.proofs.Begin.{begin-holds, begin-tail}
+use Rattle.merging.proofs.Decode.{blocks-listed, blocks-run}
+use Rattle.merging.proofs.Settle.{NewFit, Laid, Agrees, settle-laid, settle-placed}
+use Rattle.merging.proofs.Steps.{Fit, steps-fit, merge-fit, Filled, left, steps-end, steps-enough}
+use Rattle.merging.proofs.Budget.{Supplied, budgets, turns-bounded}
+use Rattle.merging.proofs.Closing.{closable}
+
+-- entries that have been copied
+rested-at : (out : List ℕ) (m : ℕ) (ys : List ℕ) (from n i : ℕ) → m + n ≤ length out → i < n → getD (restedOut out m ys from n) (m + i) 0 ≡ getD ys (from + i) 0
+unfolding restedOut
+rested-at out m ys from zero i h l = absurd (omega arith)
+rested-at out m ys from (suc n) i h l =
+    dite (decLt i n)
+    (λ y. getD-set-other (restedOut out m ys from n) (m + n) (m + i) (getD ys (from + n) 0) 0 (λ e. omega arith) ∙ rested-at out m ys from n i (omega arith) y)
+    (λ y. let e : i ≡ n = omega arith in rw e (getD-set-same (restedOut out m ys from n) (m + n) (getD ys (from + n) 0) 0 (rw rested-length (omega arith))))
+
+-- the blocks of a side that stands
+module _ (z : Layout) (pages : Bool) (a : Memory) (list : List ℕ) (end : ℕ) (f : Listed z pages a list end) where
+  size-is : (i : ℕ) → size (blockOf (a .words) (chunkOf z pages (a .words) list i)) ≡ chunkOf z pages (a .words) list i .n
+  size-is i = recs-length (a .words) (chunkOf z pages (a .words) list i) 0 (chunkOf z pages (a .words) list i .n)
+
+  blocks-filled : (i n : ℕ) → i + n ≤ end → Filled (blocks z pages (a .words) list i n)
+  unfolding blocks
+  blocks-filled i zero h = tt
+  blocks-filled i (suc n) h = (rw (size-is i) (f i (omega arith) .formed .low), blocks-filled (suc i) n (omega arith))
+
+  blocks-count : (i n : ℕ) → z .b ≤ 16 → i + n ≤ end → length (records (blocks z pages (a .words) list i n)) ≤ 16 * n
+  unfolding blocks
+  blocks-count i zero b h = omega arith
+  blocks-count i (suc n) b h = rw length-append (omega (arith, blocks-count (suc i) n b (omega arith), size-is i, f i (omega arith) .formed .high))
+
+side-start : (z : Layout) (pages : Bool) (ws list : List ℕ) (i end : ℕ) → side z pages ws list i 0 end ≡ blocks z pages ws list i (end - i)
+unfolding side
+side-start z pages ws list i end = begin-zero (blocks z pages ws list i (end - i))
+
+-- a side of which nothing is left is used up
+side-over : (z : Layout) (pages : Bool) (ws list : List ℕ) (i j end : ℕ) → side z pages ws list i j end ≡ [] → end ≤ i
+side-over z pages ws list i j end e = go (decLt i end)
+  where
+    go : Dec (i < end) → end ≤ i
+    go (no n) = omega arith
+    go (yes y) = absurd (let w : suc (length (side z pages ws list (i + 1) 0 end)) ≡ 0 = ap (λ (l : Level). length l) (sym (side-cons z pages ws list i j end y) ∙ e) in omega arith)
+
+-- blocks that have places are not new
+listed-fit : (B : ℕ) (z : Layout) (ws list : List ℕ) (i n : ℕ) → NewFit B (blocks z false ws list i n)
+unfolding blocks chunkOf
+listed-fit B z ws list i zero = tt
+listed-fit B z ws list i (suc n) = (λ e. absurd (true≢false e), listed-fit B z ws list (suc i) n)
+
+reverse-fit : (B : ℕ) (l acc : Level) → NewFit B l → NewFit B acc → NewFit B (reverseAux l acc)
+reverse-fit B [] acc f g = g
+reverse-fit B (b ∷ l) acc f g = reverse-fit B l (b ∷ acc) (f .1) (f .0, g)
+
+-- what stands in the store stands for the machine
+stored-stands : (g : Geometry) (ws : List ℕ) (used : List Bool) (list : List ℕ) (k : ℕ) → ListedBlock g ws used (getD list k 0) → Stands (layoutOf g) false ws used list k
+unfolding chunkOf
+stored-stands g ws used list k b =
+    record { place = λ _. b .place; taken = λ _. b .taken; page = λ e. absurd (true≢false (sym e)); formed = rw (start-place g (getD list k 0)) (record { low = b .low; high = b .high; bits = b .bits }) }
+
+page-stands : (g : Geometry) (ws : List ℕ) (used : List Bool) (list : List ℕ) (k : ℕ) → 1 ≤ g .b → FullPage g ws k → Stands (layoutOf g) true ws used list k
+unfolding chunkOf
+page-stands g ws used list k h b =
+    record { place = λ e. absurd (true≢false e); taken = λ e. absurd (true≢false e); page = λ _. b .low; formed = record { low = h; high = le-refl (g .b); bits = b .bits } }
+
+module _ (g : Geometry) (ws : List ℕ) (used : List Bool) (out xs ys : List ℕ) (c : Cut) (cursor : ℕ) (k : Mergeable g ws used out xs ys c cursor) where
+  abbrev z : Layout
+  z = layoutOf g
+
+  abbrev t : Inputs
+  t = inputsOf c
+
+  -- the memory that step 3 starts from: the blocks before Y are listed
+  abbrev pub begins : Memory
+  begins = record { words = ws; used = used; out = restedOut out 0 ys 0 (c .y); st = beginOf c cursor }
+
+  sized : Sized z ws
+  sized = sized-of g ws (k .valid) (k .words)
+
+  stands-lower : Listed z false begins ys (c .end)
+  stands-lower i h = stored-stands g ws used ys i (k .lower i h)
+
+  stands-upper : Listed z (c .pages) begins xs (c .xend)
+  stands-upper i h = go (c .pages) refl
+    where
+      go : (p : Bool) → c .pages ≡ p → Stands z p ws used xs i
+      go true e = page-stands g ws used xs i (let l = k .valid .ranged .b-low in omega arith) (k .paged e i h)
+      go false e = stored-stands g ws used xs i (k .upper e i h)
+
+  fits : c .y ≤ 4096
+  fits = let a = k .y-low in let b = k .y-high in let r = k .room in omega arith
+
+  listed-same : (i : ℕ) → i < c .y → getD (restedOut out 0 ys 0 (c .y)) i 0 ≡ getD ys i 0
+  listed-same i h =
+      let e : 0 + i ≡ i = omega arith in
+      rw e at (rested-at out 0 ys 0 (c .y) i (omega (arith, fits)) h)
+
+  long : length (restedOut out 0 ys 0 (c .y)) ≡ 4096
+  long = rested-length out 0 ys 0 (c .y) ∙ k .out-long
+
+  holds : Holds z (start begins) (relation.first z t xs ys begins .out) begins
+  holds = begin-holds z begins ys refl (omega (arith, fits, long)) listed-same
+
+  core : Core z t xs ys (relation.first z t xs ys begins .out) begins
+  core =
+      record {
+        sized = sized;
+        full = long;
+        cursor = k .cursor-low;
+        few = (let l = sized .b-low in omega arith);
+        upper = stands-upper;
+        lower = λ i h. stands-lower i (let l = k .y-high in omega arith);
+        x-in = k .x-low;
+        y-in = k .y-low;
+        in-x = λ h. stands-upper (c .x) h .formed .low;
+        in-y = λ h. stands-lower (c .y) (let l = k .y-high in omega arith) .formed .low;
+        listed = λ i h. rw (listed-same i h) (stands-lower i (let a = k .y-low in let b = k .y-high in omega arith) .place refl);
+        tail = begin-tail z begins ys refl (omega (arith, fits, long)) listed-same;
+      }
+
+  supplied : Supplied z t xs ys begins
+  supplied =
+      record {
+        core = core;
+        holds = holds;
+        x-start = refl;
+        y-start = refl;
+        writes = refl;
+        x-high = k .x-high;
+        y-high = (let a = k .y-high in let r = k .room in omega arith);
+        room = (let a = k .y-low in let b = k .y-high in let r = k .room in omega arith);
+        free = k .free;
+      }
+
+  begun : (n : ℕ) → Begun z t xs ys n begins
+  begun n = record { core = core; holds = holds; x-high = supplied .x-high; y-high = supplied .y-high; budget = λ i h. budgets z t xs ys begins supplied i }
+
+  -- each step of the stream can be made
+  pub ready : (i : ℕ) → i ≤ limitOf c → Ready z t xs ys (turns z t xs ys i begins)
+  ready i h = begun-ready z t xs ys (limitOf c) begins (begun (limitOf c)) i h
+
+  abbrev state : State
+  state = relation.first z t xs ys begins
+
+  filled-upper : Filled (state .upper)
+  filled-upper = rw (side-start z (c .pages) ws xs (c .x) (c .xend)) (blocks-filled z (c .pages) begins xs (c .xend) stands-upper (c .x) (c .xend - c .x) (let l = k .x-low in omega arith))
+
+  filled-lower : Filled (state .lower)
+  filled-lower = rw (side-start z false ws ys (c .y) (c .yend)) (blocks-filled z false begins ys (c .end) stands-lower (c .y) (c .yend - c .y) (let l = k .y-low in let h = k .y-high in omega arith))
+
+  few-left : left state ≤ limitOf c
+  few-left =
+      let x = blocks-count z (c .pages) begins xs (c .xend) stands-upper (c .x) (c .xend - c .x) (sized .b-high) (let l = k .x-low in omega arith) in
+      let y = blocks-count z false begins ys (c .end) stands-lower (c .y) (c .yend - c .y) (sized .b-high) (let l = k .y-low in let h = k .y-high in omega arith) in
+      rw (side-start z (c .pages) ws xs (c .x) (c .xend), side-start z false ws ys (c .y) (c .yend)) (omega arith)
+
+  abbrev pub ends : Memory
+  ends = turns z t xs ys (limitOf c) begins
+
+  both : Core z t xs ys (iterate (limitOf c) (step (g .b) (c .bottom)) state .out) ends × Sim z t xs ys (start begins) (iterate (limitOf c) (step (g .b) (c .bottom)) state) ends
+  both = begun-turns z t xs ys (limitOf c) begins (begun (limitOf c)) (limitOf c) (le-refl (limitOf c))
+
+  -- both sides are used up
+  x-over : c .xend ≤ ends .st .xi
+  x-over = side-over z (c .pages) (ends .words) xs (ends .st .xi) (ends .st .xj) (c .xend) (sym (both .1 .upper) ∙ steps-end (g .b) (c .bottom) (limitOf c) state filled-upper filled-lower few-left .0)
+
+  y-over : c .yend ≤ ends .st .yi
+  y-over = side-over z false (ends .words) ys (ends .st .yi) (ends .st .yj) (c .yend) (sym (both .1 .lower) ∙ steps-end (g .b) (c .bottom) (limitOf c) state filled-upper filled-lower few-left .1)
+
+  ended : idle z t xs ys ends ≡ true
+  ended = rw (le-leb (c .xend) (ends .st .xi) x-over, le-leb (c .yend) (ends .st .yi) y-over)
+
+  y-at : ends .st .yi ≡ c .yend
+  y-at = let a = y-over in let b = both .0 .y-in in omega arith
+
+  end-room : ends .st .m + 1 + (c .end - c .yend) ≤ 4096
+  end-room = let b = turns-bounded z t xs ys begins supplied (limitOf c) .m in let r = k .room in let l = k .y-low in let h = k .y-high in omega arith
+
+  kept : Same z begins ends
+  kept = turns-same z t xs ys (limitOf c) begins (λ i h. free-found (turns z t xs ys i begins .used) (g .p) (turns z t xs ys i begins .st .cursor) (begun-turns z t xs ys i begins (begun i) i (le-refl i) .0 .cursor) (budgets z t xs ys begins supplied i .free))
+
+  -- step 4 can be made
+  pub closing : Closable z ys (c .end) ends
+  closing =
+      closable z t xs ys (c .end) (start begins) (iterate (limitOf c) (step (g .b) (c .bottom)) state .out) ends (both .0) (both .1 .out) (budgets z t xs ys begins supplied (limitOf c))
+      (listed-kept z begins ends sized kept false ys (c .end) stands-lower) (let r = k .room in omega arith) (let h = k .y-high in omega (arith, y-at)) (rw y-at end-room)
+
+  laid : flashOf (closed z ys (c .end) ends) ≡ layAll z (start begins) (merged z t xs ys (limitOf c) (c .end) begins)
+  laid = merge-laid z t xs ys (limitOf c) (c .end) begins (begun (limitOf c)) stands-lower (k .y-high) ended end-room
+
+  high-lower : (i n : ℕ) → i + n ≤ c .end → (j : ℕ) → j < i + n → getD ws (placeStart g (getD ys j 0)) 0 ≤ g .b
+  high-lower i n h j l = k .lower j (omega arith) .high
+
+  lower-is : (i n : ℕ) → i + n ≤ c .end → blocks z false ws ys i n ≡ blocksOf g ws ys i n
+  lower-is i n h = blocks-listed g ws ys i n (let r = k .room in let y = k .ys-long in omega arith) (high-lower i n h)
+
+  upper-is : blocks z (c .pages) ws xs (c .x) (c .xend - c .x) ≡ runOf (c .pages) g ws xs (c .x) (c .xend - c .x)
+  upper-is =
+      blocks-run (c .pages) g ws xs (c .x) (c .xend - c .x) (λ e. let l = k .x-low in let h = k .x-high in let x = k .xs-long in omega arith) (λ e i l. k .upper e i (let w = k .x-low in omega arith) .high)
+
+  -- the merge of blocks that the machine makes is that of the store's blocks
+  merged-is : merged z t xs ys (limitOf c) (c .end) begins ≡ mergeOf g ws xs ys c
+  unfolding mergeOf
+  merged-is =
+      let l = k .y-low in
+      let h = k .y-high in
+      rw (
+        steps-enough (g .b) (c .bottom) (left state) (limitOf c) state filled-upper filled-lower (le-refl (left state)) few-left,
+        side-start z (c .pages) ws xs (c .x) (c .xend),
+        side-start z false ws ys (c .y) (c .yend),
+        upper-is,
+        lower-is (c .y) (c .yend - c .y) (omega arith),
+        lower-is 0 (c .y) (omega arith),
+        lower-is (c .yend) (c .end - c .yend) (omega arith),
+      )
+
+  new-fit : NewFit (g .b) (merged z t xs ys (limitOf c) (c .end) begins)
+  new-fit =
+      let b = sized .b-low in
+      merge-fit (g .b) (iterate (limitOf c) (step (g .b) (c .bottom)) state .out) (blocks z false ws ys (c .yend) (c .end - c .yend))
+      (steps-fit (g .b) (c .bottom) (limitOf c) state (omega arith) (record { few = omega arith; done = reverse-fit (g .b) (blocks z false ws ys 0 (c .y)) [] (listed-fit (g .b) z ws ys 0 (c .y)) tt }))
+      (listed-fit (g .b) z ws ys (c .yend) (c .end - c .yend))
+
+  closed-long : length (closed z ys (c .end) ends .out) ≡ 4096
+  unfolding closed
+  closed-long = rested-length _ _ ys _ _ ∙ flushed-out z (joinedUp z ys (c .end) ends) ∙ both .0 .full
+
+  closed-low : closed z ys (c .end) ends .st .m ≤ 4096
+  unfolding closed
+  closed-low = closing .room
+
+  abbrev settled : Allocation → Settled
+  settled a = settle (g .p) a (mergeOf g ws xs ys c)
+
+  -- what steps 3 and 4 leave, for every list of places in use that the marks stand for
+  pub leaves : (a : Allocation) → a .cursor ≡ cursor → Marks used (a .used)
+      → Leaves g (settled a) ws (closed z ys (c .end) ends .words) (closed z ys (c .end) ends .used) (closed z ys (c .end) ends .out) (record { count = closed z ys (c .end) ends .st .m; cursor = closed z ys (c .end) ends .st .cursor; writes = closed z ys (c .end) ends .st .writes })
+  leaves a e m =
+      let s = rw merged-is at (settle-laid g a (start begins) (merged z t xs ys (limitOf c) (c .end) begins) (record { sized = sized; long = k .marks-long; low = k .cursor-low; cursor = sym e; marks = m }) new-fit) in
+      let f = rw merged-is at laid in
+      let w = ap (λ (d : Flash). d .words) f in
+      let l : take (closed z ys (c .end) ends .st .m) (closed z ys (c .end) ends .out) ≡ placesOf (settled a .level) = ap (λ (d : Flash). d .list) f ∙ s .list in
+      record {
+        words = w ∙ s .words;
+        list = l;
+        list-long = closed-long;
+        count = sym (length-take-le (closed z ys (c .end) ends .st .m) (closed z ys (c .end) ends .out) (omega (arith, closed-low, closed-long))) ∙ ap (λ (q : List ℕ). length q) l ∙ settle-placed (g .p) a (mergeOf g ws xs ys c);
+        count-high = closed-low;
+        cursor = ap (λ (d : Flash). d .cursor) f ∙ s .cursor;
+        marks = rw (ap (λ (d : Flash). d .used) f) (s .marks);
+        marks-long = ap (λ (d : Flash). length (d .used)) f ∙ s .marks-length ∙ k .marks-long;
+        writes = ap (λ (d : Flash). d .writes) f ∙ s .writes ∙ omega arith;
+      }
+
+  -- the same of any memory that is the one left
+  pub leaves-in : (b : Memory) → b ≡ closed z ys (c .end) ends → (a : Allocation) → a .cursor ≡ cursor → Marks used (a .used)
+      → Leaves g (settled a) ws (b .words) (b .used) (b .out) (record { count = b .st .m; cursor = b .st .cursor; writes = b .st .writes })
+  leaves-in b q a e m = rw q (leaves a e m)

@@ -1,0 +1,169 @@
+-- Laws of levels' merge that the code needs: its new blocks have at most B records, and there are enough steps.
+use Prim.Native.Nat.{ℕ, zero, suc, _+_, _-_, _≤_, _<_}
+use mathlib.Core.Path.{_≡_, sym, ap, _∙_, refl}
+use mathlib.Core.Bool.{Bool, true, false, _&&_, true≢false}
+use mathlib.Core.List.{List, [], _∷_, _++_, reverse, reverseAux, tail}
+use native.Mathlib.Omega.{arith}
+use lib.Dec.{leb, ltb, eqb}
+use lib.ListN.{length, length-append}
+use borrow.Author.Tests.{leb-true, leb-false}
+use Rattle.levels.specs.Basics.{if_then_else_, iterate}
+use Rattle.levels.specs.Record.{Rec, Block, Level, new, size, placed, records, firstKey}
+use Rattle.levels.specs.Merge.{Out, State, headRec, reusable, flush, rest, reuse, keep, gather, fromUpper, fromLower, fromBoth, stepOn, step, joinLeft, join}
+use Rattle.stream.proofs.Laws.{if-either}
+use Rattle.merging.proofs.Sim.{and-left, and-right}
+use Rattle.merging.proofs.Settle.{NewFit}
+
+-- the buffer is not full, and the new blocks have at most B records
+pub record Fit (B : ℕ) (o : Out) : Type 0 where
+  pub few : length (o .buffer) < B
+  pub done : NewFit B (o .done)
+
+placed-of : (B : ℕ) (bottom : Bool) (o : Out) (l : Level) (b : Block) → reusable B bottom o l b ≡ true → placed b ≡ true
+placed-of B bottom o l b e = search (and-left, and-right)
+
+flush-fit : (B : ℕ) (buf : List Rec) (done : Level) → length buf ≤ B → NewFit B done → NewFit B (flush buf done)
+flush-fit B [] done h f = f
+flush-fit B (r ∷ rs) done h f = (λ _. h, f)
+
+module _ (B : ℕ) (bottom : Bool) where
+  reuse-fit : (b : Block) (o : Out) → 1 ≤ B → placed b ≡ true → Fit B o → Fit B (reuse b o)
+  reuse-fit b o l p f = let n = f .few in record { few = l; done = (λ e. absurd (true≢false (sym p ∙ e)), flush-fit B (o .buffer) (o .done) (omega arith) (f .done)) }
+
+  gather-fit : (r : Rec) (o : Out) → 1 ≤ B → Fit B o → Fit B (gather B bottom r o)
+  gather-fit r o l f = go (bottom && r .tombstone) (leb B (suc (length (o .buffer)))) refl
+    where
+      go : (t u : Bool) → leb B (suc (length (o .buffer))) ≡ u → Fit B (if t then o else if u then record { buffer = []; done = new (o .buffer ++ (r ∷ [])) ∷ o .done } else record { buffer = o .buffer ++ (r ∷ []); done = o .done })
+      go true u e = f
+      go false true e = let n = f .few in let w = length-append (o .buffer) (r ∷ []) in record { few = l; done = (λ _. omega arith, f .done) }
+      go false false e = let n = leb-false B (suc (length (o .buffer))) e in let w = length-append (o .buffer) (r ∷ []) in record { few = omega arith; done = f .done }
+
+  upper-fit : (x : Block) (xs lower : Level) (o : Out) → 1 ≤ B → Fit B o → Fit B (fromUpper B bottom x xs lower o .out)
+  upper-fit x xs lower o l f = go (reusable B bottom o lower x) refl
+    where
+      go : (t : Bool) → reusable B bottom o lower x ≡ t → Fit B (if_then_else_ {A = State} t (record { upper = xs; lower = lower; out = reuse x o }) (record { upper = rest (x ∷ xs); lower = lower; out = gather B bottom (headRec x) o }) .out)
+      go true e = reuse-fit x o l (placed-of B bottom o lower x e) f
+      go false e = gather-fit (headRec x) o l f
+
+  lower-fit : (y : Block) (ys upper : Level) (o : Out) → 1 ≤ B → Fit B o → Fit B (fromLower B bottom y ys upper o .out)
+  lower-fit y ys upper o l f = go (reusable B bottom o upper y) refl
+    where
+      go : (t : Bool) → reusable B bottom o upper y ≡ t → Fit B (if_then_else_ {A = State} t (record { upper = upper; lower = ys; out = reuse y o }) (record { upper = upper; lower = rest (y ∷ ys); out = gather B bottom (headRec y) o }) .out)
+      go true e = reuse-fit y o l (placed-of B bottom o upper y e) f
+      go false e = gather-fit (headRec y) o l f
+
+  step-fit : (s : State) → 1 ≤ B → Fit B (s .out) → Fit B (step B bottom s .out)
+  step-fit s l f = go (s .upper) (s .lower) (s .out) f
+    where
+      go : (u v : Level) (o : Out) → Fit B o → Fit B (stepOn B bottom u v o .out)
+      go [] [] o f = f
+      go (x ∷ xs) [] o f = upper-fit x xs [] o l f
+      go [] (y ∷ ys) o f = lower-fit y ys [] o l f
+      go (x ∷ xs) (y ∷ ys) o f =
+          if-either (λ (s : State). Fit B (s .out)) (ltb (firstKey (y .recs)) (firstKey (x .recs))) _ _ (lower-fit y ys (x ∷ xs) o l f)
+          (if-either (λ (s : State). Fit B (s .out)) (eqb (firstKey (y .recs)) (firstKey (x .recs))) _ _ (gather-fit (headRec x) o l f) (upper-fit x xs (y ∷ ys) o l f))
+
+  pub steps-fit : (n : ℕ) (s : State) → 1 ≤ B → Fit B (s .out) → Fit B (iterate n (step B bottom) s .out)
+  steps-fit zero s l f = f
+  steps-fit (suc n) s l f = steps-fit n (step B bottom s) l (step-fit s l f)
+
+reverse-fit : (B : ℕ) (l acc : Level) → NewFit B l → NewFit B acc → NewFit B (reverseAux l acc)
+reverse-fit B [] acc f g = g
+reverse-fit B (b ∷ l) acc f g = reverse-fit B l (b ∷ acc) (f .1) (f .0, g)
+
+left-fit : (B : ℕ) (buf : List Rec) (done : Level) → length buf < B → NewFit B done → NewFit B (joinLeft B buf done)
+left-fit B [] done h f = f
+left-fit B (r ∷ rs) [] h f = (λ _. omega arith, f)
+left-fit B (r ∷ rs) (e ∷ es) h f = go (leb (size e + length (r ∷ rs)) B) refl
+  where
+    go : (t : Bool) → leb (size e + length (r ∷ rs)) B ≡ t → NewFit B (if t then new (e .recs ++ (r ∷ rs)) ∷ es else new (r ∷ rs) ∷ e ∷ es)
+    go true w = (λ _. omega (arith, leb-true (size e + length (r ∷ rs)) B w, length-append (e .recs) (r ∷ rs)), f .1)
+    go false w = (λ _. omega arith, f)
+
+pub join-fit : (B : ℕ) (done behind : Level) → NewFit B done → NewFit B behind → NewFit B (join B done behind)
+join-fit B [] behind f g = g
+join-fit B (e ∷ es) [] f g = reverse-fit B (e ∷ es) [] f tt
+join-fit B (e ∷ es) (a ∷ bs) f g = go (leb (size e + size a) B) refl
+  where
+    go : (t : Bool) → leb (size e + size a) B ≡ t → NewFit B (if t then reverseAux es (new (e .recs ++ a .recs) ∷ bs) else reverseAux (e ∷ es) (a ∷ bs))
+    go true w = reverse-fit B es (new (e .recs ++ a .recs) ∷ bs) (f .1) (λ _. omega (arith, leb-true (size e + size a) B w, length-append (e .recs) (a .recs)), g .1)
+    go false w = reverse-fit B (e ∷ es) (a ∷ bs) f g
+
+-- the new blocks of a merge have at most B records
+pub merge-fit : (B : ℕ) (o : Out) (behind : Level) → Fit B o → NewFit B behind → NewFit B (join B (joinLeft B (o .buffer) (o .done)) behind)
+merge-fit B o behind f g = join-fit B (joinLeft B (o .buffer) (o .done)) behind (left-fit B (o .buffer) (o .done) (f .few) (f .done)) g
+
+-- every block holds a record
+abbrev pub Filled : Level → Type 0
+Filled [] = Unit {0}
+Filled (b ∷ bs) = (1 ≤ size b) × Filled bs
+
+-- the records that are still to be read
+abbrev pub left : State → ℕ
+left s = length (records (s .upper)) + length (records (s .lower))
+
+rest-filled : (b : Block) (bs : Level) → Filled (b ∷ bs) → Filled (rest (b ∷ bs)) × (suc (length (records (rest (b ∷ bs)))) ≡ length (records (b ∷ bs)))
+rest-filled b bs f = go (b .recs) (f .0)
+  where
+    go : (rs : List Rec) → 1 ≤ length rs → Filled (rest (new rs ∷ bs)) × (suc (length (records (rest (new rs ∷ bs)))) ≡ length (records (new rs ∷ bs)))
+    go [] h = absurd (omega arith)
+    go (r ∷ []) h = (f .1, refl)
+    go (r ∷ s ∷ rs) h = ((omega arith, f .1), refl)
+
+cons-count : (b : Block) (bs : Level) → 1 ≤ size b → suc (length (records bs)) ≤ length (records (b ∷ bs))
+cons-count b bs h = rw length-append (omega arith)
+
+-- a step reads a record or more
+pub record Less (s r : State) : Type 0 where
+  pub upper : Filled (r .upper)
+  pub lower : Filled (r .lower)
+  pub count : left r ≤ left s - 1
+
+module _ (B : ℕ) (bottom : Bool) where
+  upper-less : (x : Block) (xs lower : Level) (o : Out) → Filled (x ∷ xs) → Filled lower → Less (record { upper = x ∷ xs; lower = lower; out = o }) (fromUpper B bottom x xs lower o)
+  upper-less x xs lower o f g =
+      if-either (Less (record { upper = x ∷ xs; lower = lower; out = o })) (reusable B bottom o lower x) _ _
+      (record { upper = f .1; lower = g; count = omega (arith, cons-count x xs (f .0)) })
+      (let r = rest-filled x xs f in record { upper = r .0; lower = g; count = omega (arith, r .1) })
+
+  lower-less : (y : Block) (ys upper : Level) (o : Out) → Filled (y ∷ ys) → Filled upper → Less (record { upper = upper; lower = y ∷ ys; out = o }) (fromLower B bottom y ys upper o)
+  lower-less y ys upper o f g =
+      if-either (Less (record { upper = upper; lower = y ∷ ys; out = o })) (reusable B bottom o upper y) _ _
+      (record { upper = g; lower = f .1; count = omega (arith, cons-count y ys (f .0)) })
+      (let r = rest-filled y ys f in record { upper = g; lower = r .0; count = omega (arith, r .1) })
+
+  both-less : (x : Block) (xs : Level) (y : Block) (ys : Level) (o : Out) → Filled (x ∷ xs) → Filled (y ∷ ys) → Less (record { upper = x ∷ xs; lower = y ∷ ys; out = o }) (fromBoth B bottom x xs (y ∷ ys) o)
+  both-less x xs y ys o f g = let r = rest-filled x xs f in let q = rest-filled y ys g in record { upper = r .0; lower = q .0; count = omega (arith, r .1, q .1) }
+
+  step-less : (s : State) → Filled (s .upper) → Filled (s .lower) → Less s (step B bottom s)
+  step-less s f g = go (s .upper) (s .lower) (s .out) f g
+    where
+      go : (u v : Level) (o : Out) → Filled u → Filled v → Less (record { upper = u; lower = v; out = o }) (stepOn B bottom u v o)
+      go [] [] o f g = record { upper = tt; lower = tt; count = omega arith }
+      go (x ∷ xs) [] o f g = upper-less x xs [] o f g
+      go [] (y ∷ ys) o f g = lower-less y ys [] o g f
+      go (x ∷ xs) (y ∷ ys) o f g =
+          if-either (Less (record { upper = x ∷ xs; lower = y ∷ ys; out = o })) (ltb (firstKey (y .recs)) (firstKey (x .recs))) _ _ (lower-less y ys (x ∷ xs) o g f)
+          (if-either (Less (record { upper = x ∷ xs; lower = y ∷ ys; out = o })) (eqb (firstKey (y .recs)) (firstKey (x .recs))) _ _ (both-less x xs y ys o f g) (upper-less x xs (y ∷ ys) o f g))
+
+  none-left : (l : Level) → Filled l → length (records l) ≡ 0 → l ≡ []
+  none-left [] f e = refl
+  none-left (b ∷ bs) f e = absurd (omega (arith, cons-count b bs (f .0)))
+
+  -- when as many steps are made as there are records, both sides are used up
+  pub steps-end : (n : ℕ) (s : State) → Filled (s .upper) → Filled (s .lower) → left s ≤ n → (iterate n (step B bottom) s .upper ≡ []) × (iterate n (step B bottom) s .lower ≡ [])
+  steps-end zero s f g h = (none-left (s .upper) f (omega arith), none-left (s .lower) g (omega arith))
+  steps-end (suc n) s f g h = let l = step-less s f g in let c = l .count in steps-end n (step B bottom s) (l .upper) (l .lower) (omega arith)
+
+  step-idle : (s : State) → s .upper ≡ [] → s .lower ≡ [] → step B bottom s ≡ s
+  step-idle s e f = rw (e, f)
+
+  idle-steps : (n : ℕ) (s : State) → s .upper ≡ [] → s .lower ≡ [] → iterate n (step B bottom) s ≡ s
+  idle-steps zero s e f = refl
+  idle-steps (suc n) s e f = ap (iterate n (step B bottom)) (step-idle s e f) ∙ idle-steps n s e f
+
+  -- further steps change nothing
+  pub steps-enough : (n m : ℕ) (s : State) → Filled (s .upper) → Filled (s .lower) → left s ≤ n → n ≤ m → iterate m (step B bottom) s ≡ iterate n (step B bottom) s
+  steps-enough zero m s f g h l = idle-steps m s (none-left (s .upper) f (omega arith)) (none-left (s .lower) g (omega arith))
+  steps-enough (suc n) zero s f g h l = absurd (omega arith)
+  steps-enough (suc n) (suc m) s f g h l = let k = step-less s f g in let c = k .count in steps-enough n m (step B bottom s) (k .upper) (k .lower) (omega arith) (omega arith)

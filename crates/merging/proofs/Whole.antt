@@ -1,0 +1,88 @@
+-- Steps 3 and 4 together: what the words hold afterwards is the merged level, laid in key order.
+use Prim.Native.Nat.{ℕ, zero, suc, _+_, _-_, _*_, _/_, _%_, _^_, _≤_, _<_}
+use mathlib.Core.Path.{_≡_, sym, ap, _∙_, refl}
+use mathlib.Core.Bool.{Bool, true, false, not, _&&_, _||_}
+use mathlib.Core.List.{List, [], _∷_, _++_}
+use native.Mathlib.Nat.{le-refl, add-zero}
+use native.Mathlib.Omega.{arith}
+use lib.Dec.{ltb, leb, eqb}
+use lib.ListN.{length, getD}
+use borrow.Author.Tests.{leb-true, leb-false}
+use Rattle.levels.specs.Basics.{if_then_else_}
+use Rattle.levels.specs.Record.{Rec, Block, Level}
+use Rattle.levels.specs.Basics.{iterate}
+use Rattle.levels.specs.Merge.{Out, State, step, joinLeft, join}
+use Rattle.blocks.specs.declared.Layout.{Layout}
+use Rattle.blocks.specs.declared.Buffer.{Buffer}
+use Rattle.blocks.specs.Blocks.{Sized, startOf, Free}
+use Rattle.blocks.proofs.Laws.{free-found}
+use Rattle.stream.specs.declared.Head.{Head}
+use Rattle.stream.specs.declared.Progress.{Progress}
+use Rattle.stream.specs.declared.Inputs.{Inputs}
+use Rattle.stream.specs.Machine.{Memory, blockChunk, chunkOf, first, follows, headOf, lastSize, flushed, append, gathered, reused, withProgress, skipX, skipY, passX, passY, tookX, tookY, tookBoth, stepWith, turn, idle, turns}
+use Rattle.stream.proofs.Laws.{if-either}
+use Rattle.joins.specs.Joins.{closed}
+use Rattle.merging.specs.Relation.{Formed, nextFree, flashOf, Holds, Stands, Listed, Core, Budget, Sim, Begun, start}
+use Rattle.merging.specs.Relation as relation
+use Rattle.merging.specs.Blocks.{blocks, Flash, layAll}
+use Rattle.merging.proofs.Frame.{Kept, Same, kept-same, flush-kept, gather-kept, stands-kept, blocks-same}
+use Rattle.merging.proofs.Sim.{pass-x-same, pass-y-same, and-left, and-right}
+use Rattle.merging.proofs.Run.{begun-turns}
+use Rattle.merging.proofs.Close.{close-laid}
+
+same-next : (z : Layout) (a b c : Memory) → Same z a b → Same z b c → Same z a c
+same-next z a b c k l =
+    record { words = λ q u j h. l .words q (k .used q u) j h ∙ k .words q u j h; low = λ i h. l .low i h ∙ k .low i h; used = λ q u. l .used q (k .used q u) }
+
+module _ (z : Layout) (bottom : Bool) (a : Memory) (f : getD (a .used) (nextFree z a) false ≡ false) where
+  gather-same : (w : Progress) (h : Head) → w .cursor ≡ a .st .cursor → Same z a (gathered z bottom (withProgress a w) h)
+  gather-same w h e = let k = kept-same z (withProgress a w) _ (gather-kept z bottom (withProgress a w) h (rw e f)) in record { words = k .words; low = k .low; used = k .used }
+
+  reuse-same : (w : Progress) (q : ℕ) → w .cursor ≡ a .st .cursor → Same z a (reused z (withProgress a w) q)
+  unfolding reused
+  reuse-same w q e = let k = kept-same z (withProgress a w) _ (flush-kept z (withProgress a w) (rw e f)) in record { words = k .words; low = k .low; used = k .used }
+
+module _ (z : Layout) (t : Inputs) (xs ys : List ℕ) where
+  turn-same : (a : Memory) → getD (a .used) (nextFree z a) false ≡ false → Same z a (turn z t xs ys a)
+  unfolding turn tookX tookY tookBoth
+  turn-same a f =
+      let x = headOf z (t .pages) (a .words) xs (a .st .xi) (a .st .xj) (t .x) in
+      let y = headOf z false (a .words) ys (a .st .yi) (a .st .yj) (t .y) in
+      let e = lastSize z (a .words) (a .out) (a .st .m) in
+      let b = t .bottom in
+      if-either (Same z a) (first y x) _ _
+      (if-either (Same z a) (follows z b y x (a .st .buf .n) e) _ _ (reuse-same z b a f (skipY (a .st)) (y .place) refl) (gather-same z b a f (passY (a .st) (y .n)) y (pass-y-same (a .st) (y .n) .cursor)))
+      (if-either (Same z a) (first x y) _ _
+      (if-either (Same z a) (follows z b x y (a .st .buf .n) e) _ _ (reuse-same z b a f (skipX (a .st)) (x .place) refl) (gather-same z b a f (passX (a .st) (x .n)) x (pass-x-same (a .st) (x .n) .cursor)))
+      (gather-same z b a f (passY (passX (a .st) (x .n)) (y .n)) x (pass-y-same (passX (a .st) (x .n)) (y .n) .cursor ∙ pass-x-same (a .st) (x .n) .cursor)))
+
+  pub turns-same : (n : ℕ) (a : Memory) → ((i : ℕ) → i < n → Free (turns z t xs ys i a .used) (nextFree z (turns z t xs ys i a))) → Same z a (turns z t xs ys n a)
+  unfolding turns
+  turns-same zero a g = record { words = λ q u j h. refl; low = λ i h. refl; used = λ q u. u }
+  turns-same (suc n) a g =
+      let r = turns z t xs ys n a in
+      let k = turns-same n a (λ i h. g i (omega arith)) in
+      if-either (Same z a) (idle z t xs ys r) r (turn z t xs ys r) k (same-next z a r (turn z t xs ys r) k (turn-same r (g n (omega arith))))
+
+formed-at : (z : Layout) (a : Memory) (ys : List ℕ) {k : ℕ} → Stands z false (a .words) (a .used) ys k → Formed z (a .words) (blockChunk z (a .words) (getD ys k 0))
+unfolding chunkOf
+formed-at z a ys s = s .formed
+
+-- the whole merge, from the store at its start
+module _ (z : Layout) (t : Inputs) (xs ys : List ℕ) (n end : ℕ) (a : Memory) (b : Begun z t xs ys n a) (all : Listed z false a ys end) (le : t .y ≤ end)
+    (ended : idle z t xs ys (turns z t xs ys n a) ≡ true) (room : turns z t xs ys n a .st .m + 1 + (end - t .y) ≤ 4096) where
+  abbrev made : Out
+  made = iterate n (step (z .b) (t .bottom)) (relation.first z t xs ys a) .out
+
+  pub merge-laid : flashOf (closed z ys end (turns z t xs ys n a)) ≡ layAll z (start a) (join (z .b) (joinLeft (z .b) (made .buffer) (made .done)) (blocks z false (a .words) ys (t .y) (end - t .y)))
+  merge-laid =
+      let r = turns z t xs ys n a in
+      let s = begun-turns z t xs ys n a b n (le-refl n) in
+      let g = turns-same z t xs ys n a (λ i h. let c = begun-turns z t xs ys n a b i (omega arith) .0 in free-found (turns z t xs ys i a .used) (z .p) (turns z t xs ys i a .st .cursor) (c .cursor) (b .budget i (omega arith) .free)) in
+      let sz = b .core .sized in
+      let hy = leb-true (t .y) (r .st .yi) (and-right (leb (t .x) (r .st .xi)) (leb (t .y) (r .st .yi)) ended) in
+      let iy = s .0 .y-in in
+      let e : r .st .yi ≡ t .y = omega arith in
+      let fl = s .0 .full in
+      let c = close-laid z (start a) r ys end made (s .1 .out) (s .0 .sized) (s .0 .few) (s .0 .cursor) (rw (e, fl) room) (s .0 .tail) (λ h. formed-at z r ys (stands-kept z a r sz g false ys (r .st .yi) (all (r .st .yi) h))) in
+      c ∙ rw (e, blocks-same z a r sz g false ys (t .y) (end - t .y) end all (omega arith))

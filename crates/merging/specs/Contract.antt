@@ -1,0 +1,102 @@
+-- What a merge of blocks asks, and what it leaves, in terms of levels' and words' definitions.
+use Prim.Native.Nat.{ℕ, zero, suc, _+_, _-_, _*_, _^_, _≤_, _<_}
+use mathlib.Core.Path.{_≡_}
+use mathlib.Core.Bool.{Bool, true, false}
+use mathlib.Core.List.{List, [], _∷_, _++_, map}
+use lib.ListN.{getD, length, take, drop}
+use Rattle.geometry.specs.declared.Geometry.{Geometry}
+use Rattle.geometry.specs.Geometry.{Valid, capacityOf, marksStart, keysStart, paysStart, placesStart, storeLength}
+use Rattle.levels.specs.Record.{Block, Level, new}
+use Rattle.levels.specs.Merge.{merge}
+use Rattle.levels.specs.Place.{Allocation, Settled, settle, placesOf}
+use Rattle.words.specs.Layout.{word, slotsAt, recordCount, markWordAt, blockAt, each, bit, areaOf, writeBlocks}
+use Rattle.blocks.specs.Blocks.{Marks, emptyBuffer}
+use Rattle.stream.specs.declared.Progress.{Progress}
+use Rattle.stream.specs.declared.Inputs.{Inputs}
+use Rattle.merging.specs.declared.Cut.{Cut}
+use Rattle.merging.specs.declared.Merged.{Merged}
+
+-- page i of level 0, full
+abbrev pub pageAt : Geometry → List ℕ → ℕ → Block
+pageAt g ws i = new (slotsAt ws (word ws (marksStart g + i)) (keysStart g + i * g .b) (paysStart g + i * g .b) (g .b))
+
+-- n entries of a place list, from entry i on
+abbrev pub entriesOf : List ℕ → ℕ → ℕ → List ℕ
+entriesOf list i n = take n (drop i list)
+
+-- n blocks of a level, from block i on
+abbrev pub blocksOf : Geometry → List ℕ → List ℕ → ℕ → ℕ → Level
+blocksOf g ws list i n = map (blockAt g ws) (entriesOf list i n)
+
+-- n pages of level 0, or n blocks of the place list of a level, from number i on
+abbrev pub runOf : Bool → Geometry → List ℕ → List ℕ → ℕ → ℕ → Level
+runOf true g ws list i n = each (pageAt g ws) i n
+runOf false g ws list i n = blocksOf g ws list i n
+
+-- steps 3 and 4 of a merge, of the blocks that the words and the two lists hold
+unfoldable pub mergeOf : Geometry → List ℕ → List ℕ → List ℕ → Cut → Level
+mergeOf g ws xs ys c =
+    merge (g .b) (c .bottom)
+    (blocksOf g ws ys 0 (c .y))
+    (runOf (c .pages) g ws xs (c .x) (c .xend - c .x))
+    (blocksOf g ws ys (c .y) (c .yend - c .y))
+    (blocksOf g ws ys (c .yend) (c .end - c .yend))
+
+-- how many of the first n places are marked
+unfoldable pub countMarks : ℕ → List Bool → ℕ
+countMarks zero used = 0
+countMarks (suc n) used = countMarks n used + bit (getD used n false)
+
+-- a listed block: its place is one of the store's and marked as in use; it has 1 to B records and no bits but theirs in its mark word
+pub record ListedBlock (g : Geometry) (ws : List ℕ) (used : List Bool) (q : ℕ) : Type 0 where
+  pub place : q < g .p
+  pub taken : getD used q false ≡ true
+  pub low : 1 ≤ recordCount g ws q
+  pub high : recordCount g ws q ≤ g .b
+  pub bits : markWordAt g ws q < 2 ^ recordCount g ws q
+
+-- a page of level 0, full, with no bits but its records' in its mark word
+pub record FullPage (g : Geometry) (ws : List ℕ) (i : ℕ) : Type 0 where
+  pub low : i < capacityOf g 0
+  pub bits : word ws (marksStart g + i) < 2 ^ g .b
+
+-- what a merge asks: a legal store, work arrays of their full length, X and Y within their levels, room in the new list, and a free place for each block of X and Y and one more
+pub record Mergeable (g : Geometry) (ws : List ℕ) (used : List Bool) (out xs ys : List ℕ) (c : Cut) (cursor : ℕ) : Type 0 where
+  pub valid : Valid g
+  pub words : length ws ≡ storeLength g
+  pub marks-long : length used ≡ 8192
+  pub out-long : length out ≡ 4096
+  pub xs-long : length xs ≡ 4096
+  pub ys-long : length ys ≡ 4096
+  pub cursor-low : cursor < g .p
+  pub x-low : c .x ≤ c .xend
+  pub x-high : c .xend ≤ 4096
+  pub y-low : c .y ≤ c .yend
+  pub y-high : c .yend ≤ c .end
+  pub upper : c .pages ≡ false → (k : ℕ) → k < c .xend → ListedBlock g ws used (getD xs k 0)
+  pub paged : c .pages ≡ true → (k : ℕ) → k < c .xend → FullPage g ws k
+  pub lower : (k : ℕ) → k < c .end → ListedBlock g ws used (getD ys k 0)
+  pub room : c .end + 2 * ((c .xend - c .x) + (c .yend - c .y)) + 2 ≤ 4096
+  pub free : countMarks (g .p) used + ((c .xend - c .x) + (c .yend - c .y)) + 1 ≤ g .p
+
+-- the ends of X and Y, where the merge begins, and more steps than there are records
+abbrev pub inputsOf : Cut → Inputs
+inputsOf c = record { x = c .xend; y = c .yend; pages = c .pages; bottom = c .bottom }
+
+abbrev pub beginOf : Cut → ℕ → Progress
+beginOf c cursor = record { xi = c .x; xj = 0; yi = c .y; yj = 0; m = c .y; writes = 0; cursor = cursor; buf = emptyBuffer }
+
+abbrev pub limitOf : Cut → ℕ
+limitOf c = 16 * ((c .xend - c .x) + (c .yend - c .y))
+
+-- What a merge leaves of blocks that have been given places: all words, the new list and its length, the cursor, the marks, the number of blocks written.
+pub record Leaves (g : Geometry) (st : Settled) (ws : List ℕ) (ws' : List ℕ) (used' : List Bool) (out' : List ℕ) (r : Merged) : Type 0 where
+  pub words : ws' ≡ take (placesStart g) ws ++ writeBlocks g (areaOf g ws) (st .written)
+  pub list : take (r .count) out' ≡ placesOf (st .level)
+  pub list-long : length out' ≡ 4096
+  pub count : r .count ≡ length (st .level)
+  pub count-high : r .count ≤ 4096
+  pub cursor : r .cursor ≡ st .allocation .cursor
+  pub marks : Marks used' (st .allocation .used)
+  pub marks-long : length used' ≡ 8192
+  pub writes : r .writes ≡ length (st .written)

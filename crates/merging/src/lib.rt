@@ -1,0 +1,103 @@
+// Steps 3 and 4 of a merge, from the place lists of two levels to the new list of the lower one.
+
+ghost use mathlib.Core.Path.{_≡_};
+ghost use Prim.Native.Nat.{ℕ, _+_, _-_, _≤_, _<_};
+ghost use Rattle.levels.specs.Place.{Allocation, settle};
+ghost use Rattle.blocks.specs.Blocks.{Marks};
+ghost use Rattle.merging.specs.Contract.{mergeOf, Mergeable, Leaves, inputsOf, beginOf, limitOf};
+use blocks::Layout;
+use geometry::Geometry;
+use stream::Inputs;
+use stream::Progress;
+
+// Where a merge's blocks stand: X is the chunks x to xend of the upper level, Y the entries y to
+// yend of the lower level's list, which has `end` entries; X may be pages of level 0, and the lower
+// level may be level h.
+pub struct Cut {
+    pub x: usize,
+    pub xend: usize,
+    pub y: usize,
+    pub yend: usize,
+    pub end: usize,
+    pub pages: bool,
+    pub bottom: bool,
+}
+
+// What a merge answers: the length of the new list, the allocation cursor, the blocks written.
+pub struct Merged {
+    pub count: usize,
+    pub cursor: usize,
+    pub writes: usize,
+}
+
+impl Cut {
+    // The ends of X and Y.
+    fn inputs(self) -> Inputs
+        ensures { λ r. ⌜ r ≡ inputsOf self ⌝ }
+    {
+        Inputs {
+            x: self.xend,
+            y: self.yend,
+            pages: self.pages,
+            bottom: self.bottom,
+        }
+    }
+
+    // The merge begins at X's and Y's first records; the blocks before Y are listed already.
+    fn begin(self, cursor: usize) -> Progress
+        ensures { λ r. ⌜ r ≡ beginOf self cursor ⌝ }
+    {
+        let empty = blocks::empty();
+        Progress {
+            xi: self.x,
+            xj: 0,
+            yi: self.y,
+            yj: 0,
+            m: self.y,
+            writes: 0,
+            cursor: cursor,
+            buf: empty,
+        }
+    }
+
+    // Steps enough: a block has at most 16 records, and each step reads one or more.
+    fn limit(self) -> usize
+        requires { ⌜ (self .x ≤ self .xend) × (self .xend ≤ 4096) × (self .y ≤ self .yend) × (self .yend ≤ 4096) ⌝ }
+        ensures { λ r. ⌜ r ≡ limitOf self ⌝ }
+    {
+        16 * ((self.xend - self.x) + (self.yend - self.y))
+    }
+}
+
+// Steps 3 and 4 of a merge. For every list of places in use that the marks stand for, the words, the
+// new list, the cursor and the marks afterwards are those of the merged level, its new blocks settled
+// in key order; the new list is in `out`.
+pub fn merge_blocks(
+    s: &mut [u32],
+    used: &mut [bool; 8192],
+    out: &mut [u32; 4096],
+    xs: &[u32; 4096],
+    ys: &[u32; 4096],
+    g: Geometry,
+    c: Cut,
+    cursor: usize,
+) -> Merged
+    requires { ⌜ Mergeable g (now s) (now used) (now out) (now xs) (now ys) c cursor ⌝ }
+    ensures { λ r. ⌜ ((a : Allocation) → a .cursor ≡ cursor → Marks (now (used .entry)) (a .used)
+        → Leaves g (settle (g .p) a (mergeOf g (now (s .entry)) (now (xs .entry)) (now (ys .entry)) c)) (now (s .entry)) (now (s .exit)) (now (used .exit)) (now (out .exit)) r) ⌝ }
+{
+    let z = Layout::of(g);
+    let t = c.inputs();
+    let y = c.y;
+    let end = c.end;
+    let w = c.begin(cursor);
+    let limit = c.limit();
+    joins::copy_entries(out, ys, 0, 0, y);
+    let v = stream::stream(s, used, out, xs, ys, z, t, w, limit);
+    let r = joins::close(s, used, out, ys, z, v, end);
+    Merged {
+        count: r.m,
+        cursor: r.cursor,
+        writes: r.writes,
+    }
+}

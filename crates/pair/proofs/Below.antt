@@ -1,0 +1,36 @@
+-- Steps 3 and 4 for the chosen run: the merge by numbers is that of the cut which document 01 makes.
+use Prim.Native.Nat.{ℕ, _+_, _-_, _≤_}
+use mathlib.Core.Path.{_≡_, _∙_}
+use mathlib.Core.Bool.{Bool}
+use mathlib.Core.List.{List, map}
+use native.Mathlib.Omega.{arith}
+use lib.ListN.{length, take, drop}
+use Rattle.geometry.specs.declared.Geometry.{Geometry}
+use Rattle.levels.specs.Record.{Level}
+use Rattle.levels.specs.Choose.{choose, cutAt}
+use Rattle.levels.specs.Merge.{merge}
+use Rattle.levels.proofs.Cut.{cut-run}
+use Rattle.choice.specs.Fences.{Ordered, fenceOf}
+use Rattle.merging.specs.declared.Cut.{Cut}
+use Rattle.merging.specs.Contract.{runOf, mergeOf}
+use Rattle.pair.specs.declared.Picked.{Picked}
+use Rattle.pair.specs.Contract.{levelOf, Chosen}
+use Rattle.pair.proofs.Chosen.{ends-in-order, ends-inside, before-is, over-is, behind-is}
+use Rattle.pair.proofs.Merges.{merge-is}
+
+-- where X and Y stand
+abbrev pub meetsAt : ℕ → ℕ → Bool → Bool → Picked → Cut
+meetsAt w n pages bottom r = record { x = r .first; xend = r .first + w; y = r .start; yend = r .end; end = n; pages = pages; bottom = bottom }
+
+module _ (w : ℕ) (above under : Level) (r : Picked) (k : Chosen w above under r) (oa : Ordered 0 (map fenceOf above)) (ou : Ordered 0 (map fenceOf under)) (p : 1 ≤ w) (h : w ≤ length above) where
+  pub run-is : cutAt w (choose w above under .at) above under .run ≡ take w (drop (r .first) above)
+  run-is = rw (← k .first) (cut-run w (r .first) above under)
+
+  pub met-merge : (g : Geometry) (ws xs lower : List ℕ) (n : ℕ) (pages bottom : Bool) → n ≤ length lower → length under ≡ n
+      → runOf pages g ws xs (r .first) w ≡ take w (drop (r .first) above) → levelOf g ws lower n ≡ under → let c = cutAt w (choose w above under .at) above under in
+      mergeOf g ws xs lower (meetsAt w n pages bottom r) ≡ merge (g .b) bottom (c .before) (c .run) (c .over) (c .behind)
+  met-merge g ws xs lower n pages bottom l lu er eu =
+      let x : r .first + w - r .first ≡ w = omega arith in
+      let m : r .end ≤ n = rw lu at (ends-inside w above under r k oa ou p h) in
+      merge-is g ws xs lower (meetsAt w n pages bottom r) (take w (drop (r .first) above)) under (ends-in-order w above under r k oa ou p h) m l (rw x er) eu
+      ∙ rw (run-is, before-is w above under r k oa ou p h, over-is w above under r k oa ou p h, behind-is w above under r k oa ou p h)

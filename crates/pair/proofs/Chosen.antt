@@ -1,0 +1,89 @@
+-- The run that is chosen, and where it meets the level below.
+use Prim.Native.Nat.{ℕ, _+_, _-_, _≤_}
+use mathlib.Core.Path.{_≡_, sym, ap, _∙_}
+use mathlib.Core.List.{List, map}
+use native.Mathlib.Omega.{arith}
+use lib.ListN.{length, take, drop, length-map}
+use Rattle.geometry.specs.declared.Geometry.{Geometry}
+use Rattle.levels.specs.Record.{Level}
+use Rattle.levels.specs.Choose.{Least, choose, cutAt}
+use Rattle.levels.proofs.Cut.{cut-lengths}
+use Rattle.choice.specs.declared.Choice.{Choice}
+use Rattle.choice.specs.declared.Stretch.{Stretch}
+use Rattle.choice.specs.Fences.{Fence, Fenced, Ordered, fenceOf, fencesFrom, fencesOf, chooseFences, choiceOf, stretchOf, fill, listedFence}
+use Rattle.choice.proofs.Levels.{choose-fences, choice-fences}
+use Rattle.choice.proofs.Choose.{chosen-inside, chosen-overlap, chosen-run}
+use Rattle.choice.proofs.Cut.{cut-before, cut-over, cut-behind, cut-start, cut-end, stretch-fences}
+use Rattle.choice.proofs.Keys.{level-fenced}
+use Rattle.choice.proofs.Words.{listed-fences}
+use Rattle.pair.specs.declared.Picked.{Picked}
+use Rattle.pair.specs.Contract.{levelOf, Chosen, Readables}
+
+-- the run that is chosen by fences lies in its level
+pub picked-inside : (firsts lasts : List ℕ) (a w : ℕ) (under : List Fence) (c : Choice) → c ≡ choiceOf (chooseFences w (fencesOf firsts lasts a) under) → 1 ≤ w → w ≤ a → c .first + w ≤ a
+picked-inside firsts lasts a w under c e p h = rw (ap (λ (x : Choice). x .first) e) (chosen-run firsts lasts a w under p h)
+
+-- what is found by fences is the choice by blocks
+pub picked : (firsts lasts starts ends : List ℕ) (a n w : ℕ) → 1 ≤ w → w ≤ a
+    → (c : Choice) → c ≡ choiceOf (chooseFences w (fencesOf firsts lasts a) (fencesOf starts ends n))
+    → (y : Stretch) → y ≡ stretchOf (fencesFrom firsts lasts (c .first) w) (fencesOf starts ends n)
+    → (above under : Level) → fencesOf firsts lasts a ≡ map fenceOf above → fencesOf starts ends n ≡ map fenceOf under
+    → Chosen w above under (record { first = c .first; overlap = c .overlap; start = y .start; end = y .end })
+picked firsts lasts starts ends a n w p h c ec y ey above under ea eu =
+    let d = ec ∙ choice-fences firsts lasts starts ends a n w above under ea eu in
+    record {
+      first = ap (λ (x : Choice). x .first) d;
+      overlap = ap (λ (x : Choice). x .overlap) d;
+      stretch = ey ∙ stretch-fences firsts lasts starts ends a n (c .first) w above under ea eu (picked-inside firsts lasts a w (fencesOf starts ends n) c ec p h);
+    }
+
+-- lists of keys filled from the blocks of a place list
+module _ (g : Geometry) (ws list : List ℕ) (n : ℕ) (k : Readables g ws list n) (xs ys firsts lasts : List ℕ)
+    (e : firsts ≡ fill (λ i. listedFence g ws list i .first) n xs) (d : lasts ≡ fill (λ i. listedFence g ws list i .last) n ys) where
+  pub listed-are : fencesOf firsts lasts n ≡ map fenceOf (levelOf g ws list n)
+  listed-are = listed-fences g ws list n xs ys firsts lasts e d (let l = k .long in let h = k .high in omega arith)
+
+  pub listed-fenced : n ≤ length firsts → n ≤ length lasts → Fenced firsts lasts 0 n
+  listed-fenced p q = level-fenced firsts lasts n (levelOf g ws list n) p q listed-are (k .ordered)
+
+-- What a chosen run has, of two levels in key order.
+module _ (w : ℕ) (above under : Level) (r : Picked) (k : Chosen w above under r) (oa : Ordered 0 (map fenceOf above)) (ou : Ordered 0 (map fenceOf under)) (p : 1 ≤ w) (h : w ≤ length above) where
+  fits : w ≤ length (map fenceOf above)
+  fits = rw (length-map above fenceOf) h
+
+  at-fences : chooseFences w (map fenceOf above) (map fenceOf under) .at ≡ r .first
+  at-fences = sym (k .first ∙ ap (λ (l : Least). l .at) (choose-fences w above under))
+
+  pub run-inside : r .first + w ≤ length above
+  run-inside = rw (at-fences, length-map above fenceOf) at (chosen-inside w (map fenceOf above) (map fenceOf under) p fits)
+
+  abbrev below : Stretch
+  below = record { start = r .start; end = r .end }
+
+  starts-at : length (cutAt w (r .first) above under .before) ≡ r .start
+  starts-at = cut-start w (r .first) above under ou below (k .stretch)
+
+  ends-at : length (cutAt w (r .first) above under .before) + length (cutAt w (r .first) above under .over) ≡ r .end
+  ends-at = cut-end w (r .first) above under ou below (k .stretch) oa p run-inside
+
+  pub ends-in-order : r .start ≤ r .end
+  ends-in-order = omega (arith, starts-at, ends-at)
+
+  pub ends-inside : r .end ≤ length under
+  ends-inside = omega (arith, ends-at, cut-lengths w (r .first) above under .1)
+
+  -- the length of Y is the overlap
+  pub overlap-is : r .end - r .start ≡ choose w above under .value
+  overlap-is =
+      ap (λ (s : Stretch). s .end - s .start) (k .stretch)
+      ∙ sym (ap (λ (l : Least). l .value) (choose-fences w above under) ∙ rw at-fences at (chosen-overlap w (map fenceOf above) (map fenceOf under) p fits ou))
+
+  -- the parts of the level below
+  pub before-is : cutAt w (choose w above under .at) above under .before ≡ take (r .start) under
+  before-is = rw (← k .first) (cut-before w (r .first) above under ou below (k .stretch))
+
+  pub over-is : cutAt w (choose w above under .at) above under .over ≡ take (r .end - r .start) (drop (r .start) under)
+  over-is = rw (← k .first) (cut-over w (r .first) above under ou below (k .stretch))
+
+  pub behind-is : cutAt w (choose w above under .at) above under .behind ≡ drop (r .end) under
+  behind-is = rw (← k .first) (cut-behind w (r .first) above under ou below (k .stretch) oa p run-inside)

@@ -1,0 +1,12 @@
+pub mod Lists
+pub mod Kept
+pub mod Chosen
+pub mod Room
+pub mod Merges
+pub mod Below
+pub mod After
+pub mod Closing
+pub mod Pair
+pub mod Numbers
+pub mod Pages
+pub mod Ready

@@ -1,0 +1,87 @@
+-- What `merge_blocks` asks and leaves, for lists that are copied and for blocks that are parts of levels.
+use Prim.Native.Nat.{ℕ, _+_, _-_, _≤_}
+use mathlib.Core.Path.{_≡_, sym, ap, _∙_}
+use mathlib.Core.Bool.{Bool}
+use mathlib.Core.List.{List, map}
+use native.Mathlib.Omega.{arith}
+use lib.ListN.{length, take, drop, length-map, length-drop}
+use lib.Seq.{take-all, length-take-le}
+use Rattle.geometry.specs.declared.Geometry.{Geometry}
+use Rattle.levels.specs.Record.{Level}
+use Rattle.levels.specs.Merge.{merge}
+use Rattle.levels.specs.Place.{Settled}
+use Rattle.words.specs.Layout.{blockAt}
+use Rattle.choice.proofs.Lists.{map-take, map-drop}
+use Rattle.joins.specs.Joins.{restedOut}
+use Rattle.merging.specs.declared.Cut.{Cut}
+use Rattle.merging.specs.declared.Merged.{Merged}
+use Rattle.merging.specs.Contract.{blocksOf, runOf, mergeOf, Mergeable, Leaves}
+use Rattle.merging.proofs.Close.{rested-length}
+use Rattle.pair.specs.Contract.{levelOf}
+use Rattle.pair.proofs.Lists.{copied-take, take-drop}
+
+-- any list of the full length may take the entries
+pub mergeable-in : (g : Geometry) (ws : List ℕ) (used : List Bool) (out new xs ys : List ℕ) (c : Cut) (cursor : ℕ) → Mergeable g ws used out xs ys c cursor → length new ≡ 4096 → Mergeable g ws used new xs ys c cursor
+mergeable-in g ws used out new xs ys c cursor k e =
+    record {
+      valid = k .valid;
+      words = k .words;
+      marks-long = k .marks-long;
+      out-long = e;
+      xs-long = k .xs-long;
+      ys-long = k .ys-long;
+      cursor-low = k .cursor-low;
+      x-low = k .x-low;
+      x-high = k .x-high;
+      y-low = k .y-low;
+      y-high = k .y-high;
+      upper = k .upper;
+      paged = k .paged;
+      lower = k .lower;
+      room = k .room;
+      free = k .free;
+    }
+
+-- the new list may be copied over another
+pub leaves-copied : (g : Geometry) (st : Settled) (ws ws' : List ℕ) (used' : List Bool) (out list : List ℕ) (r : Merged) → length list ≡ 4096 → Leaves g st ws ws' used' out r → Leaves g st ws ws' used' (restedOut list 0 out 0 (r .count - 0)) r
+leaves-copied g st ws ws' used' out list r e k =
+    let h = k .count-high in
+    let l = k .list-long in
+    record {
+      words = k .words;
+      list = copied-take list out (r .count) (omega arith) (omega arith) ∙ k .list;
+      list-long = rested-length list 0 out 0 (r .count - 0) ∙ e;
+      count = k .count;
+      count-high = k .count-high;
+      cursor = k .cursor;
+      marks = k .marks;
+      marks-long = k .marks-long;
+      writes = k .writes;
+    }
+
+-- m blocks from block i on are a part of the level
+pub part-is : (g : Geometry) (ws list : List ℕ) (i m n : ℕ) → i + m ≤ n → blocksOf g ws list i m ≡ take m (drop i (levelOf g ws list n))
+part-is g ws list i m n h =
+    ap (map (blockAt g ws)) (sym (take-drop i m n list h)) ∙ map-take (blockAt g ws) m (drop i (take n list)) ∙ ap (take m) (map-drop (blockAt g ws) i (take n list))
+
+pub level-length : (g : Geometry) (ws list : List ℕ) (n : ℕ) → n ≤ length list → length (levelOf g ws list n) ≡ n
+level-length g ws list n h = length-map (take n list) (blockAt g ws) ∙ length-take-le n list h
+
+-- the blocks behind block i
+rest-is : (g : Geometry) (ws list : List ℕ) (i n : ℕ) → i ≤ n → n ≤ length list → blocksOf g ws list i (n - i) ≡ drop i (levelOf g ws list n)
+rest-is g ws list i n h l =
+    part-is g ws list i (n - i) n (omega arith) ∙ take-all (n - i) (drop i (levelOf g ws list n)) (omega (arith, length-drop i (levelOf g ws list n), level-length g ws list n l))
+
+-- the merge of a cut by numbers, as the merge of parts of two levels
+pub merge-is : (g : Geometry) (ws xs ys : List ℕ) (c : Cut) (run under : Level) → c .y ≤ c .yend → c .yend ≤ c .end → c .end ≤ length ys
+    → runOf (c .pages) g ws xs (c .x) (c .xend - c .x) ≡ run → levelOf g ws ys (c .end) ≡ under
+    → mergeOf g ws xs ys c ≡ merge (g .b) (c .bottom) (take (c .y) under) run (take (c .yend - c .y) (drop (c .y) under)) (drop (c .yend) under)
+unfolding mergeOf
+merge-is g ws xs ys c run under h l n er eu =
+    rw (
+      er,
+      part-is g ws ys 0 (c .y) (c .end) (omega arith),
+      part-is g ws ys (c .y) (c .yend - c .y) (c .end) (omega arith),
+      rest-is g ws ys (c .yend) (c .end) l n,
+      eu,
+    )

@@ -1,0 +1,219 @@
+-- The whole merge out of level 0.
+use Prim.Native.Nat.{ℕ, zero, suc, _+_, _-_, _*_, _≤_}
+use mathlib.Core.Path.{_≡_, refl, sym, ap, _∙_}
+use mathlib.Core.Bool.{Bool, true, true≢false}
+use mathlib.Core.List.{List, [], _++_, map}
+use native.Mathlib.Nat.{zero-add}
+use native.Mathlib.Omega.{arith}
+use lib.Dec.{eqb}
+use lib.ListN.{length, take, drop, length-append}
+use lib.Seq.{take-all, take-at, drop-at}
+use Rattle.geometry.specs.declared.Geometry.{Geometry}
+use Rattle.geometry.specs.Geometry.{Valid, windowOf, capacityOf, topCapacityOf, marksStart, keysStart, paysStart, storeLength}
+use Rattle.geometry.proofs.Laws.{window-low, level-high}
+use Rattle.levels.specs.Record.{Level, records, rising, pages}
+use Rattle.levels.specs.Choose.{choose}
+use Rattle.levels.specs.Choose as choosing
+use Rattle.levels.specs.Merge.{merge}
+use Rattle.levels.specs.Place.{Allocation, settle}
+use Rattle.levels.proofs.Overlap.{window-fits}
+use Rattle.levels.proofs.Pages.{pack-full}
+use Rattle.words.specs.Layout.{word, each, slotsAt, pageSlots, topSlots, topRecs, topCountAt}
+use Rattle.words.proofs.Slots.{slots-length}
+use Rattle.words.proofs.Top.{top-slots-length}
+use Rattle.choice.specs.Fences.{Ordered, Fenced, fenceOf, fencesOf, fill, pageFence}
+use Rattle.choice.proofs.Keys.{level-fenced}
+use Rattle.choice.proofs.Levels.{Filled, level-ordered}
+use Rattle.choice.proofs.Lists.{length-each, each-take, each-drop}
+use Rattle.choice.proofs.Words.{page-fences}
+use Rattle.blocks.specs.Blocks.{Marks}
+use Rattle.merging.specs.declared.Cut.{Cut}
+use Rattle.merging.specs.declared.Merged.{Merged}
+use Rattle.merging.specs.Contract.{pageAt, mergeOf, Mergeable, Leaves}
+use Rattle.pair.specs.declared.Picked.{Picked}
+use Rattle.pair.specs.Contract.{levelOf, cutOf, lowerAfter, InUse, Chosen, Readables, Paged, PagesReady, PagesLeaves}
+use Rattle.pair.proofs.Chosen.{run-inside, ends-in-order, ends-inside, overlap-is}
+use Rattle.pair.proofs.Room.{count-few}
+use Rattle.pair.proofs.Below.{meetsAt, met-merge}
+use Rattle.pair.proofs.Pair.{stored-ordered, stored-readable, stored-length}
+
+-- n full pages from page i on: cut into pages, they are the pages that the words hold
+pages-each : (g : Geometry) (ws : List ℕ) (i n : ℕ) → 1 ≤ g .b → pages (g .b) (pageSlots g ws i n) ≡ each (pageAt g ws) i n
+unfolding pageSlots
+pages-each g ws i zero h = refl
+pages-each g ws i (suc n) h =
+    let s = slotsAt ws (word ws (marksStart g + i)) (keysStart g + i * g .b) (paysStart g + i * g .b) (g .b) in
+    let l : length s ≡ g .b = slots-length ws _ _ _ (g .b) in
+    let e : g .b - 0 ≡ g .b = omega arith in
+    pack-full (g .b) [] (s ++ pageSlots g ws (suc i) n) h (omega (arith, length-append s (pageSlots g ws (suc i) n), l))
+    ∙ rw (e, take-at s (pageSlots g ws (suc i) n) (g .b) l, drop-at s (pageSlots g ws (suc i) n) (g .b) l, pages-each g ws (suc i) n h)
+
+each-records : (g : Geometry) (ws : List ℕ) (i n : ℕ) → records (each (pageAt g ws) i n) ≡ pageSlots g ws i n
+unfolding pageSlots
+each-records g ws i zero = refl
+each-records g ws i (suc n) = rw (each-records g ws (suc i) n)
+
+each-filled : (g : Geometry) (ws : List ℕ) (i n : ℕ) → 1 ≤ g .b → Filled (each (pageAt g ws) i n)
+each-filled g ws i zero h = tt
+each-filled g ws i (suc n) h = (rw slots-length h, each-filled g ws (suc i) n h)
+
+-- a full level 0 is all its slots
+top-full : (g : Geometry) (ws : List ℕ) → topCountAt ws ≡ topCapacityOf g → topRecs g ws ≡ pageSlots g ws 0 (capacityOf g 0)
+unfolding topRecs topSlots
+top-full g ws e =
+    let l : length (pageSlots g ws 0 (capacityOf g 0)) ≡ topCapacityOf g = top-slots-length g ws in
+    take-all (topCountAt ws) (pageSlots g ws 0 (capacityOf g 0)) (omega arith)
+
+-- lists of keys filled from the pages of level 0
+module _ (g : Geometry) (ws : List ℕ) (a : ℕ) (b : 1 ≤ g .b) (k : Paged g ws a) (xs ys firsts lasts : List ℕ)
+    (e : firsts ≡ fill (λ i. pageFence g ws i .first) a xs) (d : lasts ≡ fill (λ i. pageFence g ws i .last) a ys) where
+  pub paged-are : fencesOf firsts lasts a ≡ map fenceOf (pages (g .b) (topRecs g ws))
+  paged-are = page-fences g ws a xs ys firsts lasts e d b (k .count) (k .fits)
+
+  pub paged-fenced : a ≤ length firsts → a ≤ length lasts → Fenced firsts lasts 0 a
+  paged-fenced p q = level-fenced firsts lasts a (pages (g .b) (topRecs g ws)) p q paged-are (k .ordered)
+
+module _ (g : Geometry) (ws : List ℕ) (used : List Bool) (lower : List ℕ) (n cursor : ℕ) (k : PagesReady g ws used lower n cursor) where
+  abbrev w : ℕ
+  w = windowOf g 0
+
+  abbrev above : Level
+  above = pages (g .b) (topRecs g ws)
+
+  abbrev under : Level
+  under = levelOf g ws lower n
+
+  abbrev cut : choosing.Cut
+  cut = cutOf g 0 above under
+
+  b-low : 1 ≤ g .b
+  b-low = let l = k .valid .ranged .b-low in omega arith
+
+  above-is : above ≡ each (pageAt g ws) 0 (capacityOf g 0)
+  above-is = ap (pages (g .b)) (top-full g ws (k .full)) ∙ pages-each g ws 0 (capacityOf g 0) b-low
+
+  la : length above ≡ capacityOf g 0
+  la = ap length above-is ∙ length-each (pageAt g ws) 0 (capacityOf g 0)
+
+  lu : length under ≡ n
+  lu = stored-length g ws used lower n (k .under)
+
+  oa : Ordered 0 (map fenceOf above)
+  oa =
+      let r : rising 0 (records (each (pageAt g ws) 0 (capacityOf g 0))) ≡ true = rw (each-records g ws 0 (capacityOf g 0), ← top-full g ws (k .full)) (k .rises) in
+      rw above-is (level-ordered 0 (each (pageAt g ws) 0 (capacityOf g 0)) (each-filled g ws 0 (capacityOf g 0) b-low) r)
+
+  ou : Ordered 0 (map fenceOf under)
+  ou = stored-ordered g ws used lower n (k .under)
+
+  w-low : 1 ≤ w
+  w-low = window-low g (k .valid .ranged) 0
+
+  pub window-in : w ≤ capacityOf g 0
+  window-in = window-fits g 0 (capacityOf g 0) (k .valid .ranged) (omega arith)
+
+  few : capacityOf g 0 ≤ 1024
+  few = level-high g (k .valid) {i = 0} (omega arith)
+
+  fits : w ≤ length above
+  fits = rw la window-in
+
+  -- the run can be chosen
+  pub pages-choosable : (a w : ℕ) → a ≡ capacityOf g 0 → w ≡ windowOf g 0 → Valid g × ((length ws ≡ storeLength g) × ((1 ≤ w) × ((w ≤ a) × (Paged g ws a × Readables g ws lower n))))
+  unfolding topCapacityOf
+  pages-choosable a v ea ew =
+      let f = k .full in
+      rw (ea, ew) (k .valid, (k .words, (w-low, (window-in, (record { count = f; fits = omega arith; high = omega (arith, few); ordered = oa }, stored-readable g ws used lower n (k .under))))))
+
+  module _ (r : Picked) (ch : Chosen w above under r) where
+    inside : r .first + w ≤ capacityOf g 0
+    inside = rw la at (run-inside w above under r ch oa ou w-low fits)
+
+    module _ (xs : List ℕ) (xl : length xs ≡ 4096) (bottom : Bool) (eb : bottom ≡ eqb 1 (g .h)) where
+      abbrev meets : Cut
+      meets = meetsAt w n true bottom r
+
+      -- steps 3 and 4 can be made
+      top-mergeable : InUse used × Mergeable g ws used lower xs lower meets cursor
+      top-mergeable =
+          let h = inside in
+          let x : r .first + w - r .first ≡ w = omega arith in
+          let y = overlap-is w above under r ch oa ou w-low fits in
+          let f = k .free in
+          let m = k .room in
+          let s = few in
+          let c = count-few (g .p) used (k .in-use .places) (k .in-use .marks) in (
+            k .in-use,
+            record {
+              valid = k .valid;
+              words = k .words;
+              marks-long = k .marks-long;
+              out-long = k .under .long;
+              xs-long = xl;
+              ys-long = k .under .long;
+              cursor-low = k .cursor-low;
+              x-low = omega arith;
+              x-high = omega arith;
+              y-low = ends-in-order w above under r ch oa ou w-low fits;
+              y-high = rw lu at (ends-inside w above under r ch oa ou w-low fits);
+              upper = λ t. absurd (true≢false t);
+              paged = λ _ j b. record { low = omega arith; bits = k .bits j (omega arith) };
+              lower = k .under .blocks;
+              room = omega arith;
+              free = omega arith;
+            },
+          )
+
+      run-pages : each (pageAt g ws) (r .first) w ≡ take w (drop (r .first) above)
+      run-pages =
+          let h = inside in
+          sym (ap (λ (l : Level). take w (drop (r .first) l)) above-is
+          ∙ rw (each-drop (pageAt g ws) 0 (r .first) (capacityOf g 0), zero-add) (each-take (pageAt g ws) (r .first) w (capacityOf g 0 - r .first) (omega arith)))
+
+      top-merge : mergeOf g ws xs lower meets ≡ merge (g .b) (eqb 1 (g .h)) (cut .before) (cut .run) (cut .over) (cut .behind)
+      top-merge =
+          let l = k .under .long in
+          let h = k .under .high in
+          met-merge w above under r ch oa ou w-low fits g ws xs lower n true bottom (omega arith) lu run-pages refl ∙ rw eb
+
+      -- what steps 3 and 4 leave
+      top-leaves : (ws2 : List ℕ) (used2 : List Bool) (lower2 : List ℕ) (v : Merged)
+          → ((al : Allocation) → al .cursor ≡ cursor → Marks used (al .used) → Leaves g (settle (g .p) al (mergeOf g ws xs lower meets)) ws ws2 used2 lower2 v)
+          → (al : Allocation) → al .cursor ≡ cursor → Marks used (al .used)
+          → PagesLeaves g (lowerAfter g 0 al cut) (choose w above under) ws ws2 used2 lower2
+          (record { above = capacityOf g 0 - w; under = v .count; cursor = v .cursor; writes = v .writes; first = r .first; overlap = r .overlap })
+      unfolding lowerAfter
+      top-leaves ws2 used2 lower2 v k3 al e m =
+          let q = k3 al e m in
+          rw (← top-merge)
+          (record {
+            words = q .words;
+            above = refl;
+            lower = q .list;
+            lower-long = q .list-long;
+            under = q .count;
+            cursor = q .cursor;
+            marks = q .marks;
+            marks-long = q .marks-long;
+            writes = q .writes;
+            first = ch .first;
+            overlap = ch .overlap;
+          })
+
+  -- the same with the numbers as the code has them
+  pub pages-inside : (r : Picked) (v : ℕ) → v ≡ windowOf g 0 → Chosen v above under r → r .first + v ≤ 1024
+  pages-inside r v e = rw e (λ ch. omega (arith, inside r ch, few))
+
+  module _ (r : Picked) (xs : List ℕ) (xl : length xs ≡ 4096) (h : ℕ) (eh : h ≡ g .h) where
+    bottom-is : eqb 1 h ≡ eqb 1 (g .h)
+    bottom-is = rw eh
+
+    pub pages-mergeable : (v : ℕ) → v ≡ windowOf g 0 → Chosen v above under r → InUse used × Mergeable g ws used lower xs lower (meetsAt v n true (eqb 1 h) r) cursor
+    pages-mergeable v e = rw e (λ ch. top-mergeable r ch xs xl (eqb 1 h) bottom-is)
+
+    pub pages-leaves : (ws2 : List ℕ) (used2 : List Bool) (lower2 : List ℕ) (v : Merged) (a w : ℕ) → a ≡ capacityOf g 0 → w ≡ windowOf g 0 → Chosen w above under r
+        → ((al : Allocation) → al .cursor ≡ cursor → Marks used (al .used) → Leaves g (settle (g .p) al (mergeOf g ws xs lower (meetsAt w n true (eqb 1 h) r))) ws ws2 used2 lower2 v)
+        → (al : Allocation) → al .cursor ≡ cursor → Marks used (al .used)
+        → PagesLeaves g (lowerAfter g 0 al cut) (choose (windowOf g 0) above under) ws ws2 used2 lower2
+        (record { above = a - w; under = v .count; cursor = v .cursor; writes = v .writes; first = r .first; overlap = r .overlap })
+    pages-leaves ws2 used2 lower2 v a x ea ew = rw (ea, ew) (λ ch k3. top-leaves r ch xs xl (eqb 1 h) bottom-is ws2 used2 lower2 v k3)

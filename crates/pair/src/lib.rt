@@ -1,0 +1,237 @@
+// Steps 1 to 4 of a merge: the run is chosen and leaves its level, and what it meets below is merged with it.
+
+ghost use mathlib.Core.Path.{_≡_};
+ghost use mathlib.Core.List.{map};
+ghost use Prim.Native.Nat.{_≤_};
+ghost use lib.ListN.{length};
+ghost use Rattle.geometry.specs.Geometry.{Valid, windowOf, storeLength};
+ghost use Rattle.levels.specs.Record.{Level, pages};
+ghost use Rattle.levels.specs.Choose.{choose};
+ghost use Rattle.levels.specs.Merge.{close};
+ghost use Rattle.levels.specs.Place.{Allocation, settle};
+ghost use Rattle.words.specs.Layout.{topRecs};
+ghost use Rattle.choice.specs.Fences.{Fenced, fenceOf, fencesOf};
+ghost use Rattle.blocks.specs.Blocks.{Marks};
+ghost use Rattle.merging.specs.Contract.{mergeOf, Mergeable, Leaves};
+ghost use Rattle.pair.specs.Contract.{levelOf, cutOf, upperAfter, lowerAfter, Chosen, Readables, Paged, InUse, Closable, leftOf, rightOf, PairReady, PairLeaves, PagesReady, PagesLeaves};
+use geometry::Geometry;
+use merging::Cut;
+use merging::Merged;
+
+// What a merge answers: the lengths of the two lists afterwards, the allocation cursor, the blocks
+// written, the run's first block and the number of blocks below that the run overlaps.
+pub struct Step {
+    pub above: usize,
+    pub under: usize,
+    pub cursor: usize,
+    pub writes: usize,
+    pub first: usize,
+    pub overlap: usize,
+}
+
+// The chosen run, and the blocks below from `start` on up to but without `end` that it meets.
+struct Picked {
+    first: usize,
+    overlap: usize,
+    start: usize,
+    end: usize,
+}
+
+// Step 1, over the fences of both levels.
+fn pick(
+    firsts: &[u32],
+    lasts: &[u32],
+    a: usize,
+    starts: &[u32],
+    ends: &[u32],
+    n: usize,
+    w: usize,
+) -> Picked
+    requires { ⌜ (1 ≤ w) × ((w ≤ a) × (Fenced (now firsts) (now lasts) 0 a × Fenced (now starts) (now ends) 0 n)) ⌝ }
+    ensures { λ r. ⌜ ((above under : Level) → fencesOf (now (firsts .entry)) (now (lasts .entry)) a ≡ map fenceOf above → fencesOf (now (starts .entry)) (now (ends .entry)) n ≡ map fenceOf under → Chosen w above under r) ⌝ }
+{
+    let c = choice::choose_run(firsts, lasts, a, starts, ends, n, w);
+    let first = c.first;
+    let y = choice::below_run(firsts, lasts, first, w, starts, ends, n);
+    Picked {
+        first: first,
+        overlap: c.overlap,
+        start: y.start,
+        end: y.end,
+    }
+}
+
+// Step 1 between two listed levels.
+fn choose_listed(
+    s: &[u32],
+    upper: &[u32; 4096],
+    lower: &[u32; 4096],
+    g: Geometry,
+    a: usize,
+    n: usize,
+    w: usize,
+) -> Picked
+    requires { ⌜ Valid g × ((length (now s) ≡ storeLength g) × ((1 ≤ w) × ((w ≤ a) × (Readables g (now s) (now upper) a × Readables g (now s) (now lower) n)))) ⌝ }
+    ensures { λ r. ⌜ Chosen w (levelOf g (now (s .entry)) (now (upper .entry)) a) (levelOf g (now (s .entry)) (now (lower .entry)) n) r ⌝ }
+{
+    let mut firsts = [0u32; 2048];
+    let mut lasts = [0u32; 2048];
+    let mut starts = [0u32; 2048];
+    let mut ends = [0u32; 2048];
+    choice::fence_blocks(s, g, upper, a, &mut firsts, &mut lasts);
+    choice::fence_blocks(s, g, lower, n, &mut starts, &mut ends);
+    pick(&firsts, &lasts, a, &starts, &ends, n, w)
+}
+
+// Step 1 out of level 0, all of whose pages are full.
+fn choose_pages(s: &[u32], lower: &[u32; 4096], g: Geometry, a: usize, n: usize, w: usize) -> Picked
+    requires { ⌜ Valid g × ((length (now s) ≡ storeLength g) × ((1 ≤ w) × ((w ≤ a) × (Paged g (now s) a × Readables g (now s) (now lower) n)))) ⌝ }
+    ensures { λ r. ⌜ Chosen w (pages (g .b) (topRecs g (now (s .entry)))) (levelOf g (now (s .entry)) (now (lower .entry)) n) r ⌝ }
+{
+    let mut firsts = [0u32; 2048];
+    let mut lasts = [0u32; 2048];
+    let mut starts = [0u32; 2048];
+    let mut ends = [0u32; 2048];
+    choice::fence_pages(s, g, a, &mut firsts, &mut lasts);
+    choice::fence_blocks(s, g, lower, n, &mut starts, &mut ends);
+    pick(&firsts, &lasts, a, &starts, &ends, n, w)
+}
+
+// Steps 3 and 4 with the new list put in the place of the old one, which its blocks are read from till the end.
+fn merge_list(
+    s: &mut [u32],
+    used: &mut [bool; 8192],
+    list: &mut [u32; 4096],
+    xs: &[u32; 4096],
+    g: Geometry,
+    c: Cut,
+    cursor: usize,
+) -> Merged
+    requires { ⌜ InUse (now used) × Mergeable g (now s) (now used) (now list) (now xs) (now list) c cursor ⌝ }
+    ensures { λ r. ⌜ ((a : Allocation) → a .cursor ≡ cursor → Marks (now (used .entry)) (a .used)
+        → Leaves g (settle (g .p) a (mergeOf g (now (s .entry)) (now (xs .entry)) (now (list .entry)) c)) (now (s .entry)) (now (s .exit)) (now (used .exit)) (now (list .exit)) r) ⌝ }
+{
+    let mut out = [0u32; 4096];
+    let r = merging::merge_blocks(s, used, &mut out, xs, list, g, c, cursor);
+    let count = r.count;
+    joins::copy_entries(list, &out, 0, 0, count);
+    r
+}
+
+// Step 2: the run leaves the list, and its two neighbours join if they can: a merge of nothing between them.
+fn close_run(
+    s: &mut [u32],
+    used: &mut [bool; 8192],
+    upper: &mut [u32; 4096],
+    xs: &[u32; 4096],
+    g: Geometry,
+    first: usize,
+    w: usize,
+    a: usize,
+    cursor: usize,
+) -> Merged
+    requires { ⌜ Closable g (now s) (now used) (now upper) (now xs) first w a cursor ⌝ }
+    ensures { λ r. ⌜ ((al : Allocation) → al .cursor ≡ cursor → Marks (now (used .entry)) (al .used)
+        → Leaves g (settle (g .p) al (close (g .b) 1 (leftOf g (now (s .entry)) (now (upper .entry)) first) (rightOf g (now (s .entry)) (now (upper .entry)) first w a))) (now (s .entry)) (now (s .exit)) (now (used .exit)) (now (upper .exit)) r) ⌝ }
+{
+    joins::copy_entries(upper, xs, first, first + w, a);
+    let c = Cut {
+        x: 0,
+        xend: 0,
+        y: first,
+        yend: first,
+        end: a - w,
+        pages: false,
+        bottom: false,
+    };
+    merge_list(s, used, upper, xs, g, c, cursor)
+}
+
+// Steps 1 to 4 of a merge from a listed level to the next. Step 2 writes first, so its block takes its place before those of steps 3 and 4.
+pub fn merge_pair(
+    s: &mut [u32],
+    used: &mut [bool; 8192],
+    upper: &mut [u32; 4096],
+    lower: &mut [u32; 4096],
+    g: Geometry,
+    level: usize,
+    a: usize,
+    n: usize,
+    cursor: usize,
+) -> Step
+    requires { ⌜ PairReady g (now s) (now used) (now upper) (now lower) level a n cursor ⌝ }
+    ensures { λ r. ⌜ ((al : Allocation) → al .cursor ≡ cursor → Marks (now (used .entry)) (al .used)
+        → PairLeaves g (upperAfter g level al (cutOf g level (levelOf g (now (s .entry)) (now (upper .entry)) a) (levelOf g (now (s .entry)) (now (lower .entry)) n)))
+        (lowerAfter g level (upperAfter g level al (cutOf g level (levelOf g (now (s .entry)) (now (upper .entry)) a) (levelOf g (now (s .entry)) (now (lower .entry)) n)) .allocation) (cutOf g level (levelOf g (now (s .entry)) (now (upper .entry)) a) (levelOf g (now (s .entry)) (now (lower .entry)) n)))
+        (choose (windowOf g level) (levelOf g (now (s .entry)) (now (upper .entry)) a) (levelOf g (now (s .entry)) (now (lower .entry)) n))
+        (now (s .entry)) (now (s .exit)) (now (used .exit)) (now (upper .exit)) (now (lower .exit)) r) ⌝ }
+{
+    let h = g.levels();
+    let w = g.window(level);
+    let p = choose_listed(s, upper, lower, g, a, n, w);
+    let first = p.first;
+    let mut xs = [0u32; 4096];
+    joins::copy_entries(&mut xs, upper, 0, 0, a);
+    let u = close_run(s, used, upper, &xs, g, first, w, a, cursor);
+    let hand = u.cursor;
+    let c = Cut {
+        x: first,
+        xend: first + w,
+        y: p.start,
+        yend: p.end,
+        end: n,
+        pages: false,
+        bottom: level + 1 == h,
+    };
+    let l = merge_list(s, used, lower, &xs, g, c, hand);
+    Step {
+        above: u.count,
+        under: l.count,
+        cursor: l.cursor,
+        writes: u.writes + l.writes,
+        first: first,
+        overlap: p.overlap,
+    }
+}
+
+// Steps 1, 3 and 4 of a merge out of level 0, which is full. The run's pages stay where they are: step 2 writes nothing there, and the
+// caller takes the pages out afterwards, `above` of them staying.
+pub fn merge_pages(
+    s: &mut [u32],
+    used: &mut [bool; 8192],
+    lower: &mut [u32; 4096],
+    g: Geometry,
+    n: usize,
+    cursor: usize,
+) -> Step
+    requires { ⌜ PagesReady g (now s) (now used) (now lower) n cursor ⌝ }
+    ensures { λ r. ⌜ ((al : Allocation) → al .cursor ≡ cursor → Marks (now (used .entry)) (al .used)
+        → PagesLeaves g (lowerAfter g 0 al (cutOf g 0 (pages (g .b) (topRecs g (now (s .entry)))) (levelOf g (now (s .entry)) (now (lower .entry)) n)))
+        (choose (windowOf g 0) (pages (g .b) (topRecs g (now (s .entry)))) (levelOf g (now (s .entry)) (now (lower .entry)) n))
+        (now (s .entry)) (now (s .exit)) (now (used .exit)) (now (lower .exit)) r) ⌝ }
+{
+    let h = g.levels();
+    let a = g.capacity(0);
+    let w = g.window(0);
+    let p = choose_pages(s, lower, g, a, n, w);
+    let first = p.first;
+    let xs = [0u32; 4096];
+    let c = Cut {
+        x: first,
+        xend: first + w,
+        y: p.start,
+        yend: p.end,
+        end: n,
+        pages: true,
+        bottom: 1 == h,
+    };
+    let l = merge_list(s, used, lower, &xs, g, c, cursor);
+    Step {
+        above: a - w,
+        under: l.count,
+        cursor: l.cursor,
+        writes: l.writes,
+        first: first,
+        overlap: p.overlap,
+    }
+}

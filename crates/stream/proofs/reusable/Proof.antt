@@ -1,0 +1,27 @@
+use borrow.Author.Tests.{eq-eqb, ne-eqb}
+use Rattle.stream.specs.Machine.{follows}
+use borrow.Author.Needs.{needs}
+use Rattle.stream.proofs.reusable.Statement.{statement}
+use Rattle.stream.proofs.reusable.Tie as tie
+use Rattle.stream.proofs.reusable.Reads as reads
+use Rattle.stream.proofs.reusable.Lts as lts
+
+add-result : tie.Need-add-result
+add-result c = search needs
+
+returns : tie.Need-returns
+unfolding follows
+returns c = rw (eq-eqb _ _ (c .before .if1 .taken))
+
+add-result-2 : tie.Need-add-result-2
+add-result-2 c = search needs
+
+add-result-3 : tie.Need-add-result-3
+add-result-3 c = search needs
+
+returns-2 : tie.Need-returns-2
+unfolding follows
+returns-2 c = rw (ne-eqb _ _ (c .before .if1 .left))
+
+pub reusable-spec : {M : Type 1} → statement M
+reusable-spec = tie.close (tie.spec add-result returns add-result-2 add-result-3 returns-2)

@@ -1,0 +1,201 @@
+-- The merge as a machine over the words, the marks, the new list and a few numbers: what the code does, step by step.
+use Prim.Native.Nat.{ℕ, zero, suc, _+_, _-_, _*_, _/_, _%_, _^_, _≤_, _<_}
+use mathlib.Core.Path.{_≡_}
+use mathlib.Core.Bool.{Bool, true, false, not, _&&_, _||_}
+use mathlib.Core.List.{List, [], _∷_, _++_}
+use lib.Dec.{ltb, leb, eqb}
+use lib.ListN.{getD, set, length}
+use Rattle.levels.specs.Basics.{if_then_else_}
+use Rattle.blocks.specs.declared.Layout.{Layout}
+use Rattle.blocks.specs.declared.Buffer.{Buffer}
+use Rattle.blocks.specs.Blocks.{Sized, startOf, SomeFree, nextMark, pushed, emptyBuffer, written}
+use Rattle.stream.specs.declared.Chunk.{Chunk}
+use Rattle.stream.specs.declared.Head.{Head}
+use Rattle.stream.specs.declared.Progress.{Progress}
+use Rattle.stream.specs.declared.Inputs.{Inputs}
+
+-- the block at place q
+abbrev pub blockChunk : Layout → List ℕ → ℕ → Chunk
+blockChunk z xs q = record { marks = startOf z q + 1; keys = startOf z q + 2; pays = startOf z q + 2 + z .b; n = getD xs (startOf z q) 0; place = q; listed = true }
+
+-- page i of level 0
+abbrev pub pageChunk : Layout → ℕ → Chunk
+pageChunk z i = record { marks = z .marks + i; keys = z .keys + i * z .b; pays = z .pays + i * z .b; n = z .b; place = 0; listed = false }
+
+-- chunk i of a side
+unfoldable pub chunkOf : Layout → Bool → List ℕ → List ℕ → ℕ → Chunk
+chunkOf z pages xs list i = if pages then pageChunk z i else blockChunk z xs (getD list i 0)
+
+-- a side has a chunk i: a page of level 0, or a block at a place
+pub record Chunked (z : Layout) (pages : Bool) (xs list : List ℕ) (i : ℕ) : Type 0 where
+  pub sized : Sized z xs
+  pub low : i < 4096
+  pub place : pages ≡ false → getD list i 0 < z .p
+  pub page : pages ≡ true → i < z .top
+
+-- chunk i of a side can be read at record j
+pub record Readable (z : Layout) (pages : Bool) (xs list : List ℕ) (i j end : ℕ) : Type 0 where
+  pub sized : Sized z xs
+  pub end-high : end ≤ 4096
+  pub place : i < end → pages ≡ false → getD list i 0 < z .p
+  pub page : i < end → pages ≡ true → i < z .top
+  pub inside : i < end → j < chunkOf z pages xs list i .n
+  pub count : i < end → chunkOf z pages xs list i .n ≤ z .b
+
+abbrev pub noHead : Head
+noHead = record { some = false; whole = false; key = 0; tombstone = 0; pay = 0; last = 0; marks = 0; n = 0; place = 0 }
+
+-- record j of a chunk
+abbrev pub headAt : List ℕ → Chunk → ℕ → Head
+headAt xs c j =
+    record {
+      some = true;
+      whole = c .listed && eqb j 0;
+      key = getD xs (c .keys + j) 0;
+      tombstone = getD xs (c .marks) 0 / 2 ^ j % 2;
+      pay = getD xs (c .pays + j) 0;
+      last = getD xs (c .keys + (c .n - 1)) 0;
+      marks = getD xs (c .marks) 0;
+      n = c .n;
+      place = c .place;
+    }
+
+unfoldable pub headOf : Layout → Bool → List ℕ → List ℕ → ℕ → ℕ → ℕ → Head
+headOf z pages xs list i j end = if leb end i then noHead else headAt xs (chunkOf z pages xs list i) j
+
+unfoldable pub lastSize : Layout → List ℕ → List ℕ → ℕ → ℕ
+lastSize z xs out m = if eqb m 0 then z .b else getD xs (startOf z (getD out (m - 1) 0)) 0
+
+abbrev pub first : Head → Head → Bool
+first a b = a .some && (not (b .some) || ltb (a .key) (b .key))
+
+unfoldable pub follows : Layout → Bool → Head → Head → ℕ → ℕ → Bool
+follows z bottom a b n e =
+    if eqb n 0 then (a .whole && (not (b .some) || ltb (a .last) (b .key))) && (not (bottom && not (eqb (a .marks) 0)) && ltb (z .b) (e + a .n))
+    else (a .whole && (not (b .some) || ltb (a .last) (b .key))) && (not (bottom && not (eqb (a .marks) 0)) && (ltb (z .b) (n + a .n) && ltb (z .b) (e + n)))
+
+-- the words, the marks of places in use, the new list, and where the merge stands
+pub record Memory : Type 0 where
+  pub words : List ℕ
+  pub used : List Bool
+  pub out : List ℕ
+  pub st : Progress
+
+-- a buffer can be written
+pub record Flushable (z : Layout) (xs : List ℕ) (used : List Bool) (w : Progress) : Type 0 where
+  pub sized : Sized z xs
+  pub cursor : w .cursor < z .p
+  pub full : w .buf .n ≤ 16
+  pub room : w .m < 4096
+  pub count : w .writes ≤ 8192
+  pub free : SomeFree used (z .p)
+
+-- a record can be put into the buffer
+pub record Gatherable (z : Layout) (w : Progress) : Type 0 where
+  pub few : w .buf .n < z .b
+  pub bits : w .buf .marks < 2 ^ w .buf .n
+
+abbrev pub withBuffer : Progress → Buffer → Progress
+withBuffer w b = record { xi = w .xi; xj = w .xj; yi = w .yi; yj = w .yj; m = w .m; writes = w .writes; cursor = w .cursor; buf = b }
+
+abbrev pub withProgress : Memory → Progress → Memory
+withProgress a w = record { words = a .words; used = a .used; out = a .out; st = w }
+
+-- the buffer is written at place q, which is listed
+abbrev pub writtenAt : Layout → Memory → ℕ → Memory
+writtenAt z a q =
+    record {
+      words = written z (a .words) q (a .st .buf);
+      used = set (a .used) q true;
+      out = set (a .out) (a .st .m) q;
+      st = record { xi = a .st .xi; xj = a .st .xj; yi = a .st .yi; yj = a .st .yj; m = a .st .m + 1; writes = a .st .writes + 1; cursor = q; buf = emptyBuffer };
+    }
+
+unfoldable pub flushed : Layout → Memory → Memory
+flushed z a = if eqb (a .st .buf .n) 0 then a else writtenAt z a (nextMark (z .p) (a .used) (a .st .cursor))
+
+-- place q is listed
+abbrev pub append : Memory → ℕ → Memory
+append a q =
+    record {
+      words = a .words;
+      used = a .used;
+      out = set (a .out) (a .st .m) q;
+      st = record { xi = a .st .xi; xj = a .st .xj; yi = a .st .yi; yj = a .st .yj; m = a .st .m + 1; writes = a .st .writes; cursor = a .st .cursor; buf = a .st .buf };
+    }
+
+unfoldable pub reused : Layout → Memory → ℕ → Memory
+reused z a q = append (flushed z a) q
+
+unfoldable pub gathered : Layout → Bool → Memory → Head → Memory
+gathered z bottom a h =
+    if bottom && eqb (h .tombstone) 1 then a
+    else if leb (z .b) (a .st .buf .n + 1) then flushed z (withProgress a (withBuffer (a .st) (pushed (a .st .buf) (h .key) (h .tombstone) (h .pay))))
+    else withProgress a (withBuffer (a .st) (pushed (a .st .buf) (h .key) (h .tombstone) (h .pay)))
+
+abbrev pub skipX : Progress → Progress
+skipX w = record { xi = w .xi + 1; xj = 0; yi = w .yi; yj = w .yj; m = w .m; writes = w .writes; cursor = w .cursor; buf = w .buf }
+
+abbrev pub skipY : Progress → Progress
+skipY w = record { xi = w .xi; xj = w .xj; yi = w .yi + 1; yj = 0; m = w .m; writes = w .writes; cursor = w .cursor; buf = w .buf }
+
+unfoldable pub passX : Progress → ℕ → Progress
+passX w n = if leb n (w .xj + 1) then skipX w else record { xi = w .xi; xj = w .xj + 1; yi = w .yi; yj = w .yj; m = w .m; writes = w .writes; cursor = w .cursor; buf = w .buf }
+
+unfoldable pub passY : Progress → ℕ → Progress
+passY w n = if leb n (w .yj + 1) then skipY w else record { xi = w .xi; xj = w .xj; yi = w .yi; yj = w .yj + 1; m = w .m; writes = w .writes; cursor = w .cursor; buf = w .buf }
+
+-- the merge can write and gather
+pub record Movable (z : Layout) (xs : List ℕ) (used : List Bool) (w : Progress) : Type 0 where
+  pub flushable : Flushable z xs used w
+  pub gatherable : Gatherable z w
+  pub room : w .m + 2 ≤ 4096
+
+pub record HeadOk (h : Head) : Type 0 where
+  pub tombstone : h .tombstone < 2
+  pub n : h .n ≤ 16
+  pub place : h .place < 8192
+
+-- a step can be made
+pub record Ready (z : Layout) (t : Inputs) (xs ys : List ℕ) (a : Memory) : Type 0 where
+  pub upper : Readable z (t .pages) (a .words) xs (a .st .xi) (a .st .xj) (t .x)
+  pub lower : Readable z false (a .words) ys (a .st .yi) (a .st .yj) (t .y)
+  pub movable : Movable z (a .words) (a .used) (a .st)
+  pub listed : (i : ℕ) → i < a .st .m → getD (a .out) i 0 < z .p
+
+module _ (z : Layout) (bottom : Bool) (a : Memory) where
+  unfoldable pub tookX : Head → Head → ℕ → Memory
+  tookX x y e =
+      if follows z bottom x y (a .st .buf .n) e then reused z (withProgress a (skipX (a .st))) (x .place)
+      else gathered z bottom (withProgress a (passX (a .st) (x .n))) x
+
+  unfoldable pub tookY : Head → Head → ℕ → Memory
+  tookY y x e =
+      if follows z bottom y x (a .st .buf .n) e then reused z (withProgress a (skipY (a .st))) (y .place)
+      else gathered z bottom (withProgress a (passY (a .st) (y .n))) y
+
+  unfoldable pub tookBoth : Head → Head → Memory
+  tookBoth x y = gathered z bottom (withProgress a (passY (passX (a .st) (x .n)) (y .n))) x
+
+module _ (z : Layout) (t : Inputs) (xs ys : List ℕ) where
+  abbrev pub stepWith : Memory → Head → Head → ℕ → Memory
+  stepWith a x y e =
+      if first y x then tookY z (t .bottom) a y x e
+      else if first x y then tookX z (t .bottom) a x y e
+      else tookBoth z (t .bottom) a x y
+
+  -- one step: a block is reused or a record is gathered
+  unfoldable pub turn : Memory → Memory
+  turn a =
+      stepWith a
+      (headOf z (t .pages) (a .words) xs (a .st .xi) (a .st .xj) (t .x))
+      (headOf z false (a .words) ys (a .st .yi) (a .st .yj) (t .y))
+      (lastSize z (a .words) (a .out) (a .st .m))
+
+  -- both sides are used up
+  abbrev pub idle : Memory → Bool
+  idle a = leb (t .x) (a .st .xi) && leb (t .y) (a .st .yi)
+
+  unfoldable pub turns : ℕ → Memory → Memory
+  turns zero a = a
+  turns (suc n) a = let b = turns n a in if idle b then b else turn b
