@@ -1,7 +1,7 @@
 -- The records of listed blocks, one block more, and how many they are.
 use Prim.Native.Nat.{ℕ, zero, suc, _+_, _*_, _≤_, _<_}
-use mathlib.Core.Path.{_≡_, sym, ap, _∙_, refl}
-use mathlib.Core.Bool.{Bool, true, false}
+use mathlib.Core.Path.{_≡_, ap, _∙_}
+use mathlib.Core.Bool.{false}
 use mathlib.Core.List.{List, [], _∷_, _++_, map, append-nil}
 use native.Mathlib.Numerals.{add-one}
 use native.Mathlib.Nat.{mul-le-mul}
@@ -9,14 +9,13 @@ use native.Mathlib.Omega.{arith}
 use lib.ListN.{length, getD, take, length-append, length-map}
 use lib.Seq.{length-take-le}
 use Rattle.geometry.specs.declared.Geometry.{Geometry}
-use Rattle.levels.specs.Record.{Rec, Block, Level, records}
+use Rattle.levels.specs.Record.{Rec, Block, records}
 use Rattle.levels.specs.Waste.{wasteful, needsCompact}
 use Rattle.levels.proofs.Levels.{records-append}
 use Rattle.words.specs.Layout.{blockAt}
 use Rattle.blocks.specs.declared.Layout.{Layout}
 use Rattle.blocks.specs.Blocks.{layoutOf, startOf}
 use Rattle.blocks.proofs.Laws.{sized-of, start-place}
-use Rattle.stream.specs.declared.Chunk.{Chunk}
 use Rattle.stream.specs.Machine.{blockChunk}
 use Rattle.merging.specs.Blocks.{recsFrom, countAt, storedAt, blocks}
 use Rattle.merging.proofs.Heads.{recs-length}

@@ -1,36 +1,31 @@
 -- A compaction under way: what the machine holds after some records, and that there is room for the next.
-use Prim.Native.Nat.{ℕ, zero, suc, _+_, _-_, _*_, _/_, _%_, _^_, _≤_, _<_}
-use mathlib.Core.Path.{_≡_, sym, ap, _∙_, refl}
-use mathlib.Core.Bool.{Bool, true, false}
+use Prim.Native.Nat.{ℕ, zero, suc, _+_, _-_, _*_, _≤_, _<_}
+use mathlib.Core.Path.{_≡_, sym, _∙_}
+use mathlib.Core.Bool.{true, false}
 use mathlib.Core.List.{List, [], _∷_, _++_, append-assoc, append-nil}
 use native.Mathlib.Nat.{le-of-mul-le-mul-right}
 use native.Mathlib.Omega.{arith}
 use lib.Dec.{eqb}
 use lib.ListN.{length, getD, length-append}
-use Rattle.levels.specs.Record.{Rec, Block, Level, records}
-use Rattle.levels.specs.Merge.{Out, gather}
-use Rattle.levels.proofs.Levels.{records-append}
+use Rattle.levels.specs.Record.{Rec, records}
 use Rattle.blocks.specs.declared.Layout.{Layout}
-use Rattle.blocks.specs.declared.Buffer.{Buffer}
-use Rattle.blocks.specs.Blocks.{Sized, startOf, SomeFree, bufferOf}
+use Rattle.blocks.specs.Blocks.{Sized, SomeFree, bufferOf}
 use Rattle.blocks.proofs.Laws.{free-found}
 use Rattle.stream.specs.declared.Chunk.{Chunk}
 use Rattle.stream.specs.declared.Head.{Head}
-use Rattle.stream.specs.declared.Progress.{Progress}
 use Rattle.stream.specs.Machine.{Memory, blockChunk, headAt, gathered}
 use Rattle.merging.specs.Contract.{countMarks}
-use Rattle.merging.specs.Blocks.{recAt, recsFrom, blockOf, storedAt, countAt, blocks}
-use Rattle.merging.specs.Relation.{Holds, start, nextFree}
+use Rattle.merging.specs.Blocks.{recAt, recsFrom, countAt, blocks}
+use Rattle.merging.specs.Relation.{Holds, start}
 use Rattle.merging.proofs.Words.{sized-on}
 use Rattle.merging.proofs.Frame.{Same, kept-same, gather-kept, stored-agree, count-kept}
 use Rattle.merging.proofs.Heads.{recs-length}
 use Rattle.merging.proofs.Loads.{recs-none, recs-snoc}
-use Rattle.merging.proofs.Begin.{no-blocks, blocks-snoc}
 use Rattle.merging.proofs.Outs.{marks-low, gather-holds}
 use Rattle.merging.proofs.Paid.{count-free, gather-spent}
 use Rattle.merging.proofs.Steps.{Fit, gather-fit}
 use Rattle.merging.proofs.Whole.{same-next}
-use Rattle.compaction.specs.Machine.{recordsGathered, chunkGathered, blocksGathered, Roomy, Gathering}
+use Rattle.compaction.specs.Machine.{recordsGathered, chunkGathered, Roomy, Gathering}
 use Rattle.compaction.proofs.Packing.{nothing, kept, kept-snoc}
 
 -- memory a, after the records rs have been gathered from memory s on

@@ -1,13 +1,13 @@
 -- Records gathered one by one, and the rest written, are the blocks that levels' `pack` cuts, last block first.
-use Prim.Native.Nat.{ℕ, zero, suc, _≤_, _<_}
+use Prim.Native.Nat.{ℕ, suc}
 use mathlib.Core.Path.{_≡_, refl}
 use mathlib.Core.Bool.{Bool, true, false}
 use mathlib.Core.List.{List, [], _∷_, _++_, reverseAux}
 use lib.Dec.{leb}
 use lib.ListN.{length}
 use Rattle.levels.specs.Basics.{if_then_else_}
-use Rattle.levels.specs.Record.{Rec, Block, Level, new, size, placed, pack}
-use Rattle.levels.specs.Merge.{Out, flush, keep, gather}
+use Rattle.levels.specs.Record.{Rec, Level, new, pack}
+use Rattle.levels.specs.Merge.{Out, flush, gather}
 use Rattle.levels.proofs.Levels.{Sized}
 use Rattle.merging.proofs.Settle.{NewFit}
 

@@ -1,5 +1,5 @@
 -- One step of the loops, as the machine makes it.
-use Prim.Native.Nat.{ℕ, zero, suc, _+_, _≤_, _<_}
+use Prim.Native.Nat.{ℕ, _+_, _≤_, _<_}
 use mathlib.Core.Path.{_≡_}
 use mathlib.Core.Bool.{false}
 use mathlib.Core.List.{List}
@@ -7,10 +7,8 @@ use native.Mathlib.Numerals.{add-one}
 use native.Mathlib.Omega.{arith}
 use lib.ListN.{length, getD}
 use Rattle.blocks.specs.declared.Layout.{Layout}
-use Rattle.blocks.specs.Blocks.{Sized, startOf}
 use Rattle.blocks.proofs.Laws.{ends}
 use Rattle.stream.specs.declared.Chunk.{Chunk}
-use Rattle.stream.specs.declared.Progress.{Progress}
 use Rattle.stream.specs.Machine.{Memory, blockChunk, headAt, gathered}
 use Rattle.compaction.specs.Machine.{recordsGathered, chunkGathered, blocksGathered, Roomy, Gathering}
 

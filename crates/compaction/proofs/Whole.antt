@@ -1,28 +1,24 @@
 -- The whole compaction: what it asks of the store gives all that its steps ask, and what it leaves is what levels' compact and settle say.
 use Prim.Native.Nat.{ℕ, zero, suc, _+_, _*_, _≤_, _<_}
 use mathlib.Core.Path.{_≡_, sym, ap, _∙_, refl}
-use mathlib.Core.Bool.{Bool, true, false}
-use mathlib.Core.List.{List, [], _∷_, _++_, map, reverseAux}
+use mathlib.Core.Bool.{Bool, false}
+use mathlib.Core.List.{List, [], map}
 use native.Mathlib.Nat.{le-refl, mul-le-mul-left}
 use native.Mathlib.Omega.{arith}
 use lib.ListN.{length, getD, take, length-append}
 use Rattle.geometry.specs.declared.Geometry.{Geometry}
-use Rattle.levels.specs.Record.{Rec, Block, Level, records}
-use Rattle.levels.specs.Merge.{Out, flush}
+use Rattle.levels.specs.Record.{Level, records}
 use Rattle.levels.specs.Waste.{compact}
 use Rattle.levels.specs.Place.{Allocation, settle}
 use Rattle.levels.proofs.Compaction.{compact-well}
 use Rattle.words.specs.Layout.{blockAt}
 use Rattle.blocks.specs.declared.Layout.{Layout}
-use Rattle.blocks.specs.declared.Buffer.{Buffer}
-use Rattle.blocks.specs.Blocks.{Sized, layoutOf, Marks, emptyBuffer}
+use Rattle.blocks.specs.Blocks.{Sized, layoutOf, Marks}
 use Rattle.blocks.proofs.Laws.{sized-of, start-place}
-use Rattle.stream.specs.declared.Progress.{Progress}
 use Rattle.stream.specs.Machine.{Memory, Flushable, lastSize, blockChunk, flushed}
 use Rattle.stream.proofs.Laws.{flushed-m}
-use Rattle.merging.specs.declared.Merged.{Merged}
-use Rattle.merging.specs.Blocks.{recsFrom, countAt, blocks, Flash, layAll, layDone}
-use Rattle.merging.specs.Relation.{Holds, flashOf, start}
+use Rattle.merging.specs.Blocks.{recsFrom, countAt, blocks, layAll, layDone}
+use Rattle.merging.specs.Relation.{flashOf, start}
 use Rattle.merging.specs.Contract.{Leaves}
 use Rattle.merging.proofs.Heads.{recs-length}
 use Rattle.merging.proofs.Outs.{flush-holds}

@@ -112,8 +112,8 @@ fn record_sum(s: &[u32], list: &[u32; 4096], z: Layout, n: usize) -> usize
     ensures { λ r. ⌜ r ≡ recordSum z (now (s .entry)) (now (list .entry)) n ⌝ }
 {
     let mut total: usize = 0;
-    for i in 0..n {
-        let q = stream::listed(list, i);
+    for k in 0..n {
+        let q = stream::listed(list, k);
         let at = blocks::place_start(z, q);
         total = total + stream::word(s, at);
     }

@@ -9,9 +9,7 @@ use Rattle.geometry.specs.declared.Geometry.{Geometry}
 use Rattle.levels.specs.Record.{Level}
 use Rattle.levels.specs.Place.{Allocation, settle, placesOf}
 use Rattle.blocks.specs.Blocks.{Sized, layoutOf, Marks}
-use Rattle.stream.specs.declared.Progress.{Progress}
 use Rattle.stream.specs.Machine.{Memory}
-use Rattle.merging.specs.declared.Merged.{Merged}
 use Rattle.merging.specs.Blocks.{Flash, layAll}
 use Rattle.merging.specs.Relation.{flashOf, start}
 use Rattle.merging.specs.Contract.{Leaves}

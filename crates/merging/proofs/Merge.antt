@@ -8,7 +8,7 @@ use native.Mathlib.Decide.{decLt}
 use native.Mathlib.Nat.{le-refl}
 use native.Mathlib.Omega.{arith}
 use lib.Dec.{leb}
-use lib.ListN.{length, getD, set, take, length-append, length-take}
+use lib.ListN.{length, getD, set, length-append, length-take}
 use lib.Seq.{getD-set-same, getD-set-other}
 use borrow.Author.Tests.{le-leb, leb-true}
 use Rattle.geometry.specs.declared.Geometry.{Geometry}
@@ -16,7 +16,7 @@ use Rattle.geometry.specs.Geometry.{placeStart, capacityOf}
 use Rattle.levels.specs.Basics.{if_then_else_, iterate}
 use Rattle.levels.specs.Record.{Block, Level, size, placed, records}
 use Rattle.levels.specs.Merge.{Out, State, step, joinLeft, join, merge}
-use Rattle.levels.specs.Place.{Allocation, Settled, settle, placesOf}
+use Rattle.levels.specs.Place.{Allocation, Settled, settle}
 use Rattle.blocks.specs.declared.Layout.{Layout}
 use Rattle.blocks.specs.declared.Buffer.{Buffer}
 use Rattle.blocks.specs.Blocks.{Sized, layoutOf, startOf, Free, Marks, emptyBuffer}
@@ -28,7 +28,7 @@ use Rattle.stream.specs.Machine.{Memory, blockChunk, pageChunk, chunkOf, Ready,
 use Rattle.joins.specs.Joins.{restedOut, rested, joinedUp, closed, Closable}
 use Rattle.merging.specs.declared.Cut.{Cut}
 use Rattle.merging.specs.declared.Merged.{Merged}
-use Rattle.merging.specs.Blocks.{recsFrom, blockOf, blocks, beginWith, side, Flash, layAll}
+use Rattle.merging.specs.Blocks.{recsFrom, blockOf, blocks, beginWith, side, layAll}
 use Rattle.merging.specs.Relation.{Formed, Stands, Listed, Holds, Core, Sim, Begun, flashOf, start, nextFree, merged}
 use Rattle.merging.specs.Relation as relation
 use Rattle.merging.specs.Contract.{blocksOf, runOf, mergeOf, countMarks, ListedBlock, FullPage, Mergeable, Leaves, inputsOf, beginOf, limitOf}

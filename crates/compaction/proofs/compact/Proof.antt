@@ -1,8 +1,6 @@
 use borrow.Author.Needs.{needs}
 use native.Mathlib.Omega.{arith}
-use mathlib.Core.Path.{_≡_, sym, _∙_, ap}
-use Rattle.stream.specs.Machine.{Memory}
-use Rattle.stream.specs.declared.Progress.{Progress}
+use mathlib.Core.Path.{_∙_}
 use Rattle.compaction.proofs.Whole.{gathers, flushes-in, leaves-in}
 use Rattle.compaction.proofs.compact.Statement.{statement}
 use Rattle.compaction.proofs.compact.Tie as tie

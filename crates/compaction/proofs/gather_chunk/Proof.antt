@@ -1,10 +1,10 @@
 use borrow.Author.Needs.{needs}
 use native.Mathlib.Omega.{arith}
-use Prim.Native.Nat.{ℕ, _≤_, _<_, _+_, _-_}
-use mathlib.Core.Path.{_≡_, refl, sym, _∙_, ap}
+use Prim.Native.Nat.{_≤_, _-_}
+use mathlib.Core.Path.{_≡_, refl, _∙_, ap}
 use lib.ListN.{length}
 use Rattle.stream.specs.declared.Chunk.{Chunk}
-use Rattle.stream.specs.Machine.{Memory, gathered}
+use Rattle.stream.specs.Machine.{Memory}
 use Rattle.compaction.specs.Machine.{recordsGathered}
 use Rattle.compaction.proofs.Steps.{records-more, roomy-in, head-inside}
 use Rattle.compaction.proofs.gather_chunk.Statement.{statement}

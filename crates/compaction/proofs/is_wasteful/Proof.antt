@@ -1,5 +1,4 @@
 use native.Mathlib.Omega.{arith}
-use Prim.Native.Nat.{_*_, _≤_}
 use Rattle.compaction.proofs.Counting.{slots-low}
 use borrow.Author.Needs.{needs}
 use Rattle.compaction.proofs.is_wasteful.Statement.{statement}

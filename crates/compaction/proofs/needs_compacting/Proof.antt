@@ -1,5 +1,5 @@
 use native.Mathlib.Omega.{arith}
-use mathlib.Core.Path.{sym, _∙_, ap}
+use mathlib.Core.Path.{_∙_}
 use Rattle.compaction.proofs.Counting.{summable, needs-is, sum-high}
 use borrow.Author.Needs.{needs}
 use Rattle.compaction.proofs.needs_compacting.Statement.{statement}
