@@ -21,17 +21,17 @@ use Rattle.merging.specs.Blocks.{recsFrom, countAt, storedAt, blocks, Fl
 use Rattle.merging.proofs.Heads.{recs-length}
 use Rattle.merging.proofs.Close.{lay-blocks, entries, entries-snoc, empty-is}
 
-lay-done : (z : Layout) (d : Flash) (l acc : Level) → layDone z d (reverseAux l acc) ≡ layAll z (layDone z d acc) l
+pub lay-done : (z : Layout) (d : Flash) (l acc : Level) → layDone z d (reverseAux l acc) ≡ layAll z (layDone z d acc) l
 unfolding layAll layDone
 lay-done z d [] acc = refl
 lay-done z d (b ∷ l) acc = lay-done z d l (b ∷ acc)
 
-blocks-snoc : (z : Layout) (ws ys : List ℕ) (i n : ℕ) → blocks z false ws ys i (suc n) ≡ blocks z false ws ys i n ++ (storedAt z ws (getD ys (i + n) 0) ∷ [])
+pub blocks-snoc : (z : Layout) (ws ys : List ℕ) (i n : ℕ) → blocks z false ws ys i (suc n) ≡ blocks z false ws ys i n ++ (storedAt z ws (getD ys (i + n) 0) ∷ [])
 unfolding blocks chunkOf
 blocks-snoc z ws ys i zero = let e : i + zero ≡ i = omega arith in rw e
 blocks-snoc z ws ys i (suc n) = let e : i + suc n ≡ suc i + n = omega arith in rw (e, ← blocks-snoc z ws ys (suc i) n)
 
-no-blocks : (z : Layout) (ws ys : List ℕ) → blocks z false ws ys 0 0 ≡ []
+pub no-blocks : (z : Layout) (ws ys : List ℕ) → blocks z false ws ys 0 0 ≡ []
 unfolding blocks chunkOf
 no-blocks z ws ys = refl
 

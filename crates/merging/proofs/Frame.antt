@@ -140,7 +140,7 @@ module _ (z : Layout) (a b : Memory) (sized : Sized z (a .words)) (k : Same z a 
     pub marks : getD (b .words) (c .marks) 0 ≡ getD (a .words) (c .marks) 0
     pub recs : (i : ℕ) → i < z .b → (getD (b .words) (c .keys + i) 0 ≡ getD (a .words) (c .keys + i) 0) × (getD (b .words) (c .pays + i) 0 ≡ getD (a .words) (c .pays + i) 0)
 
-  stored-agree : (q : ℕ) → getD (a .used) q false ≡ true → Agree (blockChunk z (a .words) q) (blockChunk z (b .words) q)
+  pub stored-agree : (q : ℕ) → getD (a .used) q false ≡ true → Agree (blockChunk z (a .words) q) (blockChunk z (b .words) q)
   stored-agree q u =
       record {
         is = rw (count-kept q u);

@@ -21,11 +21,11 @@ use Rattle.merging.specs.Blocks.{recAt, recsFrom}
 use Rattle.merging.proofs.Heads.{recs-length}
 use Rattle.merging.proofs.Outs.{buffer-push, bit-eqb}
 
-recs-none : (ws : List ℕ) (c : Chunk) (i : ℕ) → recsFrom ws c i 0 ≡ []
+pub recs-none : (ws : List ℕ) (c : Chunk) (i : ℕ) → recsFrom ws c i 0 ≡ []
 unfolding recsFrom
 recs-none ws c i = refl
 
-recs-snoc : (ws : List ℕ) (c : Chunk) (i j : ℕ) → recsFrom ws c i (suc j) ≡ recsFrom ws c i j ++ (recAt ws c (i + j) ∷ [])
+pub recs-snoc : (ws : List ℕ) (c : Chunk) (i j : ℕ) → recsFrom ws c i (suc j) ≡ recsFrom ws c i j ++ (recAt ws c (i + j) ∷ [])
 unfolding recsFrom
 recs-snoc ws c i zero = let e : i + zero ≡ i = omega arith in rw e
 recs-snoc ws c i (suc j) = let e : i + suc j ≡ suc i + j = omega arith in rw (e, ← recs-snoc ws c (suc i) j)

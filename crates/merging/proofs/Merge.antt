@@ -8,15 +8,15 @@ use native.Mathlib.Decide.{decLt}
 use native.Mathlib.Nat.{le-refl}
 use native.Mathlib.Omega.{arith}
 use lib.Dec.{leb}
-use lib.ListN.{length, getD, set, take, length-append, length-take}
-use lib.Seq.{getD-set-same, getD-set-other, length-take-le}
+use lib.ListN.{length, getD, set, length-append, length-take}
+use lib.Seq.{getD-set-same, getD-set-other}
 use borrow.Author.Tests.{le-leb, leb-true}
 use Rattle.geometry.specs.declared.Geometry.{Geometry}
 use Rattle.geometry.specs.Geometry.{placeStart, capacityOf}
 use Rattle.levels.specs.Basics.{if_then_else_, iterate}
 use Rattle.levels.specs.Record.{Block, Level, size, placed, records}
 use Rattle.levels.specs.Merge.{Out, State, step, joinLeft, join, merge}
-use Rattle.levels.specs.Place.{Allocation, Settled, settle, placesOf}
+use Rattle.levels.specs.Place.{Allocation, Settled, settle}
 use Rattle.blocks.specs.declared.Layout.{Layout}
 use Rattle.blocks.specs.declared.Buffer.{Buffer}
 use Rattle.blocks.specs.Blocks.{Sized, layoutOf, startOf, Free, Marks, emptyBuffer}
@@ -28,7 +28,7 @@ use Rattle.stream.specs.Machine.{Memory, blockChunk, pageChunk, chunkOf, Ready,
 use Rattle.joins.specs.Joins.{restedOut, rested, joinedUp, closed, Closable}
 use Rattle.merging.specs.declared.Cut.{Cut}
 use Rattle.merging.specs.declared.Merged.{Merged}
-use Rattle.merging.specs.Blocks.{recsFrom, blockOf, blocks, beginWith, side, Flash, layAll}
+use Rattle.merging.specs.Blocks.{recsFrom, blockOf, blocks, beginWith, side, layAll}
 use Rattle.merging.specs.Relation.{Formed, Stands, Listed, Holds, Core, Sim, Begun, flashOf, start, nextFree, merged}
 use Rattle.merging.specs.Relation as relation
 use Rattle.merging.specs.Contract.{blocksOf, runOf, mergeOf, countMarks, ListedBlock, FullPage, Mergeable, Leaves, inputsOf, beginOf, limitOf}
@@ -41,7 +41,8 @@ use Rattle.merging.proofs.Close.{rested-length, flushed-out}
 use Rattle.merging.proofs.Whole.{turns-same, merge-laid}
 use Rattle.merging.proofs.Begin.{begin-holds, begin-tail}
 use Rattle.merging.proofs.Decode.{blocks-listed, blocks-run}
-use Rattle.merging.proofs.Settle.{NewFit, Laid, Agrees, settle-laid, settle-placed}
+use Rattle.merging.proofs.Settle.{NewFit}
+use Rattle.merging.proofs.Leaving.{leaves-of}
 use Rattle.merging.proofs.Steps.{Fit, steps-fit, merge-fit, Filled, left, steps-end, steps-enough}
 use Rattle.merging.proofs.Budget.{Supplied, budgets, turns-bounded}
 use Rattle.merging.proofs.Closing.{closable}
@@ -275,22 +276,9 @@ module _ (g : Geometry) (ws : List ℕ) (used : List Bool) (out xs ys : List ℕ
   -- what steps 3 and 4 leave, for every list of places in use that the marks stand for
   pub leaves : (a : Allocation) → a .cursor ≡ cursor → Marks used (a .used)
       → Leaves g (settled a) ws (closed z ys (c .end) ends .words) (closed z ys (c .end) ends .used) (closed z ys (c .end) ends .out) (record { count = closed z ys (c .end) ends .st .m; cursor = closed z ys (c .end) ends .st .cursor; writes = closed z ys (c .end) ends .st .writes })
-  leaves a e m =
-      let s = rw merged-is at (settle-laid g a (start begins) (merged z t xs ys (limitOf c) (c .end) begins) (record { sized = sized; long = k .marks-long; low = k .cursor-low; cursor = sym e; marks = m }) new-fit) in
-      let f = rw merged-is at laid in
-      let w = ap (λ (d : Flash). d .words) f in
-      let l : take (closed z ys (c .end) ends .st .m) (closed z ys (c .end) ends .out) ≡ placesOf (settled a .level) = ap (λ (d : Flash). d .list) f ∙ s .list in
-      record {
-        words = w ∙ s .words;
-        list = l;
-        list-long = closed-long;
-        count = sym (length-take-le (closed z ys (c .end) ends .st .m) (closed z ys (c .end) ends .out) (omega (arith, closed-low, closed-long))) ∙ ap (λ (q : List ℕ). length q) l ∙ settle-placed (g .p) a (mergeOf g ws xs ys c);
-        count-high = closed-low;
-        cursor = ap (λ (d : Flash). d .cursor) f ∙ s .cursor;
-        marks = rw (ap (λ (d : Flash). d .used) f) (s .marks);
-        marks-long = ap (λ (d : Flash). length (d .used)) f ∙ s .marks-length ∙ k .marks-long;
-        writes = ap (λ (d : Flash). d .writes) f ∙ s .writes ∙ omega arith;
-      }
+  leaves =
+      leaves-of g begins (closed z ys (c .end) ends) (mergeOf g ws xs ys c) (record { sized = sized; marks-long = k .marks-long; cursor-low = k .cursor-low; writes = refl })
+      (rw merged-is at new-fit) (rw merged-is at laid) closed-long closed-low
 
   -- the same of any memory that is the one left
   pub leaves-in : (b : Memory) → b ≡ closed z ys (c .end) ends → (a : Allocation) → a .cursor ≡ cursor → Marks used (a .used)

@@ -89,7 +89,7 @@ module _ (z : Layout) (a : Memory) where
       record { list = omega arith; places = f .places; marks = f .marks; xi = f .xi; xj = f .xj; yi = f .yi; yj = f .yj }
 
   -- a record gathered pays for its share of a full block
-  gather-spent : (bottom : Bool) (h : Head) → Spent z a (gathered z bottom a h) 1 1
+  pub gather-spent : (bottom : Bool) (h : Head) → Spent z a (gathered z bottom a h) 1 1
   unfolding gathered flushed
   gather-spent bottom h = go (bottom && eqb (h .tombstone) 1) (leb (z .b) (a .st .buf .n + 1)) refl
     where

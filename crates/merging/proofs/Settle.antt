@@ -21,7 +21,7 @@ use Rattle.blocks.specs.Blocks.{Sized, layoutOf, freeMark, nextMark, Marks, buf
 use Rattle.blocks.proofs.Laws.{free-low}
 use Rattle.blocks.proofs.Written.{written-block}
 use Rattle.merging.specs.Blocks.{Flash, layAt, lay, layAll}
-use Rattle.merging.proofs.Words.{written-length}
+use Rattle.merging.proofs.Words.{written-length, sized-on}
 
 -- a new block has at most B records
 abbrev pub NewFit : ℕ → Level → Type 0
@@ -81,10 +81,6 @@ module _ (g : Geometry) where
   drop-base : (ws area : List ℕ) → placesStart g ≤ length ws → drop (placesStart g) (take (placesStart g) ws ++ area) ≡ area
   drop-base ws area h = drop-at (take (placesStart g) ws) area (placesStart g) (length-take-le (placesStart g) ws h)
 
-  sized-on : (xs ys : List ℕ) → Sized (layoutOf g) xs → length ys ≡ length xs → Sized (layoutOf g) ys
-  sized-on xs ys s e =
-      record { b-low = s .b-low; b-high = s .b-high; places = s .places; base-high = s .base-high; marks-end = s .marks-end; keys-end = s .keys-end; pays-end = s .pays-end; words = e ∙ s .words }
-
   -- where flash and an allocation agree on the places in use and on the cursor
   pub record Agrees (a : Allocation) (d : Flash) : Type 0 where
     pub sized : Sized (layoutOf g) (d .words)
@@ -105,7 +101,7 @@ module _ (g : Geometry) where
       let q = firstFree (g .p) a in
       let low = place-low a d k in
       record {
-        sized = sized-on (d .words) (written (layoutOf g) (d .words) q (bufferOf rs)) (k .sized) (written-length (layoutOf g) (d .words) q (bufferOf rs));
+        sized = sized-on (layoutOf g) (d .words) (written (layoutOf g) (d .words) q (bufferOf rs)) (k .sized) (written-length (layoutOf g) (d .words) q (bufferOf rs));
         long = length-set (d .used) q true ∙ k .long;
         low = low;
         cursor = refl;

@@ -29,6 +29,7 @@ use Rattle.stream.specs.Machine.{Memory, blockChunk, pageChunk, chunkOf, headOf
 use Rattle.stream.proofs.Laws.{if-either, head-none, flushed-m}
 use Rattle.merging.specs.Relation.{Formed, headSize, nextFree, flashOf, Holds, Stands, Listed, LastIs, Core, Budget, Sim}
 use Rattle.merging.specs.Blocks.{recsFrom, blockOf, storedAt, countAt, blocks, begun, beginWith, side, Flash, layDone}
+use Rattle.merging.proofs.Words.{sized-on}
 use Rattle.merging.proofs.Heads.{Shows, shows-at, Sees, nothing, block, follows-same}
 use Rattle.merging.proofs.Moves.{side-cons, side-none, rest-more, rest-last}
 use Rattle.merging.proofs.Outs.{Fit, flush-holds, append-holds, gather-holds, marks-low}
@@ -197,7 +198,7 @@ module _ (z : Layout) (t : Inputs) (xs ys : List ℕ) (d : Flash) where
         y-in = rw (k .yi) wy;
         tail = tl;
         full = k .length-out ∙ n;
-        sized = record { b-low = s .b-low; b-high = s .b-high; places = s .places; base-high = s .base-high; marks-end = s .marks-end; keys-end = s .keys-end; pays-end = s .pays-end; words = k .length-words ∙ s .words };
+        sized = sized-on z (a .words) (b .words) s (k .length-words);
         cursor = k .cursor h;
         few = few;
         upper = listed-kept z a b s (kept-same z a b k) (t .pages) xs (t .x) u;

@@ -30,7 +30,7 @@ module _ (B : ℕ) (bottom : Bool) where
   reuse-fit : (b : Block) (o : Out) → 1 ≤ B → placed b ≡ true → Fit B o → Fit B (reuse b o)
   reuse-fit b o l p f = let n = f .few in record { few = l; done = (λ e. absurd (true≢false (sym p ∙ e)), flush-fit B (o .buffer) (o .done) (omega arith) (f .done)) }
 
-  gather-fit : (r : Rec) (o : Out) → 1 ≤ B → Fit B o → Fit B (gather B bottom r o)
+  pub gather-fit : (r : Rec) (o : Out) → 1 ≤ B → Fit B o → Fit B (gather B bottom r o)
   gather-fit r o l f = go (bottom && r .tombstone) (leb B (suc (length (o .buffer)))) refl
     where
       go : (t u : Bool) → leb B (suc (length (o .buffer))) ≡ u → Fit B (if t then o else if u then record { buffer = []; done = new (o .buffer ++ (r ∷ [])) ∷ o .done } else record { buffer = o .buffer ++ (r ∷ []); done = o .done })

@@ -30,7 +30,7 @@ use Rattle.merging.proofs.Sim.{pass-x-same, pass-y-same, and-left, and-
 use Rattle.merging.proofs.Run.{begun-turns}
 use Rattle.merging.proofs.Close.{close-laid}
 
-same-next : (z : Layout) (a b c : Memory) → Same z a b → Same z b c → Same z a c
+pub same-next : (z : Layout) (a b c : Memory) → Same z a b → Same z b c → Same z a c
 same-next z a b c k l =
     record { words = λ q u j h. l .words q (k .used q u) j h ∙ k .words q u j h; low = λ i h. l .low i h ∙ k .low i h; used = λ q u. l .used q (k .used q u) }
 

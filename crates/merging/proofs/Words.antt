@@ -31,6 +31,11 @@ copied-in xs to src (suc n) i h l =
     (λ y. getD-set-other (copied xs to src n) (to + n) (to + i) (getD src n 0) 0 (λ e. omega arith) ∙ copied-in xs to src n i (omega arith) y)
     (λ y. let e : i ≡ n = omega arith in rw e (getD-set-same (copied xs to src n) (to + n) (getD src n 0) 0 (rw copied-length (omega arith))))
 
+-- a store of the same length has the same layout
+pub sized-on : (z : Layout) (xs ys : List ℕ) → Sized z xs → length ys ≡ length xs → Sized z ys
+sized-on z xs ys s e =
+    record { b-low = s .b-low; b-high = s .b-high; places = s .places; base-high = s .base-high; marks-end = s .marks-end; keys-end = s .keys-end; pays-end = s .pays-end; words = e ∙ s .words }
+
 pub written-length : (z : Layout) (xs : List ℕ) (q : ℕ) (buf : Buffer) → length (written z xs q buf) ≡ length xs
 unfolding written
 written-length z xs q buf = simp (copied-length, length-set)

@@ -77,7 +77,7 @@ pub fn word(s: &[u32], i: usize) -> usize
 }
 
 // The block at place q.
-fn block_chunk(s: &[u32], z: Layout, q: usize) -> Chunk
+pub fn block_chunk(s: &[u32], z: Layout, q: usize) -> Chunk
     requires { ⌜ Sized z (now s) × (q < z .p) ⌝ }
     ensures { λ r. ⌜ r ≡ blockChunk z (now (s .entry)) q ⌝ }
 {
@@ -123,7 +123,7 @@ fn chunk_at(s: &[u32], z: Layout, pages: bool, list: &[u32; 4096], i: usize) -> 
 }
 
 // Record j of a chunk.
-fn head_at(s: &[u32], c: Chunk, j: usize) -> Head
+pub fn head_at(s: &[u32], c: Chunk, j: usize) -> Head
     requires { ⌜ (c .marks < length (now s)) × (c .keys + c .n ≤ length (now s)) × (c .pays + c .n ≤ length (now s)) × (j < c .n) × (c .n ≤ 16) ⌝ }
     ensures { λ r. ⌜ r ≡ headAt (now (s .entry)) c j ⌝ }
 {
@@ -269,7 +269,7 @@ fn reuse(
 }
 
 // One record into the buffer, which is written when it has B; the last level drops tombstones.
-fn gather(
+pub fn gather(
     s: &mut [u32],
     used: &mut [bool; 8192],
     out: &mut [u32; 4096],

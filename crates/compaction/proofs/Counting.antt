@@ -1,0 +1,80 @@
+-- The records of listed blocks, one block more, and how many they are.
+use Prim.Native.Nat.{ℕ, zero, suc, _+_, _*_, _≤_, _<_}
+use mathlib.Core.Path.{_≡_, ap, _∙_}
+use mathlib.Core.Bool.{false}
+use mathlib.Core.List.{List, [], _∷_, _++_, map, append-nil}
+use native.Mathlib.Numerals.{add-one}
+use native.Mathlib.Nat.{mul-le-mul}
+use native.Mathlib.Omega.{arith}
+use lib.ListN.{length, getD, take, length-append, length-map}
+use lib.Seq.{length-take-le}
+use Rattle.geometry.specs.declared.Geometry.{Geometry}
+use Rattle.levels.specs.Record.{Rec, Block, records}
+use Rattle.levels.specs.Waste.{wasteful, needsCompact}
+use Rattle.levels.proofs.Levels.{records-append}
+use Rattle.words.specs.Layout.{blockAt}
+use Rattle.blocks.specs.declared.Layout.{Layout}
+use Rattle.blocks.specs.Blocks.{layoutOf, startOf}
+use Rattle.blocks.proofs.Laws.{sized-of, start-place}
+use Rattle.stream.specs.Machine.{blockChunk}
+use Rattle.merging.specs.Blocks.{recsFrom, countAt, storedAt, blocks}
+use Rattle.merging.proofs.Heads.{recs-length}
+use Rattle.merging.proofs.Begin.{no-blocks, blocks-snoc}
+use Rattle.merging.proofs.Decode.{blocks-listed}
+use Rattle.compaction.specs.Machine.{recordSum, Summable, Countable}
+
+-- the records of the first i listed blocks
+abbrev pub listedRecords : Layout → List ℕ → List ℕ → ℕ → List Rec
+listedRecords z ws list i = records (blocks z false ws list 0 i)
+
+module _ (z : Layout) (ws list : List ℕ) where
+  pub no-records : listedRecords z ws list 0 ≡ []
+  no-records = ap records (no-blocks z ws list)
+
+  -- one block more
+  pub records-snoc : (i : ℕ) → listedRecords z ws list (suc i) ≡ listedRecords z ws list i ++ recsFrom ws (blockChunk z ws (getD list i 0)) 0 (countAt z ws (getD list i 0))
+  records-snoc i =
+      let b : Block = storedAt z ws (getD list i 0) in
+      let e : blocks z false ws list 0 (suc i) ≡ blocks z false ws list 0 i ++ (b ∷ []) = (let w : 0 + i ≡ i = omega arith in rw w at (blocks-snoc z ws list 0 i)) in
+      ap records e ∙ records-append (blocks z false ws list 0 i) (b ∷ []) ∙ ap (λ (rs : List Rec). listedRecords z ws list i ++ rs) (append-nil (b .recs))
+
+  pub sum-records : (i : ℕ) → recordSum z ws list i ≡ length (listedRecords z ws list i)
+  unfolding recordSum
+  sum-records zero = rw no-records
+  sum-records (suc i) =
+      let q = getD list i 0 in
+      rw (records-snoc i, length-append (listedRecords z ws list i) (recsFrom ws (blockChunk z ws q) 0 (countAt z ws q)), recs-length ws (blockChunk z ws q) 0 (countAt z ws q), sum-records i)
+
+  pub sum-more : (i : ℕ) → recordSum z ws list i + getD ws (startOf z (getD list i 0)) 0 ≡ recordSum z ws list (i + 1)
+  unfolding recordSum
+  sum-more i = rw (add-one i)
+
+  -- a block has at most B
+  pub sum-high : (n : ℕ) → ((i : ℕ) → i < n → countAt z ws (getD list i 0) ≤ z .b) → recordSum z ws list n ≤ n * z .b
+  unfolding recordSum
+  sum-high zero f = omega arith
+  sum-high (suc n) f = omega (arith, sum-high n (λ i h. f i (omega arith)), f n (omega arith))
+
+-- 2,048 blocks of at most 16 records
+pub slots-low : (a b : ℕ) → a ≤ 2048 → b ≤ 16 → a * b ≤ 32768
+slots-low a b h l = mul-le-mul h l
+
+-- each sum on the way is small
+pub sum-low : (z : Layout) (ws list : List ℕ) (n : ℕ) → Summable z ws list n → (i : ℕ) → i < n → recordSum z ws list i + getD ws (startOf z (getD list i 0)) 0 ≤ 32784
+sum-low z ws list n k i h =
+    let few = k .few in
+    let b = k .sized .b-high in
+    omega (arith, sum-high z ws list i (λ j l. k .high j (omega arith)), slots-low i (z .b) (omega arith) b, k .high i h)
+
+module _ (g : Geometry) (ws list : List ℕ) (n : ℕ) (k : Countable g ws list n) where
+  pub summable : Summable (layoutOf g) ws list n
+  summable = record { sized = sized-of g ws (k .valid) (k .words); few = k .few; place = k .place; high = λ i h. rw (start-place g (getD list i 0)) (k .high i h) }
+
+  -- the level rule, of the blocks' number and that of their records
+  pub needs-is : wasteful (g .b) n (recordSum (layoutOf g) ws list n) ≡ needsCompact (g .b) (map (blockAt g ws) (take n list))
+  needs-is =
+      let few = k .few in
+      let long = k .list-long in
+      let l : length (map (blockAt g ws) (take n list)) ≡ n = length-map (take n list) _ ∙ length-take-le n list (omega arith) in
+      let e : blocks (layoutOf g) false ws list 0 n ≡ map (blockAt g ws) (take n list) = blocks-listed g ws list 0 n (omega arith) (λ i h. k .high i (omega arith)) in
+      rw (l, sum-records (layoutOf g) ws list n, e)

@@ -1,0 +1,5 @@
+pub mod Packing
+pub mod Going
+pub mod Steps
+pub mod Counting
+pub mod Whole

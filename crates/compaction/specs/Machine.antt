@@ -1,0 +1,78 @@
+-- A compaction as a machine over the words, the marks, the new list and a few numbers; and what it asks of the store.
+use Prim.Native.Nat.{ℕ, zero, suc, _+_, _≤_, _<_}
+use mathlib.Core.Path.{_≡_}
+use mathlib.Core.Bool.{Bool, false}
+use mathlib.Core.List.{List}
+use lib.ListN.{length, getD}
+use Rattle.geometry.specs.declared.Geometry.{Geometry}
+use Rattle.geometry.specs.Geometry.{Valid, storeLength}
+use Rattle.words.specs.Layout.{recordCount}
+use Rattle.blocks.specs.declared.Layout.{Layout}
+use Rattle.blocks.specs.Blocks.{Sized, startOf, emptyBuffer}
+use Rattle.stream.specs.declared.Chunk.{Chunk}
+use Rattle.stream.specs.declared.Progress.{Progress}
+use Rattle.stream.specs.Machine.{Memory, Flushable, Gatherable, blockChunk, headAt, gathered}
+use Rattle.merging.specs.Contract.{countMarks, ListedBlock}
+
+-- the first j records of a chunk are gathered: each is read when its turn comes
+unfoldable pub recordsGathered : Layout → Chunk → ℕ → Memory → Memory
+recordsGathered z c zero a = a
+recordsGathered z c (suc j) a = let b = recordsGathered z c j a in gathered z false b (headAt (b .words) c j)
+
+-- all records of the block at place q
+abbrev pub chunkGathered : Layout → ℕ → Memory → Memory
+chunkGathered z q a = recordsGathered z (blockChunk z (a .words) q) (getD (a .words) (startOf z q) 0) a
+
+-- those of the first i listed blocks
+unfoldable pub blocksGathered : Layout → List ℕ → ℕ → Memory → Memory
+blocksGathered z list zero a = a
+blocksGathered z list (suc i) a = chunkGathered z (getD list i 0) (blocksGathered z list i a)
+
+-- a record can be put into the buffer, and the buffer written
+pub record Roomy (z : Layout) (a : Memory) : Type 0 where
+  pub flushable : Flushable z (a .words) (a .used) (a .st)
+  pub gatherable : Gatherable z (a .st)
+
+-- the records of the block at place q can be gathered
+pub record Gathering (z : Layout) (q : ℕ) (a : Memory) : Type 0 where
+  pub sized : Sized z (a .words)
+  pub place : q < z .p
+  pub high : getD (a .words) (startOf z q) 0 ≤ z .b
+  pub steps : (j : ℕ) → j < getD (a .words) (startOf z q) 0 → Roomy z (recordsGathered z (blockChunk z (a .words) q) j a)
+
+-- where a compaction starts
+abbrev pub beginAt : ℕ → Progress
+beginAt cursor = record { xi = 0; xj = 0; yi = 0; yj = 0; m = 0; writes = 0; cursor = cursor; buf = emptyBuffer }
+
+-- what a compaction asks: a legal store, work arrays of their full length, listed blocks, and a free place for each of them and one more
+pub record Compactable (g : Geometry) (ws : List ℕ) (used : List Bool) (out list : List ℕ) (n cursor : ℕ) : Type 0 where
+  pub valid : Valid g
+  pub words : length ws ≡ storeLength g
+  pub marks-long : length used ≡ 8192
+  pub out-long : length out ≡ 4096
+  pub list-long : length list ≡ 4096
+  pub cursor-low : cursor < g .p
+  pub few : n ≤ 2048
+  pub blocks : (i : ℕ) → i < n → ListedBlock g ws used (getD list i 0)
+  pub free : countMarks (g .p) used + n < g .p
+
+-- the records of the first n listed blocks
+unfoldable pub recordSum : Layout → List ℕ → List ℕ → ℕ → ℕ
+recordSum z ws list zero = 0
+recordSum z ws list (suc i) = recordSum z ws list i + getD ws (startOf z (getD list i 0)) 0
+
+-- they can be counted
+pub record Summable (z : Layout) (ws list : List ℕ) (n : ℕ) : Type 0 where
+  pub sized : Sized z ws
+  pub few : n ≤ 2048
+  pub place : (i : ℕ) → i < n → getD list i 0 < z .p
+  pub high : (i : ℕ) → i < n → getD ws (startOf z (getD list i 0)) 0 ≤ z .b
+
+-- what the level rule asks: a legal store, and listed blocks of at most B records
+pub record Countable (g : Geometry) (ws list : List ℕ) (n : ℕ) : Type 0 where
+  pub valid : Valid g
+  pub words : length ws ≡ storeLength g
+  pub list-long : length list ≡ 4096
+  pub few : n ≤ 2048
+  pub place : (i : ℕ) → i < n → getD list i 0 < g .p
+  pub high : (i : ℕ) → i < n → recordCount g ws (getD list i 0) ≤ g .b

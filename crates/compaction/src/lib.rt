@@ -1,0 +1,142 @@
+// Step 5 of a merge: whether a level needs compacting, and all its records written anew.
+
+ghost use mathlib.Core.Path.{_≡_};
+ghost use mathlib.Core.List.{map};
+ghost use Prim.Native.Nat.{ℕ, _+_, _-_, _*_, _≤_, _<_};
+ghost use lib.ListN.{getD, take};
+ghost use Rattle.levels.specs.Waste.{wasteful, needsCompact};
+ghost use Rattle.levels.specs.Waste as waste;
+ghost use Rattle.levels.specs.Place.{Allocation, settle};
+ghost use Rattle.words.specs.Layout.{blockAt};
+ghost use Rattle.blocks.specs.Blocks.{Marks};
+ghost use Rattle.stream.specs.Machine.{Memory};
+ghost use Rattle.merging.specs.Contract.{Leaves};
+ghost use Rattle.compaction.specs.Machine.{beginAt, chunkGathered, blocksGathered, Gathering, recordSum, Summable, Countable, Compactable};
+use blocks::Layout;
+use geometry::Geometry;
+use merging::Merged;
+use stream::Progress;
+
+// The records of the block at place q, into the buffer. A block that is written takes a free place,
+// so the block that is read keeps its words.
+fn gather_chunk(
+    s: &mut [u32],
+    used: &mut [bool; 8192],
+    out: &mut [u32; 4096],
+    z: Layout,
+    w: Progress,
+    q: usize,
+) -> Progress
+    requires { ⌜ Gathering z q (record { words = now s; used = now used; out = now out; st = w }) ⌝ }
+    ensures { λ r. ⌜ _≡_ {A = Memory} (record { words = now (s .exit); used = now (used .exit); out = now (out .exit); st = r }) (chunkGathered z q (record { words = now (s .entry); used = now (used .entry); out = now (out .entry); st = w })) ⌝ }
+{
+    let c = stream::block_chunk(s, z, q);
+    let n = c.n;
+    let mut v = w;
+    for j in 0..n {
+        let h = stream::head_at(s, c, j);
+        v = stream::gather(s, used, out, z, false, v, h);
+    }
+    v
+}
+
+// The records of the first n listed blocks, into the buffer.
+fn gather_blocks(
+    s: &mut [u32],
+    used: &mut [bool; 8192],
+    out: &mut [u32; 4096],
+    list: &[u32; 4096],
+    z: Layout,
+    w: Progress,
+    n: usize,
+) -> Progress
+    requires { ⌜ (n ≤ 4096) × ((i : ℕ) → i < n → Gathering z (getD (now list) i 0) (blocksGathered z (now list) i (record { words = now s; used = now used; out = now out; st = w }))) ⌝ }
+    ensures { λ r. ⌜ _≡_ {A = Memory} (record { words = now (s .exit); used = now (used .exit); out = now (out .exit); st = r }) (blocksGathered z (now (list .entry)) n (record { words = now (s .entry); used = now (used .entry); out = now (out .entry); st = w })) ⌝ }
+{
+    let mut v = w;
+    for i in 0..n {
+        let q = stream::listed(list, i);
+        v = gather_chunk(s, used, out, z, v, q);
+    }
+    v
+}
+
+// Nothing is gathered, listed or written yet. Only the buffer, the list and the cursor are used.
+fn begin(cursor: usize) -> Progress
+    ensures { λ r. ⌜ r ≡ beginAt cursor ⌝ }
+{
+    let empty = blocks::empty();
+    Progress {
+        xi: 0,
+        xj: 0,
+        yi: 0,
+        yj: 0,
+        m: 0,
+        writes: 0,
+        cursor: cursor,
+        buf: empty,
+    }
+}
+
+// Step 5: the records of the n listed blocks anew, B to a block, the last with the rest. For every
+// list of places in use that the marks stand for, the words, the new list, the cursor and the marks
+// afterwards are those of the compacted level, its blocks settled in key order; the old places stay
+// marked, and the new list is in `out`.
+pub fn compact(
+    s: &mut [u32],
+    used: &mut [bool; 8192],
+    out: &mut [u32; 4096],
+    list: &[u32; 4096],
+    g: Geometry,
+    n: usize,
+    cursor: usize,
+) -> Merged
+    requires { ⌜ Compactable g (now s) (now used) (now out) (now list) n cursor ⌝ }
+    ensures { λ r. ⌜ ((a : Allocation) → a .cursor ≡ cursor → Marks (now (used .entry)) (a .used)
+        → Leaves g (settle (g .p) a (waste.compact (g .b) (map (blockAt g (now (s .entry))) (take n (now (list .entry)))))) (now (s .entry)) (now (s .exit)) (now (used .exit)) (now (out .exit)) r) ⌝ }
+{
+    let z = Layout::of(g);
+    let w = begin(cursor);
+    let v = gather_blocks(s, used, out, list, z, w, n);
+    let r = stream::flush(s, used, out, z, v);
+    Merged {
+        count: r.m,
+        cursor: r.cursor,
+        writes: r.writes,
+    }
+}
+
+// The records of the first n listed blocks.
+fn record_sum(s: &[u32], list: &[u32; 4096], z: Layout, n: usize) -> usize
+    requires { ⌜ Summable z (now s) (now list) n ⌝ }
+    ensures { λ r. ⌜ r ≡ recordSum z (now (s .entry)) (now (list .entry)) n ⌝ }
+{
+    let mut total: usize = 0;
+    for k in 0..n {
+        let q = stream::listed(list, k);
+        let at = blocks::place_start(z, q);
+        total = total + stream::word(s, at);
+    }
+    total
+}
+
+// The level rule: a blocks of b slots hold the records in more blocks than needed, and more than a
+// fifth of the slots is empty.
+fn is_wasteful(b: usize, a: usize, records: usize) -> bool
+    requires { ⌜ (1 ≤ b) × (b ≤ 16) × (a ≤ 2048) × (records ≤ a * b) ⌝ }
+    ensures { λ r. ⌜ r ≡ wasteful b a records ⌝ }
+{
+    let slots = a * b;
+    ((records + (b - 1)) / b < a) & (slots < 5 * (slots - records))
+}
+
+// The level of the n listed blocks needs compacting.
+pub fn needs_compacting(s: &[u32], list: &[u32; 4096], g: Geometry, n: usize) -> bool
+    requires { ⌜ Countable g (now s) (now list) n ⌝ }
+    ensures { λ r. ⌜ r ≡ needsCompact (g .b) (map (blockAt g (now (s .entry))) (take n (now (list .entry)))) ⌝ }
+{
+    let z = Layout::of(g);
+    let b = z.b;
+    let records = record_sum(s, list, z, n);
+    is_wasteful(b, n, records)
+}
