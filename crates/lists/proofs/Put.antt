@@ -66,3 +66,15 @@ pub put-pad : (a K n : ℕ) (ys xs : List ℕ) → n ≤ length ys → a + n ≤
 put-pad a K n ys xs h k =
     let l : length (take n ys) ≡ n = length-take-le n ys h in
     rw l at (put-join a (take n ys) (replicate (K - n) 0) xs (rw l k)) ∙ rw l
+
+-- the four words of the header, one by one
+pub counts-put : (ws : List ℕ) (c x y z : ℕ) → 12 ≤ length ws → set (set (set (set ws 7 c) 9 x) 10 y) 11 z ≡ putAt 9 (x ∷ y ∷ z ∷ []) (putAt 7 (c ∷ []) ws)
+counts-put ws c x y z h =
+    let us = putAt 7 (c ∷ []) ws in
+    let l : length us ≡ length ws = put-length 7 (c ∷ []) ws (omega arith) in
+    rw (set-put 7 c ws (omega arith), set-put 9 x us (omega arith), put-more 9 y (x ∷ []) us (omega arith)) (put-more 9 z (x ∷ y ∷ []) us (omega arith))
+
+pub counts-length : (ws : List ℕ) (c x y z : ℕ) → 12 ≤ length ws → length (putAt 9 (x ∷ y ∷ z ∷ []) (putAt 7 (c ∷ []) ws)) ≡ length ws
+counts-length ws c x y z h =
+    let l : length (putAt 7 (c ∷ []) ws) ≡ length ws = put-length 7 (c ∷ []) ws (omega arith) in
+    put-length 9 (x ∷ y ∷ z ∷ []) (putAt 7 (c ∷ []) ws) (omega arith) ∙ l

@@ -10,15 +10,12 @@ ghost use Rattle.words.specs.Layout.{countAt, listedAt, pad};
 ghost use Rattle.lists.specs.Lists.{roomOf, putAt, withLists};
 use geometry::Geometry;
 
-// The listed places of a level, to the front of `out`, and how many they are: none above h.
+// The listed places of a level, to the front of `out`, and how many they are. Above h the count is 0, and nothing is
+// copied.
 pub fn load(s: &[u32], g: Geometry, level: usize, out: &mut [u32; 4096]) -> usize
     requires { ⌜ Valid g × ((length (now s) ≡ storeLength g) × ((1 ≤ level) × ((level ≤ 3) × (countAt (now s) level ≤ roomOf g level)))) ⌝ }
     ensures { λ r. ⌜ (r ≡ countAt (now (s .entry)) level) × ((take r (now (out .exit)) ≡ listedAt g (now (s .entry)) level) × (length (now (out .exit)) ≡ 4096)) ⌝ }
 {
-    let h = g.levels();
-    if h < level {
-        return 0;
-    }
     let n = s[8 + level] as usize;
     let start = g.list_start(level);
     copy(s, start, n, out, 0);
@@ -64,10 +61,11 @@ fn put_counts(s: &mut [u32], n1: usize, n2: usize, n3: usize, cursor: usize)
     s[11] = n3 as u32;
 }
 
-// One list to all K(i) words of its level, so that no old entry stays behind it.
+// One list to all K(i) words of its level, so that no old entry stays behind it. That the array has n entries is told
+// where it is lent as a slice, so the caller learns it here.
 fn put_list(s: &mut [u32], g: Geometry, level: usize, list: &[u32; 4096], n: usize)
     requires { ⌜ Valid g × ((length (now s) ≡ storeLength g) × ((1 ≤ level) × ((level ≤ g .h) × (n ≤ capacityOf g level)))) ⌝ }
-    ensures { λ _. ⌜ now (s .exit) ≡ putAt (listStart g level) (pad (capacityOf g level) (take n (now (list .entry)))) (now (s .entry)) ⌝ }
+    ensures { λ _. ⌜ (now (s .exit) ≡ putAt (listStart g level) (pad (capacityOf g level) (take n (now (list .entry)))) (now (s .entry))) × (length (take n (now (list .entry))) ≡ n) ⌝ }
 {
     let start = g.list_start(level);
     let room = g.capacity(level);

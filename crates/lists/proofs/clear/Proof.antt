@@ -41,7 +41,10 @@ loop-less c = omega arith
 
 -- src/lib.rt:92:5
 loop-again : tie.Need-loop-again Inv-loop μ-loop
-loop-again c = (omega arith, (simp length-set (omega arith), rw (c .before .loop .inv .1 .1) (clear-more _ _ _ (omega arith))))
+loop-again c =
+    let a = c .before .before .args in
+    let l = c .before .loop in
+    (omega arith, (simp length-set (omega arith), rw (l .inv .1 .1) (clear-more (a .start) (l .i) (a .s .now) (omega arith))))
 
 -- src/lib.rt:88:1
 same-length : tie.Need-same-length Inv-loop μ-loop

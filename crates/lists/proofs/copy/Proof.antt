@@ -53,7 +53,10 @@ loop-less c = omega arith
 
 -- src/lib.rt:83:5
 loop-again : tie.Need-loop-again Inv-loop μ-loop
-loop-again c = (omega arith, (simp length-set (omega arith), rw (c .before .before .loop .inv .1 .1) (copy-more _ _ _ _ _ (omega arith) (omega arith))))
+loop-again c =
+    let a = c .before .before .before .args in
+    let l = c .before .before .loop in
+    (omega arith, (simp length-set (omega arith), rw (l .inv .1 .1) (copy-more (a .to) (a .from) (l .i) (a .s .now) (a .out .now) (omega arith) (omega arith))))
 
 -- src/lib.rt:79:1
 same-length : tie.Need-same-length Inv-loop μ-loop

@@ -1,58 +1,58 @@
+use Prim.Native.Nat.{_+_}
+use mathlib.Core.Path.{refl, ap, _∙_}
+use native.Mathlib.Omega.{arith}
+use lib.ListN.{length, take}
+use Rattle.geometry.proofs.Laws.{store-length-low}
+use Rattle.lists.proofs.Put.{put-length}
+use Rattle.lists.proofs.Room.{room-most, room-high, listed-inside, copied-listed}
 use borrow.Author.Needs.{needs}
 use Rattle.lists.proofs.load.Statement.{statement}
 use Rattle.lists.proofs.load.Tie as tie
 use Rattle.lists.proofs.load.Reads as reads
 use Rattle.lists.proofs.load.Lts as lts
-use Rattle.geometry.proofs.Geometry.levels.Reads as levels-reads
 use Rattle.geometry.proofs.Geometry.list_start.Reads as list-start-reads
 use Rattle.lists.proofs.copy.Reads as copy-reads
 
--- src/lib.rt:18:9
-levels-requires : tie.Need-levels-requires
-levels-requires c κs = search needs
-
--- src/lib.rt:20:9
-returns : tie.Need-returns
-returns c = ?
-
--- src/lib.rt:22:15
+-- src/lib.rt:19:15
 add-n : tie.Need-add-n
 add-n c = search needs
 
--- src/lib.rt:22:13
+-- src/lib.rt:19:13
 mul-n : tie.Need-mul-n
 mul-n c = search needs
 
--- src/lib.rt:22:13
+-- src/lib.rt:19:13
 shared-slice-read-n : tie.Need-shared-slice-read-n
-shared-slice-read-n c = ?
+shared-slice-read-n c =
+    let p = c .before .before .pre in
+    omega (arith, p .1 .0, p .1 .1 .1 .0, store-length-low _ (p .0))
 
--- src/lib.rt:22:13
+-- src/lib.rt:19:13
 cast-n : tie.Need-cast-n
-cast-n c = ?
+cast-n c = omega (arith, c .shared-slice-known2 .given (_+_ 8 (c .before .before .args .level)))
 
--- src/lib.rt:23:9
+-- src/lib.rt:20:9
 list-start-requires : tie.Need-list-start-requires
 list-start-requires c κs = search needs
 
--- src/lib.rt:24:5
+-- src/lib.rt:21:5
 copy-requires : tie.Need-copy-requires
-copy-requires c κs = ?
+copy-requires c κs =
+    let p = c .before .before .before .before .pre in
+    let i = listed-inside _ _ _ (p .0) (p .1 .1 .0) (p .1 .1 .1 .0) (p .1 .1 .1 .1) in
+    (omega (arith, c .before .list-start .ensures, p .1 .0, i), omega (arith, c .copy-arg .given .0 .1, p .1 .1 .1 .1, room-high _ (c .before .before .before .before .args .level) (p .0)))
 
--- src/lib.rt:14:1
-returns-2 : tie.Need-returns-2
-returns-2 c = ?
+-- src/lib.rt:15:1
+returns : tie.Need-returns
+returns c =
+    let p = c .before .before .before .before .before .pre in
+    let a = c .before .before .before .before .before .args in
+    let i = listed-inside _ _ _ (p .0) (p .1 .1 .0) (p .1 .1 .1 .0) (p .1 .1 .1 .1) in
+    let e = rw (c .before .before .list-start .ensures) at (c .copy .ensures) in
+    let r = copied-listed (a .g) (a .s .now) (a .out .now) (a .level) _ refl (omega (arith, p .1 .1 .1 .1, room-most (a .g) (a .level))) (omega (arith, p .1 .0, i)) in
+    (refl, (rw e r, omega (arith, c .copy .kept .1 .1 .1 .0, c .before .copy-arg .given .0 .1)))
 
 pub load-spec : {M : Type 1} → statement M
 load-spec =
     tie.close
-    (tie.spec
-    levels-requires
-    returns
-    add-n
-    mul-n
-    shared-slice-read-n
-    cast-n
-    list-start-requires
-    copy-requires
-    returns-2)
+    (tie.spec add-n mul-n shared-slice-read-n cast-n list-start-requires copy-requires returns)

@@ -1,3 +1,6 @@
+use native.Mathlib.Omega.{arith}
+use lib.ListN.{length-set}
+use Rattle.lists.proofs.Put.{counts-put}
 use borrow.Author.Needs.{needs}
 use Rattle.lists.proofs.put_counts.Statement.{statement}
 use Rattle.lists.proofs.put_counts.Tie as tie
@@ -18,7 +21,7 @@ cast-s-2 c = search needs
 
 -- src/lib.rt:62:5
 slice-write-s-2 : tie.Need-slice-write-s-2
-slice-write-s-2 c = ?
+slice-write-s-2 c = simp length-set (omega arith)
 
 -- src/lib.rt:63:13
 cast-s-3 : tie.Need-cast-s-3
@@ -26,7 +29,7 @@ cast-s-3 c = search needs
 
 -- src/lib.rt:63:5
 slice-write-s-3 : tie.Need-slice-write-s-3
-slice-write-s-3 c = ?
+slice-write-s-3 c = simp length-set (omega arith)
 
 -- src/lib.rt:64:13
 cast-s-4 : tie.Need-cast-s-4
@@ -42,7 +45,7 @@ same-length c = search needs
 
 -- src/lib.rt:57:1
 returns : tie.Need-returns
-returns c = ?
+returns c = counts-put _ _ _ _ _ (c .pre .0)
 
 pub put-counts-spec : {M : Type 1} → statement M
 put-counts-spec =
