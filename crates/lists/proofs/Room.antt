@@ -11,7 +11,7 @@ use lib.Seq.{length-take-le, take-take, take-at}
 use borrow.Author.Tests.{le-leb, lt-leb}
 use Rattle.geometry.specs.declared.Geometry.{Geometry}
 use Rattle.geometry.specs.Geometry.{Valid, capacityOf, capacitySum, flashCapacityOf, listStart, placesStart, blockWidth, storeLength}
-use Rattle.geometry.proofs.Laws.{level-high, capacity-grows, list-inside, lists-apart, list-next}
+use Rattle.geometry.proofs.Laws.{store-length-low, level-high, capacity-grows, list-inside, lists-apart, list-next}
 use Rattle.words.specs.Layout.{word, countAt, listAt, listedAt, pad}
 use Rattle.words.proofs.Parts.{pad-length}
 use Rattle.words.proofs.State.{store-length}
@@ -39,9 +39,14 @@ room-most g i =
     (λ y. rw (room-above g i y) (omega arith))
     (λ n. rw (room-level g i (omega arith)) (omega arith))
 
--- the words of a list lie in the store
-pub list-in-store : (g : Geometry) (n i : ℕ) → n ≡ storeLength g → 1 ≤ i → i ≤ g .h → listStart g i + capacityOf g i ≤ n
-list-in-store g n i e l h = omega (arith, list-inside g l h, store-length g)
+-- the words of a list lie in the store, and those of the places follow them
+pub list-in-store : (g : Geometry) (n i : ℕ) → Valid g → n ≡ storeLength g → 1 ≤ i → i ≤ g .h → listStart g i + capacityOf g i < n
+unfolding blockWidth
+list-in-store g n i v e l h =
+    let a : 1 ≤ g .p = omega (arith, v .places-low) in
+    let b : 2 ≤ blockWidth g = omega arith in
+    let w : 1 * 2 ≤ g .p * blockWidth g = mul-le-mul a b in
+    omega (arith, list-inside g l h, store-length g)
 
 -- the list of level 3 starts in the store, also where h = 1: it would then stand K(2) words behind place 0, and the places are longer
 last-start-inside : (g : Geometry) → Valid g → listStart g 3 ≤ storeLength g
@@ -69,7 +74,7 @@ pub listed-inside : (g : Geometry) (i n : ℕ) → Valid g → 1 ≤ i → i ≤
 listed-inside g i n v o l r =
     dite (decLt (g .h) i)
     (λ y. omega (arith, room-above g i y, list-start-inside g i v o l))
-    (λ x. omega (arith, room-level g i (omega arith), list-in-store g (storeLength g) i refl o (omega arith)))
+    (λ x. omega (arith, room-level g i (omega arith), list-in-store g (storeLength g) i v refl o (omega arith)))
 
 -- the words that `load` copies are those that the level lists
 pub copied-listed : (g : Geometry) (ws out : List ℕ) (i n : ℕ) → n ≡ countAt ws i → n ≤ capacityOf g i → listStart g i + n ≤ length ws → take n (putAt 0 (take n (drop (listStart g i) ws)) out) ≡ listedAt g ws i
@@ -92,26 +97,27 @@ one-stored g ws x y z c n1 n2 n3 h l r2 r3 =
     let e3 : n3 ≡ 0 = omega (arith, room-above g 3 (omega arith)) in
     rw (h, e2, e3, ← l, append-nil)
 
-pub two-stored : (g : Geometry) (ws x y z : List ℕ) (c n1 n2 n3 : ℕ) → g .h ≡ 2 → length ws ≡ storeLength g → length x ≡ n1 → length y ≡ n2 → n1 ≤ roomOf g 1 → n3 ≤ roomOf g 3 → 12 ≤ length ws
+pub two-stored : (g : Geometry) (ws x y z : List ℕ) (c n1 n2 n3 : ℕ) → g .h ≡ 2 → length ws ≡ storeLength g → length x ≡ n1 → length y ≡ n2 → n1 ≤ roomOf g 1 → n3 ≤ roomOf g 3 → Valid g
     → putAt (listStart g 2) (pad (capacityOf g 2) y) (putAt (listStart g 1) (pad (capacityOf g 1) x) (putAt 9 (n1 ∷ n2 ∷ n3 ∷ []) (putAt 7 (c ∷ []) ws))) ≡ withLists g ws c (x ∷ y ∷ z ∷ [])
 unfolding withLists placeLists
-two-stored g ws x y z c n1 n2 n3 h w l k r1 r3 t =
+two-stored g ws x y z c n1 n2 n3 h w l k r1 r3 v =
     let us = putAt 9 (n1 ∷ n2 ∷ n3 ∷ []) (putAt 7 (c ∷ []) ws) in
-    let u : length us ≡ length ws = counts-length ws c n1 n2 n3 t in
+    let u : length us ≡ length ws = counts-length ws c n1 n2 n3 (omega (arith, store-length-low g v)) in
     let e3 : n3 ≡ 0 = omega (arith, room-above g 3 (omega arith)) in
+    let f1 : listStart g 1 + capacityOf g 1 ≤ length us = omega (arith, list-in-store g (length us) 1 v (omega arith) (omega arith) (omega arith)) in
     let p : length (pad (capacityOf g 1) x) ≡ capacityOf g 1 = pad-length (capacityOf g 1) x (omega (arith, room-most g 1)) in
-    list-joins g 1 (pad (capacityOf g 2) y) (pad (capacityOf g 1) x) us (omega arith) p (list-in-store g (length us) 1 (omega arith) (omega arith) (omega arith)) ∙ rw (h, e3, ← l, ← k, append-nil)
+    list-joins g 1 (pad (capacityOf g 2) y) (pad (capacityOf g 1) x) us (omega arith) p f1 ∙ rw (h, e3, ← l, ← k, append-nil)
 
-pub three-stored : (g : Geometry) (ws x y z : List ℕ) (c n1 n2 n3 : ℕ) → g .h ≡ 3 → length ws ≡ storeLength g → length x ≡ n1 → length y ≡ n2 → length z ≡ n3 → n1 ≤ roomOf g 1 → n2 ≤ roomOf g 2 → 12 ≤ length ws
+pub three-stored : (g : Geometry) (ws x y z : List ℕ) (c n1 n2 n3 : ℕ) → g .h ≡ 3 → length ws ≡ storeLength g → length x ≡ n1 → length y ≡ n2 → length z ≡ n3 → n1 ≤ roomOf g 1 → n2 ≤ roomOf g 2 → Valid g
     → putAt (listStart g 3) (pad (capacityOf g 3) z) (putAt (listStart g 2) (pad (capacityOf g 2) y) (putAt (listStart g 1) (pad (capacityOf g 1) x) (putAt 9 (n1 ∷ n2 ∷ n3 ∷ []) (putAt 7 (c ∷ []) ws)))) ≡ withLists g ws c (x ∷ y ∷ z ∷ [])
 unfolding withLists placeLists
-three-stored g ws x y z c n1 n2 n3 h w l k m r1 r2 t =
+three-stored g ws x y z c n1 n2 n3 h w l k m r1 r2 v =
     let us = putAt 9 (n1 ∷ n2 ∷ n3 ∷ []) (putAt 7 (c ∷ []) ws) in
-    let u : length us ≡ length ws = counts-length ws c n1 n2 n3 t in
+    let u : length us ≡ length ws = counts-length ws c n1 n2 n3 (omega (arith, store-length-low g v)) in
     let p : length (pad (capacityOf g 1) x) ≡ capacityOf g 1 = pad-length (capacityOf g 1) x (omega (arith, room-most g 1)) in
     let q : length (pad (capacityOf g 2) y) ≡ capacityOf g 2 = pad-length (capacityOf g 2) y (omega (arith, room-most g 2)) in
-    let f1 : listStart g 1 + capacityOf g 1 ≤ length us = list-in-store g (length us) 1 (omega arith) (omega arith) (omega arith) in
-    let f2 : listStart g 2 + capacityOf g 2 ≤ length us = list-in-store g (length us) 2 (omega arith) (omega arith) (omega arith) in
+    let f1 : listStart g 1 + capacityOf g 1 ≤ length us = omega (arith, list-in-store g (length us) 1 v (omega arith) (omega arith) (omega arith)) in
+    let f2 : listStart g 2 + capacityOf g 2 ≤ length us = omega (arith, list-in-store g (length us) 2 v (omega arith) (omega arith) (omega arith)) in
     let vs = putAt (listStart g 1) (pad (capacityOf g 1) x) us in
     let v : length vs ≡ length us = put-length (listStart g 1) (pad (capacityOf g 1) x) us (rw p f1) in
     list-joins g 2 (pad (capacityOf g 3) z) (pad (capacityOf g 2) y) vs (omega arith) q (rw v f2)

@@ -29,13 +29,13 @@ capacity-requires c κs = search needs
 copy-requires : tie.Need-copy-requires
 copy-requires c κs =
     let p = c .before .before .before .before .before .pre in
-    (omega (arith, c .before .copy-arg .given .0, p .1 .1 .1 .1, level-high _ (p .0) (p .1 .1 .1 .0)), omega (arith, c .before .before .before .list-start .ensures, p .1 .1 .1 .1, list-in-store _ _ _ (p .1 .0) (p .1 .1 .0) (p .1 .1 .1 .0)))
+    (omega (arith, c .before .copy-arg .given .0, p .1 .1 .1 .1, level-high _ (p .0) (p .1 .1 .1 .0)), omega (arith, c .before .before .before .list-start .ensures, p .1 .1 .1 .1, list-in-store _ _ _ (p .0) (p .1 .0) (p .1 .1 .0) (p .1 .1 .1 .0)))
 
 -- src/lib.rt:75:14
 add-clear : tie.Need-add-clear
 add-clear c =
     let p = c .before .before .before .before .before .before .before .before .before .pre in
-    omega (arith, c .before .before .before .before .before .before .before .list-start .ensures, p .1 .1 .1 .1, list-in-store _ _ _ (p .1 .0) (p .1 .1 .0) (p .1 .1 .1 .0))
+    omega (arith, c .before .before .before .before .before .before .before .list-start .ensures, p .1 .1 .1 .1, list-in-store _ _ _ (p .0) (p .1 .0) (p .1 .1 .0) (p .1 .1 .1 .0))
 
 -- src/lib.rt:75:25
 sub-clear : tie.Need-sub-clear
@@ -45,7 +45,7 @@ sub-clear c = search needs
 clear-requires : tie.Need-clear-requires
 clear-requires c κs =
     let p = c .before .before .before .before .before .before .before .before .before .pre in
-    omega (arith, c .before .before .before .before .before .before .before .list-start .ensures, c .before .before .before .before .before .before .capacity .ensures, c .before .before .before .copy .kept .1 .1 .1 .0, p .1 .1 .1 .1, list-in-store _ _ _ (p .1 .0) (p .1 .1 .0) (p .1 .1 .1 .0))
+    omega (arith, c .before .before .before .before .before .before .before .list-start .ensures, c .before .before .before .before .before .before .capacity .ensures, c .before .before .before .copy .kept .1 .1 .1 .0, p .1 .1 .1 .1, list-in-store _ _ _ (p .0) (p .1 .0) (p .1 .1 .0) (p .1 .1 .1 .0))
 
 -- src/lib.rt:68:1
 same-length : tie.Need-same-length
@@ -58,7 +58,7 @@ returns c =
     let room = copy .before .before .before in
     let a = room .before .before .before .args in
     let p = room .before .before .before .pre in
-    let i = list-in-store (a .g) _ (a .level) (p .1 .0) (p .1 .1 .0) (p .1 .1 .1 .0) in
+    let i = list-in-store (a .g) _ (a .level) (p .0) (p .1 .0) (p .1 .1 .0) (p .1 .1 .1 .0) in
     let n : a .n ≤ length (a .list .now) = omega (arith, copy .before .before .copy-arg .given .0, p .1 .1 .1 .1, level-high _ (p .0) (p .1 .1 .1 .0)) in
     let e = put-pad (listStart (a .g) (a .level)) (capacityOf (a .g) (a .level)) (a .n) (a .list .now) (a .s .now) n (omega (arith, i, p .1 .1 .1 .1)) in
     (c .before .before .clear .ensures ∙ rw (copy .copy .ensures, room .capacity .ensures, room .before .list-start .ensures) e, length-take-le (a .n) (a .list .now) n)

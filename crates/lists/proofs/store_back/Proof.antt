@@ -70,9 +70,8 @@ returns-2 c =
     let a = counts .before .before .before .args in
     let p = counts .before .before .before .pre in
     let h : a .g .h ≡ 2 = omega (arith, c .if2 .taken, list2 .before .before .if1 .left, list .before .before .levels .ensures) in
-    let t : 12 ≤ length (a .s .now) = omega (arith, p .1 .0, store-length-low _ (p .0)) in
     list2 .put-list2 .ensures .0
-    ∙ rw (list .put-list .ensures .0, counts .put-counts .ensures) (two-stored (a .g) (a .s .now) _ _ _ (a .cursor) (a .n1) (a .n2) (a .n3) h (p .1 .0) (list .put-list .ensures .1) (list2 .put-list2 .ensures .1) (p .1 .1 .0) (p .1 .1 .1 .1 .0) t)
+    ∙ rw (list .put-list .ensures .0, counts .put-counts .ensures) (two-stored (a .g) (a .s .now) _ _ _ (a .cursor) (a .n1) (a .n2) (a .n3) h (p .1 .0) (list .put-list .ensures .1) (list2 .put-list2 .ensures .1) (p .1 .1 .0) (p .1 .1 .1 .1 .0) (p .0))
 
 -- src/lib.rt:53:5
 put-list-requires-3 : tie.Need-put-list-requires-3
@@ -99,9 +98,8 @@ returns-3 c =
     let a = counts .before .before .before .args in
     let p = counts .before .before .before .pre in
     let h : a .g .h ≡ 3 = omega (arith, list3 .before .before .if2 .left, list .before .before .levels .ensures, p .0 .ranged .h-high) in
-    let t : 12 ≤ length (a .s .now) = omega (arith, p .1 .0, store-length-low _ (p .0)) in
     list3 .put-list3 .ensures .0
-    ∙ rw (list2 .put-list2 .ensures .0, list .put-list .ensures .0, counts .put-counts .ensures) (three-stored (a .g) (a .s .now) _ _ _ (a .cursor) (a .n1) (a .n2) (a .n3) h (p .1 .0) (list .put-list .ensures .1) (list2 .put-list2 .ensures .1) (list3 .put-list3 .ensures .1) (p .1 .1 .0) (p .1 .1 .1 .0) t)
+    ∙ rw (list2 .put-list2 .ensures .0, list .put-list .ensures .0, counts .put-counts .ensures) (three-stored (a .g) (a .s .now) _ _ _ (a .cursor) (a .n1) (a .n2) (a .n3) h (p .1 .0) (list .put-list .ensures .1) (list2 .put-list2 .ensures .1) (list3 .put-list3 .ensures .1) (p .1 .1 .0) (p .1 .1 .1 .0) (p .0))
 
 pub store-back-spec : {M : Type 1} → statement M
 store-back-spec =
