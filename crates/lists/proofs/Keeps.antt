@@ -1,13 +1,12 @@
 -- What words put over others leave as it was, and where the put words are read.
-use Prim.Native.Nat.{ℕ, zero, suc, _+_, _-_, _≤_}
-use mathlib.Core.Path.{_≡_, refl, sym, ap, _∙_}
-use mathlib.Core.List.{List, [], _∷_, _++_}
-use native.Mathlib.Nat.{add-zero}
+use Prim.Native.Nat.{ℕ, _+_, _-_, _≤_}
+use mathlib.Core.Path.{_≡_, sym, ap, _∙_}
+use mathlib.Core.List.{List, _++_}
 use native.Mathlib.Omega.{arith}
-use lib.ListN.{length, take, drop, getD, length-append, take-append-drop}
-use lib.Seq.{length-take-le, drop-append-add, drop-drop, getD-drop, getD-take}
+use lib.ListN.{length, take, drop}
+use lib.Seq.{length-take-le, drop-append-add, drop-drop}
 use Rattle.words.specs.Layout.{word}
-use Rattle.words.proofs.Parts.{part, part-left, part-mid, part-front-part, part-drop}
+use Rattle.words.proofs.Parts.{part, part-left, part-mid, part-front-part}
 use Rattle.lists.specs.Lists.{putAt}
 
 -- the put words

@@ -1,29 +1,25 @@
 -- For the caller: words that hold all of a store but its cursor, block counts and place lists are, with those put back, the store's words.
-use Prim.Native.Nat.{ℕ, zero, suc, _+_, _-_, _*_, _≤_, _<_}
+use Prim.Native.Nat.{ℕ, suc, _+_, _-_, _≤_, _<_}
 use mathlib.Core.Path.{_≡_, refl, sym, ap, _∙_}
 use mathlib.Core.List.{List, [], _∷_, _++_, map}
-use mathlib.Core.Logic.{dite}
-use native.Mathlib.Decide.{decLt}
-use native.Mathlib.Nat.{add-zero, add-suc, suc-add}
-use native.Mathlib.Numerals.{one-add}
+use native.Mathlib.Nat.{add-zero}
 use native.Mathlib.Omega.{arith}
-use lib.ListN.{length, take, drop, getD, length-append, length-map, List·getD-map, List·getD-eq-default}
+use lib.ListN.{length, take, getD, length-append, length-map}
 use lib.Seq.{length-take-le, drop-at}
 use Rattle.geometry.specs.declared.Geometry.{Geometry}
-use Rattle.geometry.specs.Geometry.{Valid, flashCapacityOf, topCapacityOf, marksStart, listStart, blockWidth, placesStart, storeLength}
+use Rattle.geometry.specs.Geometry.{Valid, flashCapacityOf, topCapacityOf, marksStart, listStart, placesStart, storeLength}
 use Rattle.geometry.proofs.Laws.{store-length-low}
 use Rattle.levels.specs.Record.{Rec, Level}
 use Rattle.levels.specs.Store.{Store}
 use Rattle.levels.proofs.Sound.{Fits}
-use Rattle.words.specs.Layout.{word, geometryAt, liveAt, topCountAt, countAt, listedAt, levelAt, each, pad, placeOf, headerWords, topWords, listWords, areaOf, storeWords}
-use Rattle.words.proofs.Parts.{part, part-word, part-left, part-front-part, part-split, part-cons, pad-length, pad-word}
+use Rattle.words.specs.Layout.{word, geometryAt, liveAt, topCountAt, pad, placeOf, headerWords, topWords, listWords, areaOf, storeWords}
+use Rattle.words.proofs.Parts.{part, part-word, part-left, part-front-part, part-split, part-cons, pad-length}
 use Rattle.words.proofs.Top.{topLength, top-words-length}
-use Rattle.words.proofs.Lists.{list-words-length, level-places}
+use Rattle.words.proofs.Lists.{list-words-length}
 use Rattle.words.proofs.Laid.{Laid, laid-levels}
-use Rattle.words.proofs.State.{Holds, top-end, lists-length, store-length, room-fits, geometry-held, live-held, top-count-held, counts-held, levels-held, words-hold, held-words}
-use Rattle.lists.specs.Lists.{roomOf, putAt, placeLists, withLists}
+use Rattle.words.proofs.State.{Holds, top-end, lists-length, store-length, room-fits, geometry-held, live-held, top-count-held, words-hold, held-words}
+use Rattle.lists.specs.Lists.{putAt, placeLists, withLists}
 use Rattle.lists.proofs.Put.{put-length}
-use Rattle.lists.proofs.Room.{room-level}
 use Rattle.lists.proofs.Keeps.{put-here, put-before, put-drop, put-behind}
 
 -- The words hold the store, but for the cursor, the block counts and the place lists.
@@ -253,41 +249,3 @@ but-merged g s t area new v f d l r n =
     let held = but-held g (storeWords g s area) s v f (words-hold g s area v f (d .full) d) in
     let laid = but-area g (storeWords g s area) new s m v held l refl (laid-levels g new t m refl n) in
     but-top g (withArea g new (storeWords g s area)) m t v laid refl refl r
-
--- The arrays of a call: what it takes out, and what it puts back.
-
--- the three arrays hold the places of the levels; those above h are empty
-pub three-places : (h : ℕ) (ls : List Level) (x y z : List ℕ) → length ls ≡ h → h ≤ 3 → x ≡ map placeOf (getD ls 0 []) → y ≡ map placeOf (getD ls 1 []) → z ≡ map placeOf (getD ls 2 []) → take h (x ∷ y ∷ z ∷ []) ≡ placesIn ls
-three-places h [] x y z e l a b c = rw (← e)
-three-places h (p ∷ []) x y z e l a b c = rw (← e, a)
-three-places h (p ∷ q ∷ []) x y z e l a b c = rw (← e, a, b)
-three-places h (p ∷ q ∷ r ∷ []) x y z e l a b c = rw (← e, a, b, c)
-three-places h (p ∷ q ∷ r ∷ s ∷ ls) x y z e l a b c = absurd (omega arith)
-
-each-at : (f : ℕ → Level) (j n i : ℕ) → i < n → getD (each f j n) i [] ≡ f (j + i)
-each-at f j zero i h = absurd (omega arith)
-each-at f j (suc n) zero h = rw add-zero
-each-at f j (suc n) (suc i) h = each-at f (suc j) n i (omega arith) ∙ rw (suc-add, add-suc)
-
-module _ (g : Geometry) (ws : List ℕ) (t : Store) (v : Valid g) (f : Fits g t) (k : Holds g ws t) where
-  -- the block count of a level is the length of its list, 0 above h
-  pub count-held : (i : ℕ) → i < 3 → countAt ws (suc i) ≡ length (getD (t .levels) i [])
-  count-held i h =
-      let w : 9 + i ≡ 8 + suc i = omega arith in
-      ap (word ws) (sym w) ∙ sym (part-word ws 9 3 i h) ∙ ap (λ (x : List ℕ). getD x i 0) (counts-held g ws t v f k) ∙ pad-word 3 (map (λ (l : Level). length l) (t .levels)) i
-      ∙ List·getD-map (λ (l : Level). length l) (t .levels) i []
-
-  -- what `load` asks of the counts
-  pub count-room : (i : ℕ) → i < 3 → countAt ws (suc i) ≤ roomOf g (suc i)
-  count-room i h =
-      dite (decLt i (g .h))
-      (λ y. rw (count-held i h, room-level g (suc i) y) (f .level-fits i y))
-      (λ n. let z : getD (t .levels) i [] ≡ [] = List·getD-eq-default (t .levels) [] (omega (arith, f .level-count)) in rw (count-held i h, z) (omega arith))
-
-  -- what `load` gives: the places of the level
-  pub places-listed : (i : ℕ) → i < 3 → listedAt g ws (suc i) ≡ map placeOf (getD (t .levels) i [])
-  unfolding listedAt
-  places-listed i h =
-      dite (decLt i (g .h))
-      (λ y. sym (level-places g ws (suc i)) ∙ ap (map placeOf) (sym (rw one-add at (each-at (levelAt g ws) 1 (g .h) i y)) ∙ ap (λ (ls : List Level). getD ls i []) (levels-held g ws t v f k)))
-      (λ n. let z : getD (t .levels) i [] ≡ [] = List·getD-eq-default (t .levels) [] (omega (arith, f .level-count)) in rw (count-held i h, z))

@@ -2,17 +2,17 @@
 use Prim.Native.Nat.{ℕ, suc, _+_, _*_, _≤_, _<_}
 use mathlib.Core.Path.{_≡_, refl, sym, ap, _∙_}
 use mathlib.Core.Logic.{dite}
-use mathlib.Core.List.{List, [], _∷_, _++_, map, append-nil, append-assoc}
+use mathlib.Core.List.{List, [], _∷_, _++_, append-nil}
 use native.Mathlib.Decide.{decLt}
 use native.Mathlib.Nat.{zero-add, mul-le-mul, mul-le-mul-right}
 use native.Mathlib.Omega.{arith}
-use lib.ListN.{length, take, drop, replicate, length-append, length-drop}
+use lib.ListN.{length, take, drop, length-drop}
 use lib.Seq.{length-take-le, take-take, take-at}
 use borrow.Author.Tests.{le-leb, lt-leb}
 use Rattle.geometry.specs.declared.Geometry.{Geometry}
 use Rattle.geometry.specs.Geometry.{Valid, capacityOf, capacitySum, flashCapacityOf, listStart, placesStart, blockWidth, storeLength}
 use Rattle.geometry.proofs.Laws.{store-length-low, level-high, capacity-grows, list-inside, lists-apart, list-next}
-use Rattle.words.specs.Layout.{word, countAt, listAt, listedAt, pad}
+use Rattle.words.specs.Layout.{countAt, listAt, listedAt, pad}
 use Rattle.words.proofs.Parts.{pad-length}
 use Rattle.words.proofs.State.{store-length}
 use Rattle.lists.specs.Lists.{roomOf, putAt, placeLists, withLists}

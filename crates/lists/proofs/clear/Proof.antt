@@ -1,7 +1,7 @@
-use Prim.Native.Nat.{_+_, _-_, _≤_}
+use Prim.Native.Nat.{_-_, _≤_}
 use mathlib.Core.Path.{_≡_, refl, sym}
 use native.Mathlib.Omega.{arith}
-use lib.ListN.{length, length-set, take, drop, replicate}
+use lib.ListN.{length, length-set, replicate}
 use Rattle.lists.specs.Lists.{putAt}
 use Rattle.lists.proofs.Put.{put-none, clear-more}
 use Rattle.lists.proofs.clear.Statement.{statement}
@@ -15,42 +15,33 @@ Inv-loop s₀ start n i₀ s i = (i ≤ n) × ((length s ≡ length s₀) × (s 
 abbrev μ-loop : tie.MeasureT-loop
 μ-loop s₀ start n i₀ s i = n - i
 
--- src/lib.rt:92:5
 loop-holds : tie.Need-loop-holds Inv-loop μ-loop
 loop-holds c = (omega arith, (refl, sym (put-none _ _)))
 
--- src/lib.rt:93:11
 add-s : tie.Need-add-s Inv-loop μ-loop
 add-s c = omega arith
 
--- src/lib.rt:93:9
 mul-s : tie.Need-mul-s Inv-loop μ-loop
 mul-s c = omega arith
 
--- src/lib.rt:93:9
 slice-write-s : tie.Need-slice-write-s Inv-loop μ-loop
 slice-write-s c = omega arith
 
--- src/lib.rt:92:9
 add-i : tie.Need-add-i Inv-loop μ-loop
 add-i c = omega arith
 
--- src/lib.rt:92:5
 loop-less : tie.Need-loop-less Inv-loop μ-loop
 loop-less c = omega arith
 
--- src/lib.rt:92:5
 loop-again : tie.Need-loop-again Inv-loop μ-loop
 loop-again c =
     let a = c .before .before .args in
     let l = c .before .loop in
     (omega arith, (simp length-set (omega arith), rw (l .inv .1 .1) (clear-more (a .start) (l .i) (a .s .now) (omega arith))))
 
--- src/lib.rt:88:1
 same-length : tie.Need-same-length Inv-loop μ-loop
 same-length c = omega arith
 
--- src/lib.rt:88:1
 returns : tie.Need-returns Inv-loop μ-loop
 returns c =
     let e : c .before .loop .i ≡ c .before .before .args .n = omega arith in

@@ -1,9 +1,7 @@
 use Prim.Native.Nat.{_+_}
-use mathlib.Core.Path.{refl, ap, _∙_}
+use mathlib.Core.Path.{refl}
 use native.Mathlib.Omega.{arith}
-use lib.ListN.{length, take}
 use Rattle.geometry.proofs.Laws.{store-length-low}
-use Rattle.lists.proofs.Put.{put-length}
 use Rattle.lists.proofs.Room.{room-most, room-high, listed-inside, copied-listed}
 use borrow.Author.Needs.{needs}
 use Rattle.lists.proofs.load.Statement.{statement}
@@ -13,36 +11,29 @@ use Rattle.lists.proofs.load.Lts as lts
 use Rattle.geometry.proofs.Geometry.list_start.Reads as list-start-reads
 use Rattle.lists.proofs.copy.Reads as copy-reads
 
--- src/lib.rt:19:15
 add-n : tie.Need-add-n
 add-n c = search needs
 
--- src/lib.rt:19:13
 mul-n : tie.Need-mul-n
 mul-n c = search needs
 
--- src/lib.rt:19:13
 shared-slice-read-n : tie.Need-shared-slice-read-n
 shared-slice-read-n c =
     let p = c .before .before .pre in
     omega (arith, p .1 .0, p .1 .1 .1 .0, store-length-low _ (p .0))
 
--- src/lib.rt:19:13
 cast-n : tie.Need-cast-n
 cast-n c = omega (arith, c .shared-slice-known2 .given (_+_ 8 (c .before .before .args .level)))
 
--- src/lib.rt:20:9
 list-start-requires : tie.Need-list-start-requires
 list-start-requires c κs = search needs
 
--- src/lib.rt:21:5
 copy-requires : tie.Need-copy-requires
 copy-requires c κs =
     let p = c .before .before .before .before .pre in
     let i = listed-inside _ _ _ (p .0) (p .1 .1 .0) (p .1 .1 .1 .0) (p .1 .1 .1 .1) in
     (omega (arith, c .before .list-start .ensures, p .1 .0, i), omega (arith, c .copy-arg .given .0 .1, p .1 .1 .1 .1, room-high _ (c .before .before .before .before .args .level) (p .0)))
 
--- src/lib.rt:15:1
 returns : tie.Need-returns
 returns c =
     let p = c .before .before .before .before .before .pre in

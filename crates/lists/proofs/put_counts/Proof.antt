@@ -7,43 +7,33 @@ use Rattle.lists.proofs.put_counts.Tie as tie
 use Rattle.lists.proofs.put_counts.Reads as reads
 use Rattle.lists.proofs.put_counts.Lts as lts
 
--- src/lib.rt:61:12
 cast-s : tie.Need-cast-s
 cast-s c = search needs
 
--- src/lib.rt:61:5
 slice-write-s : tie.Need-slice-write-s
 slice-write-s c = search needs
 
--- src/lib.rt:62:12
 cast-s-2 : tie.Need-cast-s-2
 cast-s-2 c = search needs
 
--- src/lib.rt:62:5
 slice-write-s-2 : tie.Need-slice-write-s-2
 slice-write-s-2 c = simp length-set (omega arith)
 
--- src/lib.rt:63:13
 cast-s-3 : tie.Need-cast-s-3
 cast-s-3 c = search needs
 
--- src/lib.rt:63:5
 slice-write-s-3 : tie.Need-slice-write-s-3
 slice-write-s-3 c = simp length-set (omega arith)
 
--- src/lib.rt:64:13
 cast-s-4 : tie.Need-cast-s-4
 cast-s-4 c = search needs
 
--- src/lib.rt:64:5
 slice-write-s-4 : tie.Need-slice-write-s-4
 slice-write-s-4 c = search needs
 
--- src/lib.rt:57:1
 same-length : tie.Need-same-length
 same-length c = search needs
 
--- src/lib.rt:57:1
 returns : tie.Need-returns
 returns c = counts-put _ _ _ _ _ (c .pre .0)
 

@@ -1,7 +1,7 @@
-use Prim.Native.Nat.{_+_, _≤_}
-use mathlib.Core.Path.{_≡_, refl, ap, _∙_}
+use Prim.Native.Nat.{_≤_}
+use mathlib.Core.Path.{_∙_}
 use native.Mathlib.Omega.{arith}
-use lib.ListN.{length, take}
+use lib.ListN.{length}
 use lib.Seq.{length-take-le}
 use Rattle.geometry.specs.Geometry.{capacityOf, listStart}
 use Rattle.geometry.proofs.Laws.{level-high}
@@ -17,41 +17,33 @@ use Rattle.geometry.proofs.Geometry.list_start.Reads as list-start-reads
 use Rattle.lists.proofs.clear.Reads as clear-reads
 use Rattle.lists.proofs.copy.Reads as copy-reads
 
--- src/lib.rt:72:9
 list-start-requires : tie.Need-list-start-requires
 list-start-requires c κs = search needs
 
--- src/lib.rt:73:9
 capacity-requires : tie.Need-capacity-requires
 capacity-requires c κs = search needs
 
--- src/lib.rt:74:5
 copy-requires : tie.Need-copy-requires
 copy-requires c κs =
     let p = c .before .before .before .before .before .pre in
     (omega (arith, c .before .copy-arg .given .0, p .1 .1 .1 .1, level-high _ (p .0) (p .1 .1 .1 .0)), omega (arith, c .before .before .before .list-start .ensures, p .1 .1 .1 .1, list-in-store _ _ _ (p .0) (p .1 .0) (p .1 .1 .0) (p .1 .1 .1 .0)))
 
--- src/lib.rt:75:14
 add-clear : tie.Need-add-clear
 add-clear c =
     let p = c .before .before .before .before .before .before .before .before .before .pre in
     omega (arith, c .before .before .before .before .before .before .before .list-start .ensures, p .1 .1 .1 .1, list-in-store _ _ _ (p .0) (p .1 .0) (p .1 .1 .0) (p .1 .1 .1 .0))
 
--- src/lib.rt:75:25
 sub-clear : tie.Need-sub-clear
 sub-clear c = search needs
 
--- src/lib.rt:75:5
 clear-requires : tie.Need-clear-requires
 clear-requires c κs =
     let p = c .before .before .before .before .before .before .before .before .before .pre in
     omega (arith, c .before .before .before .before .before .before .before .list-start .ensures, c .before .before .before .before .before .before .capacity .ensures, c .before .before .before .copy .kept .1 .1 .1 .0, p .1 .1 .1 .1, list-in-store _ _ _ (p .0) (p .1 .0) (p .1 .1 .0) (p .1 .1 .1 .0))
 
--- src/lib.rt:68:1
 same-length : tie.Need-same-length
 same-length c = search needs
 
--- src/lib.rt:68:1
 returns : tie.Need-returns
 returns c =
     let copy = c .before .before .before .before .before .before in
