@@ -1,2 +1,6 @@
 pub mod Lists
 pub mod Marks
+pub mod Words
+pub mod Spots
+pub mod Moves
+pub mod Pushing

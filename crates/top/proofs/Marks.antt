@@ -101,3 +101,9 @@ marks-low B n q S h i b =
     take-most zero xs = omega arith
     take-most (suc n) [] = omega arith
     take-most (suc n) (x ∷ xs) = omega (arith, take-most n xs)
+
+-- the code's word of bit j alone
+pub one-bit : (j : ℕ) → j < 16 → (1 * 2 ^ j % 4294967296 ≡ 2 ^ j) × (2 ^ j ≤ 32768)
+one-bit j h =
+    let l : 2 ^ j ≤ 32768 = pow-mono {i = j} {j = 15} (omega arith) in
+    (omega arith, l)

@@ -5,6 +5,7 @@ use mathlib.Core.Bool.{Bool, true, false}
 use mathlib.Core.List.{List, [], _∷_, _++_}
 use lib.Dec.{ltb, eqb}
 use lib.ListN.{length, take, drop, set, replicate}
+use lib.Seq.{paste}
 use Rattle.geometry.specs.declared.Geometry.{Geometry}
 use Rattle.geometry.specs.Geometry.{Ranged, Valid, headerLength, topCapacityOf, marksStart, keysStart, paysStart, listStart, storeLength}
 use Rattle.levels.specs.Record.{Rec, rising}
@@ -36,16 +37,18 @@ pub record TopReady (g : Geometry) (ws : List ℕ) : Type 0 where
   pub unused : topUnusedZero g ws ≡ true
   pub rises : rising 0 (topRecs g ws) ≡ true
 
--- where key k stands among records whose keys rise, the first of them record i: at its record, or before the first key above it
-unfoldable pub spotFrom : ℕ → ℕ → List Rec → Spot
-spotFrom k i [] = Gap i
-spotFrom k i (r ∷ rs) = elim (ltb k (r .key)) [
-  | true ↦ Gap i
-  | false ↦ elim (eqb k (r .key)) [ true ↦ Found i | false ↦ spotFrom k (suc i) rs ]
-]
+-- one record further on
+abbrev pub later : Spot → Spot
+later (Found i) = Found (suc i)
+later (Gap i) = Gap (suc i)
 
+-- where key k stands among records whose keys rise: at the record that has it, or after the keys below it
 unfoldable pub spotOf : ℕ → List Rec → Spot
-spotOf k rs = spotFrom k 0 rs
+spotOf k [] = Gap 0
+spotOf k (r ∷ rs) = elim (ltb k (r .key)) [
+  | true ↦ Gap 0
+  | false ↦ elim (eqb k (r .key)) [ true ↦ Found 0 | false ↦ later (spotOf k rs) ]
+]
 
 -- there is room for the record: one is overwritten, or level 0 is not full
 abbrev pub Room : Geometry → List ℕ → Spot → Type 0
@@ -82,11 +85,11 @@ pushed i c r rs = take (suc c) (take i rs ++ (r ∷ drop i rs)) ++ drop (suc c) 
 
 -- n words from word `from` on copied to word `to` and those after it
 unfoldable pub copied : List ℕ → ℕ → ℕ → ℕ → List ℕ
-copied ws from to n = take to ws ++ (take n (drop from ws) ++ drop (to + n) ws)
+copied ws from to n = paste ws to (drop from ws) n
 
 -- n words from word `start` on made 0
 unfoldable pub cleared : List ℕ → ℕ → ℕ → List ℕ
-cleared ws start n = take start ws ++ (replicate n 0 ++ drop (start + n) ws)
+cleared ws start n = paste ws start (replicate n 0) n
 
 -- n words from word `start` on without the `gap` words after the first `at` of them: the later ones move up, and zeros come last
 unfoldable pub closed : List ℕ → ℕ → ℕ → ℕ → ℕ → List ℕ

@@ -1,3 +1,7 @@
+use Prim.Native.Nat.{ℕ, suc, _≤_, _<_, _-_, _+_}
+use mathlib.Core.Path.{_≡_, refl, sym, _∙_}
+use native.Mathlib.Omega.{arith}
+use Rattle.words.specs.Layout.{word}
 use Rattle.top.proofs.locate.Statement.{statement}
 use Rattle.top.proofs.locate.Tie as tie
 use Rattle.top.proofs.locate.Reads as reads
@@ -5,10 +9,10 @@ use Rattle.top.proofs.locate.Lts as lts
 use Rattle.geometry.proofs.Geometry.keys_start.Reads as keys-start-reads
 
 abbrev Inv-loop : tie.InvT-loop
-Inv-loop s k keys c lo₀ hi₀ lo hi = ?
+Inv-loop s k keys c lo₀ hi₀ lo hi = (lo ≤ hi) × ((hi ≤ c) × (((j : ℕ) → lo ≡ suc j → word s (keys + j) < k) × (hi < c → k ≤ word s (keys + hi))))
 
 abbrev μ-loop : tie.MeasureT-loop
-μ-loop s k keys c lo₀ hi₀ lo hi = ?
+μ-loop s k keys c lo₀ hi₀ lo hi = hi - lo
 
 -- src/lib.rt:32:9
 keys-start-requires : tie.Need-keys-start-requires Inv-loop μ-loop

@@ -1,3 +1,12 @@
+use Prim.Native.Nat.{_≤_, _-_}
+use mathlib.Core.Path.{_≡_, refl, sym, ap, _∙_}
+use native.Mathlib.Omega.{arith}
+use lib.ListN.{getD, length}
+use Rattle.words.specs.Layout.{topSlots}
+use Rattle.words.proofs.Slots.{blankRec}
+use Rattle.top.specs.Top.{recOf}
+use Rattle.top.proofs.Lists.{pushedIn}
+use Rattle.top.proofs.Pushing.{pushing}
 use Rattle.top.proofs.push_in.Statement.{statement}
 use Rattle.top.proofs.push_in.Tie as tie
 use Rattle.top.proofs.push_in.Reads as reads
@@ -6,10 +15,10 @@ use Rattle.top.proofs.read_slot.Reads as read-slot-reads
 use Rattle.top.proofs.write_slot.Reads as write-slot-reads
 
 abbrev Inv-loop : tie.InvT-loop
-Inv-loop s₀ g i c carried₀ end n₀ s carried n = ?
+Inv-loop s₀ g i c carried₀ end n₀ s carried n = (i ≤ n) × ((n ≤ end) × ((s ≡ pushing g s₀ i (recOf carried₀) n) × (recOf carried ≡ getD (pushedIn i (recOf carried₀) (topSlots g s₀)) n blankRec)))
 
 abbrev μ-loop : tie.MeasureT-loop
-μ-loop s₀ g i c carried₀ end n₀ s carried n = ?
+μ-loop s₀ g i c carried₀ end n₀ s carried n = end - n
 
 -- src/lib.rt:115:15
 add-end : tie.Need-add-end Inv-loop μ-loop
