@@ -4,3 +4,4 @@ pub mod Words
 pub mod Spots
 pub mod Moves
 pub mod Pushing
+pub mod Locating

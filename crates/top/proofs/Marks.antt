@@ -47,6 +47,9 @@ bit-on m j e = omega (arith, rw e at (bit-moves m j true))
 pub bit-off : (m j : ℕ) → eqb (m / 2 ^ j % 2) 1 ≡ true → setBit m j false + 2 ^ j ≡ m
 bit-off m j e = omega (arith, rw e at (bit-moves m j false))
 
+pub bit-off-left : (m j : ℕ) → eqb (m / 2 ^ j % 2) 1 ≡ true → setBit m j false ≡ m - 2 ^ j
+bit-off-left m j e = omega (arith, bit-off m j e)
+
 pub bit-kept-on : (m j : ℕ) → eqb (m / 2 ^ j % 2) 1 ≡ true → setBit m j true ≡ m
 bit-kept-on m j e = omega (arith, rw e at (bit-moves m j true))
 

@@ -186,6 +186,12 @@ module _ (g : Geometry) (ws : List ℕ) (k : Ranged g) (i : listStart g 1 ≤ le
   unfolding withTop withSlots
   top-is rs = sym (set-append-left (take 12 ws) (topWords g rs ++ drop (listStart g 1) ws) 8 (length rs) (rw head-long (omega arith)))
 
+  -- the header is kept
+  pub header-word : (rs : List Rec) (j : ℕ) → j < 12 → word (withSlots g ws rs) j ≡ word ws j
+  unfolding withSlots
+  header-word rs j h =
+      List·getD-append (take 12 ws) (topWords g rs ++ drop (listStart g 1) ws) 0 j (rw head-long h) ∙ getD-take 12 ws j 0 h
+
   pub padded-is : (rs : List Rec) → length rs ≤ topCapacityOf g → withSlots g ws (padRecs (topCapacityOf g) rs) ≡ withSlots g ws rs
   unfolding withSlots
   padded-is rs l = rw (padded-words g rs (omega (arith, k .b-low)) l)
@@ -250,3 +256,11 @@ module _ (g : Geometry) (ws : List ℕ) (t : TopReady g ws) where
       ap (λ (r : Rec). r .key) (getD-take (topCountAt ws) (topSlots g ws) i blankRec h)
       ∙ sym (slot-key g ws (t .valid .ranged) (ready-inside .inside) (topSlots g ws) (top-slots-length g ws) i l)
       ∙ ap (λ (us : List ℕ). word us (keysStart g + i)) ready-is
+
+  -- the words that a search reads are there
+  pub ready-bounds : (keysStart g + topCountAt ws ≤ length ws) × ((length ws ≤ 288524) × (8 < length ws))
+  unfolding keysStart paysStart marksStart
+  ready-bounds =
+      let k = ready-inside in
+      let e = pays-end g in
+      (omega (arith, k .inside, t .fits), (k .short, omega (arith, k .inside)))

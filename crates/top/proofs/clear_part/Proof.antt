@@ -17,7 +17,7 @@ abbrev μ-loop : tie.MeasureT-loop
 μ-loop s₀ start n i₀ s i = n - i
 
 loop-holds : tie.Need-loop-holds Inv-loop μ-loop
-loop-holds c = (omega arith, (refl, cleared-none _ _ _))
+loop-holds c = (omega arith, (refl, cleared-none (c .args .s .now) (c .args .start) (c .args .n)))
 
 add-s : tie.Need-add-s Inv-loop μ-loop
 add-s c = omega arith

@@ -1,4 +1,9 @@
-use Prim.Native.Nat.{ℕ, suc, _≤_, _<_, _-_, _+_}
+use lib.Arith.{lt-of-le-ne}
+use Rattle.geometry.proofs.Bounds.{top-capacity-high}
+use borrow.Author.Needs.{needs}
+use Rattle.top.proofs.Words.{ready-bounds}
+use Rattle.top.proofs.Locating.{located-found, located-gap}
+use Prim.Native.Nat.{ℕ, suc, _≤_, _<_, _-_, _+_, _/_}
 use mathlib.Core.Path.{_≡_, refl, sym, _∙_}
 use native.Mathlib.Omega.{arith}
 use Rattle.words.specs.Layout.{word}
@@ -14,85 +19,68 @@ Inv-loop s k keys c lo₀ hi₀ lo hi = (lo ≤ hi) × ((hi ≤ c) × (((j : ℕ
 abbrev μ-loop : tie.MeasureT-loop
 μ-loop s k keys c lo₀ hi₀ lo hi = hi - lo
 
--- src/lib.rt:32:9
 keys-start-requires : tie.Need-keys-start-requires Inv-loop μ-loop
-keys-start-requires c κs = ?
+keys-start-requires c κs = c .before .pre .valid .ranged
 
--- src/lib.rt:33:13
 shared-slice-read-c : tie.Need-shared-slice-read-c Inv-loop μ-loop
-shared-slice-read-c c = ?
+shared-slice-read-c c = ready-bounds _ _ (c .before .before .before .pre) .1 .1
 
--- src/lib.rt:33:13
 cast-c : tie.Need-cast-c Inv-loop μ-loop
-cast-c c = ?
+cast-c c = omega (arith, c .before .before .before .pre .fits, top-capacity-high _ (c .before .before .before .pre .valid .ranged))
 
--- src/lib.rt:36:5
 loop-holds : tie.Need-loop-holds Inv-loop μ-loop
-loop-holds c = ?
+loop-holds c = (omega arith, (omega arith, ((λ j e. absurd (omega arith)), (λ h. absurd (omega arith)))))
 
--- src/lib.rt:37:25
 sub-mid : tie.Need-sub-mid Inv-loop μ-loop
-sub-mid c = ?
+sub-mid c = omega arith
 
--- src/lib.rt:37:19
 add-mid : tie.Need-add-mid Inv-loop μ-loop
-add-mid c = ?
+add-mid c = omega (arith, ready-bounds _ _ (c .before .before .before .before .before .pre))
 
--- src/lib.rt:38:14
 add-if1 : tie.Need-add-if1 Inv-loop μ-loop
-add-if1 c = ?
+add-if1 c = rw (c .before .before .before .keys-start .ensures) (omega (arith, ready-bounds _ _ (c .before .before .before .before .before .pre)))
 
--- src/lib.rt:38:12
 mul-if1 : tie.Need-mul-if1 Inv-loop μ-loop
-mul-if1 c = ?
+mul-if1 c = rw (c .before .before .before .keys-start .ensures) (omega (arith, ready-bounds _ _ (c .before .before .before .before .before .pre)))
 
--- src/lib.rt:38:12
 shared-slice-read-if1 : tie.Need-shared-slice-read-if1 Inv-loop μ-loop
-shared-slice-read-if1 c = ?
+shared-slice-read-if1 c = rw (c .before .before .before .before .keys-start .ensures) (omega (arith, ready-bounds _ _ (c .before .before .before .before .before .before .pre)))
 
--- src/lib.rt:39:18
 add-lo : tie.Need-add-lo Inv-loop μ-loop
-add-lo c = ?
+add-lo c = omega (arith, ready-bounds _ _ (c .before .before .before .before .before .before .before .pre))
 
--- src/lib.rt:36:5
 loop-less : tie.Need-loop-less Inv-loop μ-loop
-loop-less c = ?
+loop-less c = omega arith
 
--- src/lib.rt:36:5
 loop-again : tie.Need-loop-again Inv-loop μ-loop
-loop-again c = ?
+loop-again c = (omega arith, (c .before .before .before .loop .inv .1 .0, ((λ j e. let x : j ≡ c .before .before .before .loop .lo + (c .before .before .before .loop .hi - c .before .before .before .loop .lo) / 2 = omega arith in rw x (c .if1 .taken)), c .before .before .before .loop .inv .1 .1 .1)))
 
--- src/lib.rt:36:5
 loop-less-2 : tie.Need-loop-less-2 Inv-loop μ-loop
-loop-less-2 c = ?
+loop-less-2 c = omega arith
 
--- src/lib.rt:36:5
 loop-again-2 : tie.Need-loop-again-2 Inv-loop μ-loop
-loop-again-2 c = ?
+loop-again-2 c = (omega arith, (omega arith, (c .before .before .before .loop .inv .1 .1 .0, (λ h. c .if1 .left))))
 
--- src/lib.rt:45:14
 add-if3 : tie.Need-add-if3 Inv-loop μ-loop
-add-if3 c = ?
+add-if3 c = rw (c .before .before .before .before .keys-start .ensures) (omega (arith, ready-bounds _ _ (c .before .before .before .before .before .before .pre)))
 
--- src/lib.rt:45:12
 mul-if3 : tie.Need-mul-if3 Inv-loop μ-loop
-mul-if3 c = ?
+mul-if3 c = rw (c .before .before .before .before .keys-start .ensures) (omega (arith, ready-bounds _ _ (c .before .before .before .before .before .before .pre)))
 
--- src/lib.rt:45:12
 shared-slice-read-if3 : tie.Need-shared-slice-read-if3 Inv-loop μ-loop
-shared-slice-read-if3 c = ?
+shared-slice-read-if3 c = rw (c .before .before .before .before .before .keys-start .ensures) (omega (arith, ready-bounds _ _ (c .before .before .before .before .before .before .before .pre)))
 
--- src/lib.rt:46:13
 returns : tie.Need-returns Inv-loop μ-loop
-returns c = ?
+returns c = located-found _ _ (c .before .before .before .before .before .before .before .before .pre) _ (c .before .before .before .before .before .before .keys-start .ensures) _ _ (c .before .before .if2 .taken) (c .if3 .taken)
 
--- src/lib.rt:28:1
 returns-2 : tie.Need-returns-2 Inv-loop μ-loop
-returns-2 c = ?
+returns-2 c =
+    let e : c .before .before .before .before .loop .hi ≡ c .before .before .before .before .loop .lo = omega arith in
+    let x = rw e at (c .before .before .before .before .loop .inv .1 .1 .1) in
+    located-gap _ _ (c .before .before .before .before .before .before .before .before .pre) _ (c .before .before .before .before .before .before .keys-start .ensures) _ _ (omega arith) (c .before .before .before .before .loop .inv .1 .1 .0) (λ l. lt-of-le-ne (x l) (λ q. c .if3 .left (sym q)))
 
--- src/lib.rt:28:1
 returns-3 : tie.Need-returns-3 Inv-loop μ-loop
-returns-3 c = ?
+returns-3 c = located-gap _ _ (c .before .before .before .before .before .before .pre) _ (c .before .before .before .before .keys-start .ensures) _ _ (omega arith) (c .before .before .loop .inv .1 .1 .0) (λ l. absurd (omega arith))
 
 pub locate-spec : {M : Type 1} → statement M
 locate-spec =

@@ -1,3 +1,7 @@
+use native.Mathlib.Omega.{arith}
+use Rattle.top.specs.Top.{withSlot}
+use Rattle.top.proofs.Words.{offsets}
+use lib.ListN.{length-set}
 use borrow.Author.Needs.{needs}
 use Rattle.top.proofs.write_slot.Statement.{statement}
 use Rattle.top.proofs.write_slot.Tie as tie
@@ -9,89 +13,69 @@ use Rattle.geometry.proofs.Geometry.marks_start.Reads as marks-start-reads
 use Rattle.geometry.proofs.Geometry.pays_start.Reads as pays-start-reads
 use Rattle.top.proofs.with_bit.Reads as with-bit-reads
 
--- src/lib.rt:96:9
 block-records-requires : tie.Need-block-records-requires
 block-records-requires c κs = search needs
 
--- src/lib.rt:97:9
 marks-start-requires : tie.Need-marks-start-requires
 marks-start-requires c κs = search needs
 
--- src/lib.rt:98:9
 keys-start-requires : tie.Need-keys-start-requires
 keys-start-requires c κs = search needs
 
--- src/lib.rt:99:9
 pays-start-requires : tie.Need-pays-start-requires
 pays-start-requires c κs = search needs
 
--- src/lib.rt:100:24
 div-page : tie.Need-div-page
 div-page c = search needs
 
--- src/lib.rt:100:16
 add-page : tie.Need-add-page
-add-page c = ?
+add-page c = rw (c .before .before .marks-start .ensures, c .before .before .before .block-records .ensures) (omega (arith, offsets _ _ _ (c .before .before .before .before .before .pre .0) (c .before .before .before .before .before .pre .1 .0), c .before .before .before .before .before .pre .0))
 
--- src/lib.rt:101:18
 rem-shift : tie.Need-rem-shift
 rem-shift c = search needs
 
--- src/lib.rt:101:17
 cast-shift : tie.Need-cast-shift
-cast-shift c = ?
+cast-shift c = rw (c .before .before .before .block-records .ensures) (omega (arith, offsets _ _ _ (c .before .before .before .before .before .pre .0) (c .before .before .before .before .before .pre .1 .0)))
 
--- src/lib.rt:102:22
 mul-with-bit : tie.Need-mul-with-bit
-mul-with-bit c = ?
+mul-with-bit c = rw (c .before .before .marks-start .ensures, c .before .before .before .block-records .ensures) (omega (arith, offsets _ _ _ (c .before .before .before .before .before .pre .0) (c .before .before .before .before .before .pre .1 .0), c .before .before .before .before .before .pre .0))
 
--- src/lib.rt:102:22
 slice-read-with-bit : tie.Need-slice-read-with-bit
-slice-read-with-bit c = ?
+slice-read-with-bit c = rw (c .before .before .before .marks-start .ensures, c .before .before .before .before .block-records .ensures) (offsets _ _ _ (c .before .before .before .before .before .before .pre .0) (c .before .before .before .before .before .before .pre .1 .0) .mark)
 
--- src/lib.rt:102:9
 with-bit-requires : tie.Need-with-bit-requires
-with-bit-requires c κs = ?
+with-bit-requires c κs = rw (c .before .before .before .marks-start .ensures, c .before .before .before .before .block-records .ensures) (c .before .before .before .before .before .before .pre .1 .1, offsets _ _ _ (c .before .before .before .before .before .before .pre .0) (c .before .before .before .before .before .before .pre .1 .0) .shift)
 
--- src/lib.rt:103:7
 add-s : tie.Need-add-s
-add-s c = ?
+add-s c = rw (c .before .before .before .keys-start .ensures) (omega (arith, offsets _ _ _ (c .before .before .before .before .before .before .before .pre .0) (c .before .before .before .before .before .before .before .pre .1 .0), c .before .before .before .before .before .before .before .pre .0))
 
--- src/lib.rt:103:5
 mul-s : tie.Need-mul-s
-mul-s c = ?
+mul-s c = rw (c .before .before .before .keys-start .ensures) (omega (arith, offsets _ _ _ (c .before .before .before .before .before .before .before .pre .0) (c .before .before .before .before .before .before .before .pre .1 .0), c .before .before .before .before .before .before .before .pre .0))
 
--- src/lib.rt:103:5
 slice-write-s : tie.Need-slice-write-s
-slice-write-s c = ?
+slice-write-s c = rw (c .before .before .before .keys-start .ensures) (offsets _ _ _ (c .before .before .before .before .before .before .before .pre .0) (c .before .before .before .before .before .before .before .pre .1 .0) .key)
 
--- src/lib.rt:104:7
 add-s-2 : tie.Need-add-s-2
-add-s-2 c = ?
+add-s-2 c = rw (c .before .before .pays-start .ensures) (omega (arith, offsets _ _ _ (c .before .before .before .before .before .before .before .pre .0) (c .before .before .before .before .before .before .before .pre .1 .0), c .before .before .before .before .before .before .before .pre .0))
 
--- src/lib.rt:104:5
 mul-s-2 : tie.Need-mul-s-2
-mul-s-2 c = ?
+mul-s-2 c = rw (c .before .before .pays-start .ensures) (omega (arith, offsets _ _ _ (c .before .before .before .before .before .before .before .pre .0) (c .before .before .before .before .before .before .before .pre .1 .0), c .before .before .before .before .before .before .before .pre .0))
 
--- src/lib.rt:104:5
 slice-write-s-2 : tie.Need-slice-write-s-2
-slice-write-s-2 c = ?
+slice-write-s-2 c = rw (c .before .before .pays-start .ensures) (simp length-set (offsets _ _ _ (c .before .before .before .before .before .before .before .pre .0) (c .before .before .before .before .before .before .before .pre .1 .0) .pay))
 
--- src/lib.rt:105:5
 mul-s-3 : tie.Need-mul-s-3
-mul-s-3 c = ?
+mul-s-3 c = rw (c .before .before .before .before .marks-start .ensures, c .before .before .before .before .before .block-records .ensures) (omega (arith, offsets _ _ _ (c .before .before .before .before .before .before .before .pre .0) (c .before .before .before .before .before .before .before .pre .1 .0), c .before .before .before .before .before .before .before .pre .0))
 
--- src/lib.rt:105:5
 slice-write-s-3 : tie.Need-slice-write-s-3
-slice-write-s-3 c = ?
+slice-write-s-3 c = rw (c .before .before .before .before .marks-start .ensures, c .before .before .before .before .before .block-records .ensures) (simp length-set (offsets _ _ _ (c .before .before .before .before .before .before .before .pre .0) (c .before .before .before .before .before .before .before .pre .1 .0) .mark))
 
--- src/lib.rt:92:1
 same-length : tie.Need-same-length
 same-length c = search needs
 
--- src/lib.rt:92:1
 returns : tie.Need-returns
-returns c = ?
+unfolding withSlot
+returns c = rw (c .with-bit .ensures, c .before .before .before .before .marks-start .ensures, c .before .before .before .before .before .block-records .ensures, c .before .before .before .keys-start .ensures, c .before .before .pays-start .ensures)
 
 pub write-slot-spec : {M : Type 1} → statement M
 write-slot-spec =
