@@ -5,3 +5,4 @@ pub mod Spots
 pub mod Moves
 pub mod Pushing
 pub mod Locating
+pub mod Closing

@@ -91,7 +91,7 @@ padded-words g rs h l =
 
 -- Words with other slots in level 0.
 module _ (g : Geometry) (ws : List ℕ) (k : Ranged g) (i : listStart g 1 ≤ length ws) where
-  head-long : length (take 12 ws) ≡ 12
+  pub head-long : length (take 12 ws) ≡ 12
   unfolding marksStart keysStart paysStart
   head-long = length-take-le 12 ws (omega (arith, pays-end g))
 

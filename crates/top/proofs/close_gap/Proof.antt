@@ -1,3 +1,8 @@
+use lib.ListN.{length-set}
+use native.Mathlib.Omega.{arith}
+use mathlib.Core.Path.{_∙_}
+use Rattle.geometry.proofs.Bounds.{top-capacity-high}
+use Rattle.top.proofs.Closing.{closing-room, closing-inside, closed-top}
 use borrow.Author.Needs.{needs}
 use Rattle.top.proofs.close_gap.Statement.{statement}
 use Rattle.top.proofs.close_gap.Tie as tie
@@ -11,81 +16,62 @@ use Rattle.geometry.proofs.Geometry.pays_start.Reads as pays-start-reads
 use Rattle.geometry.proofs.Geometry.top_capacity.Reads as top-capacity-reads
 use Rattle.top.proofs.close_part.Reads as close-part-reads
 
--- src/lib.rt:181:9
 block-records-requires : tie.Need-block-records-requires
 block-records-requires c κs = search needs
 
--- src/lib.rt:182:9
 capacity-requires : tie.Need-capacity-requires
 capacity-requires c κs = search needs
 
--- src/lib.rt:183:9
 top-capacity-requires : tie.Need-top-capacity-requires
 top-capacity-requires c κs = search needs
 
--- src/lib.rt:184:9
 marks-start-requires : tie.Need-marks-start-requires
 marks-start-requires c κs = search needs
 
--- src/lib.rt:185:9
 keys-start-requires : tie.Need-keys-start-requires
 keys-start-requires c κs = search needs
 
--- src/lib.rt:186:9
 pays-start-requires : tie.Need-pays-start-requires
 pays-start-requires c κs = search needs
 
--- src/lib.rt:187:5
 close-part-requires : tie.Need-close-part-requires
-close-part-requires c κs = ?
+close-part-requires c κs = rw (c .before .before .before .before .before .capacity .ensures, c .before .before .before .marks-start .ensures) (c .before .before .before .before .before .before .before .before .pre .1 .1, closing-inside _ _ (c .before .before .before .before .before .before .before .before .pre .0) .0)
 
--- src/lib.rt:188:31
 mul-close-part : tie.Need-mul-close-part
-mul-close-part c = ?
+mul-close-part c = rw (c .before .before .before .before .before .before .before .before .before .before .block-records .ensures) (omega (arith, closing-room _ _ _ (c .before .before .before .before .before .before .before .before .before .before .before .before .pre .1 .1), top-capacity-high _ (c .before .before .before .before .before .before .before .before .before .before .before .before .pre .0 .valid .ranged)))
 
--- src/lib.rt:188:42
 mul-close-part-2 : tie.Need-mul-close-part-2
-mul-close-part-2 c = ?
+mul-close-part-2 c = rw (c .before .before .before .before .before .before .before .before .before .before .block-records .ensures) (omega (arith, closing-room _ _ _ (c .before .before .before .before .before .before .before .before .before .before .before .before .pre .1 .1), top-capacity-high _ (c .before .before .before .before .before .before .before .before .before .before .before .before .pre .0 .valid .ranged)))
 
--- src/lib.rt:188:5
 close-part-requires-2 : tie.Need-close-part-requires-2
-close-part-requires-2 c κs = ?
+close-part-requires-2 c κs = rw (c .before .before .before .before .before .before .before .before .before .before .block-records .ensures, c .before .before .before .before .before .before .before .before .top-capacity .ensures, c .before .before .before .before .before .before .keys-start .ensures) (closing-room _ _ _ (c .before .before .before .before .before .before .before .before .before .before .before .before .pre .1 .1), omega (arith, closing-inside _ _ (c .before .before .before .before .before .before .before .before .before .before .before .before .pre .0), c .before .before .before .close-part .kept .0))
 
--- src/lib.rt:189:31
 mul-close-part-3 : tie.Need-mul-close-part-3
-mul-close-part-3 c = ?
+mul-close-part-3 c = rw (c .before .before .before .before .before .before .before .before .before .before .before .before .before .before .block-records .ensures) (omega (arith, closing-room _ _ _ (c .before .before .before .before .before .before .before .before .before .before .before .before .before .before .before .before .pre .1 .1), top-capacity-high _ (c .before .before .before .before .before .before .before .before .before .before .before .before .before .before .before .before .pre .0 .valid .ranged)))
 
--- src/lib.rt:189:42
 mul-close-part-4 : tie.Need-mul-close-part-4
-mul-close-part-4 c = ?
+mul-close-part-4 c = rw (c .before .before .before .before .before .before .before .before .before .before .before .before .before .before .block-records .ensures) (omega (arith, closing-room _ _ _ (c .before .before .before .before .before .before .before .before .before .before .before .before .before .before .before .before .pre .1 .1), top-capacity-high _ (c .before .before .before .before .before .before .before .before .before .before .before .before .before .before .before .before .pre .0 .valid .ranged)))
 
--- src/lib.rt:189:5
 close-part-requires-3 : tie.Need-close-part-requires-3
-close-part-requires-3 c κs = ?
+close-part-requires-3 c κs = rw (c .before .before .before .before .before .before .before .before .before .before .before .before .before .before .block-records .ensures, c .before .before .before .before .before .before .before .before .before .before .before .before .top-capacity .ensures, c .before .before .before .before .before .before .before .before .before .pays-start .ensures) (closing-room _ _ _ (c .before .before .before .before .before .before .before .before .before .before .before .before .before .before .before .before .pre .1 .1), omega (arith, closing-inside _ _ (c .before .before .before .before .before .before .before .before .before .before .before .before .before .before .before .before .pre .0), c .before .before .before .before .before .before .before .close-part .kept .0, c .before .before .before .close-part2 .kept .0))
 
--- src/lib.rt:190:20
 mul-s : tie.Need-mul-s
-mul-s c = ?
+mul-s c = rw (c .before .before .before .before .before .before .before .before .before .before .before .before .before .before .before .before .before .block-records .ensures) (omega (arith, closing-room _ _ _ (c .before .before .before .before .before .before .before .before .before .before .before .before .before .before .before .before .before .before .before .pre .1 .1), top-capacity-high _ (c .before .before .before .before .before .before .before .before .before .before .before .before .before .before .before .before .before .before .before .pre .0 .valid .ranged)))
 
--- src/lib.rt:190:13
 sub-s : tie.Need-sub-s
-sub-s c = ?
+sub-s c = rw (c .before .before .before .before .before .before .before .before .before .before .before .before .before .before .before .before .before .block-records .ensures, c .before .before .before .before .before .before .before .before .before .before .before .before .before .before .before .top-capacity .ensures) (omega (arith, closing-room _ _ _ (c .before .before .before .before .before .before .before .before .before .before .before .before .before .before .before .before .before .before .before .pre .1 .1)))
 
--- src/lib.rt:190:12
 cast-s : tie.Need-cast-s
-cast-s c = ?
+cast-s c = rw (c .before .before .before .before .before .before .before .before .before .before .before .before .before .before .before .top-capacity .ensures) (omega (arith, top-capacity-high _ (c .before .before .before .before .before .before .before .before .before .before .before .before .before .before .before .before .before .before .before .pre .0 .valid .ranged)))
 
--- src/lib.rt:190:5
 slice-write-s : tie.Need-slice-write-s
-slice-write-s c = ?
+slice-write-s c = omega (arith, closing-inside _ _ (c .before .before .before .before .before .before .before .before .before .before .before .before .before .before .before .before .before .before .before .pre .0), c .before .before .before .before .before .before .before .before .before .before .close-part .kept .0, c .before .before .before .before .before .before .close-part2 .kept .0, c .before .before .close-part3 .kept .0)
 
--- src/lib.rt:177:1
 same-length : tie.Need-same-length
-same-length c = ?
+same-length c = simp length-set (omega (arith, c .before .before .before .before .before .before .before .before .before .before .close-part .kept .0, c .before .before .before .before .before .before .close-part2 .kept .0, c .before .before .close-part3 .kept .0))
 
--- src/lib.rt:177:1
 returns : tie.Need-returns
-returns c = ?
+returns c = rw (c .before .before .close-part3 .ensures, c .before .before .before .before .before .before .close-part2 .ensures, c .before .before .before .before .before .before .before .before .before .before .close-part .ensures, c .before .before .before .before .before .before .before .before .before .before .before .before .before .before .before .before .before .block-records .ensures, c .before .before .before .before .before .before .before .before .before .before .before .before .before .before .before .before .capacity .ensures, c .before .before .before .before .before .before .before .before .before .before .before .before .before .before .before .top-capacity .ensures, c .before .before .before .before .before .before .before .before .before .before .before .before .before .before .marks-start .ensures, c .before .before .before .before .before .before .before .before .before .before .before .before .before .keys-start .ensures, c .before .before .before .before .before .before .before .before .before .before .before .before .pays-start .ensures) (closed-top _ _ (c .before .before .before .before .before .before .before .before .before .before .before .before .before .before .before .before .before .before .before .pre .0) _ _ (c .before .before .before .before .before .before .before .before .before .before .before .before .before .before .before .before .before .before .before .pre .1 .1) (c .before .before .before .before .before .before .before .before .before .before .before .before .before .before .before .before .before .before .before .pre .1 .0))
 
 pub close-gap-spec : {M : Type 1} → statement M
 close-gap-spec =
