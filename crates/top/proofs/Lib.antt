@@ -6,3 +6,4 @@ pub mod Moves
 pub mod Pushing
 pub mod Locating
 pub mod Closing
+pub mod Laws
