@@ -41,14 +41,11 @@ bit-moves m (suc j) t =
     let n : m % 2 + 2 * (m / 2) ≡ m = omega arith in
     rw (n, ← pow-succ' 2 j) at (doubled (setBit (m / 2) j t) w (2 ^ j) (m / 2) (bit t) (m % 2) k)
 
-pub bit-on : (m j : ℕ) → eqb (m / 2 ^ j % 2) 1 ≡ false → setBit m j true ≡ m + 2 ^ j
+bit-on : (m j : ℕ) → eqb (m / 2 ^ j % 2) 1 ≡ false → setBit m j true ≡ m + 2 ^ j
 bit-on m j e = omega (arith, rw e at (bit-moves m j true))
 
 pub bit-off : (m j : ℕ) → eqb (m / 2 ^ j % 2) 1 ≡ true → setBit m j false + 2 ^ j ≡ m
 bit-off m j e = omega (arith, rw e at (bit-moves m j false))
-
-pub bit-off-left : (m j : ℕ) → eqb (m / 2 ^ j % 2) 1 ≡ true → setBit m j false ≡ m - 2 ^ j
-bit-off-left m j e = omega (arith, bit-off m j e)
 
 pub bit-kept-on : (m j : ℕ) → eqb (m / 2 ^ j % 2) 1 ≡ true → setBit m j true ≡ m
 bit-kept-on m j e = omega (arith, rw e at (bit-moves m j true))
@@ -105,8 +102,14 @@ marks-low B n q S h i b =
     take-most (suc n) [] = omega arith
     take-most (suc n) (x ∷ xs) = omega (arith, take-most n xs)
 
--- the code's word of bit j alone
+-- the code's word of bit j alone, added and taken away
 pub one-bit : (j : ℕ) → j < 16 → (1 * 2 ^ j % 4294967296 ≡ 2 ^ j) × (2 ^ j ≤ 32768)
 one-bit j h =
     let l : 2 ^ j ≤ 32768 = pow-mono {i = j} {j = 15} (omega arith) in
     (omega arith, l)
+
+pub bit-comes : (m j : ℕ) → j < 16 → eqb (m / 2 ^ j % 2) 1 ≡ false → m + 1 * 2 ^ j % 4294967296 ≡ setBit m j true
+bit-comes m j h e = omega (arith, one-bit j h, bit-on m j e)
+
+pub bit-goes : (m j : ℕ) → j < 16 → eqb (m / 2 ^ j % 2) 1 ≡ true → m - 1 * 2 ^ j % 4294967296 ≡ setBit m j false
+bit-goes m j h e = omega (arith, one-bit j h, bit-off m j e)

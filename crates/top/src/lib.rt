@@ -184,8 +184,10 @@ pub fn close_gap(s: &mut [u32], g: Geometry, first: usize, w: usize)
     let marks = g.marks_start();
     let keys = g.keys_start();
     let pays = g.pays_start();
+    let at = first * b;
+    let gap = w * b;
     close_part(s, marks, pages, first, w);
-    close_part(s, keys, room, first * b, w * b);
-    close_part(s, pays, room, first * b, w * b);
-    s[8] = (room - w * b) as u32;
+    close_part(s, keys, room, at, gap);
+    close_part(s, pays, room, at, gap);
+    s[8] = (room - gap) as u32;
 }

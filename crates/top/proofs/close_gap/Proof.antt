@@ -1,6 +1,5 @@
-use lib.ListN.{length-set}
 use native.Mathlib.Omega.{arith}
-use mathlib.Core.Path.{_∙_}
+use lib.ListN.{length-set}
 use Rattle.geometry.proofs.Bounds.{top-capacity-high}
 use Rattle.top.proofs.Closing.{closing-room, closing-inside, closed-top}
 use borrow.Author.Needs.{needs}
@@ -34,29 +33,20 @@ keys-start-requires c κs = search needs
 pays-start-requires : tie.Need-pays-start-requires
 pays-start-requires c κs = search needs
 
+mul-at : tie.Need-mul-at
+mul-at c = rw (c .before .before .before .before .before .block-records .ensures) (omega (arith, closing-room _ _ _ (c .before .before .before .before .before .before .before .pre .1 .1), top-capacity-high _ (c .before .before .before .before .before .before .before .pre .0 .valid .ranged)))
+
+mul-gap : tie.Need-mul-gap
+mul-gap c = rw (c .before .before .before .before .before .block-records .ensures) (omega (arith, closing-room _ _ _ (c .before .before .before .before .before .before .before .pre .1 .1), top-capacity-high _ (c .before .before .before .before .before .before .before .pre .0 .valid .ranged)))
+
 close-part-requires : tie.Need-close-part-requires
 close-part-requires c κs = rw (c .before .before .before .before .before .capacity .ensures, c .before .before .before .marks-start .ensures) (c .before .before .before .before .before .before .before .before .pre .1 .1, closing-inside _ _ (c .before .before .before .before .before .before .before .before .pre .0) .0)
-
-mul-close-part : tie.Need-mul-close-part
-mul-close-part c = rw (c .before .before .before .before .before .before .before .before .before .before .block-records .ensures) (omega (arith, closing-room _ _ _ (c .before .before .before .before .before .before .before .before .before .before .before .before .pre .1 .1), top-capacity-high _ (c .before .before .before .before .before .before .before .before .before .before .before .before .pre .0 .valid .ranged)))
-
-mul-close-part-2 : tie.Need-mul-close-part-2
-mul-close-part-2 c = rw (c .before .before .before .before .before .before .before .before .before .before .block-records .ensures) (omega (arith, closing-room _ _ _ (c .before .before .before .before .before .before .before .before .before .before .before .before .pre .1 .1), top-capacity-high _ (c .before .before .before .before .before .before .before .before .before .before .before .before .pre .0 .valid .ranged)))
 
 close-part-requires-2 : tie.Need-close-part-requires-2
 close-part-requires-2 c κs = rw (c .before .before .before .before .before .before .before .before .before .before .block-records .ensures, c .before .before .before .before .before .before .before .before .top-capacity .ensures, c .before .before .before .before .before .before .keys-start .ensures) (closing-room _ _ _ (c .before .before .before .before .before .before .before .before .before .before .before .before .pre .1 .1), omega (arith, closing-inside _ _ (c .before .before .before .before .before .before .before .before .before .before .before .before .pre .0), c .before .before .before .close-part .kept .0))
 
-mul-close-part-3 : tie.Need-mul-close-part-3
-mul-close-part-3 c = rw (c .before .before .before .before .before .before .before .before .before .before .before .before .before .before .block-records .ensures) (omega (arith, closing-room _ _ _ (c .before .before .before .before .before .before .before .before .before .before .before .before .before .before .before .before .pre .1 .1), top-capacity-high _ (c .before .before .before .before .before .before .before .before .before .before .before .before .before .before .before .before .pre .0 .valid .ranged)))
-
-mul-close-part-4 : tie.Need-mul-close-part-4
-mul-close-part-4 c = rw (c .before .before .before .before .before .before .before .before .before .before .before .before .before .before .block-records .ensures) (omega (arith, closing-room _ _ _ (c .before .before .before .before .before .before .before .before .before .before .before .before .before .before .before .before .pre .1 .1), top-capacity-high _ (c .before .before .before .before .before .before .before .before .before .before .before .before .before .before .before .before .pre .0 .valid .ranged)))
-
 close-part-requires-3 : tie.Need-close-part-requires-3
 close-part-requires-3 c κs = rw (c .before .before .before .before .before .before .before .before .before .before .before .before .before .before .block-records .ensures, c .before .before .before .before .before .before .before .before .before .before .before .before .top-capacity .ensures, c .before .before .before .before .before .before .before .before .before .pays-start .ensures) (closing-room _ _ _ (c .before .before .before .before .before .before .before .before .before .before .before .before .before .before .before .before .pre .1 .1), omega (arith, closing-inside _ _ (c .before .before .before .before .before .before .before .before .before .before .before .before .before .before .before .before .pre .0), c .before .before .before .before .before .before .before .close-part .kept .0, c .before .before .before .close-part2 .kept .0))
-
-mul-s : tie.Need-mul-s
-mul-s c = rw (c .before .before .before .before .before .before .before .before .before .before .before .before .before .before .before .before .before .block-records .ensures) (omega (arith, closing-room _ _ _ (c .before .before .before .before .before .before .before .before .before .before .before .before .before .before .before .before .before .before .before .pre .1 .1), top-capacity-high _ (c .before .before .before .before .before .before .before .before .before .before .before .before .before .before .before .before .before .before .before .pre .0 .valid .ranged)))
 
 sub-s : tie.Need-sub-s
 sub-s c = rw (c .before .before .before .before .before .before .before .before .before .before .before .before .before .before .before .before .before .block-records .ensures, c .before .before .before .before .before .before .before .before .before .before .before .before .before .before .before .top-capacity .ensures) (omega (arith, closing-room _ _ _ (c .before .before .before .before .before .before .before .before .before .before .before .before .before .before .before .before .before .before .before .pre .1 .1)))
@@ -83,14 +73,11 @@ close-gap-spec =
     marks-start-requires
     keys-start-requires
     pays-start-requires
+    mul-at
+    mul-gap
     close-part-requires
-    mul-close-part
-    mul-close-part-2
     close-part-requires-2
-    mul-close-part-3
-    mul-close-part-4
     close-part-requires-3
-    mul-s
     sub-s
     cast-s
     slice-write-s
