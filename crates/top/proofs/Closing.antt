@@ -4,20 +4,18 @@ use mathlib.Core.Path.{_≡_, refl, sym, ap, _∙_}
 use mathlib.Core.List.{List, [], _∷_, _++_, map, map-append, append-assoc}
 use native.Mathlib.Nat.{mul-le-mul-right, add-mul, zero-add, suc-add, sub-zero}
 use native.Mathlib.Omega.{arith}
-use lib.ListN.{length, take, drop, getD, set, replicate, length-append, length-drop, length-map, length-replicate, take-append-drop}
+use lib.ListN.{length, take, drop, set, replicate, length-append, length-drop, length-map, take-append-drop}
 use lib.Seq.{length-take-le, take-all, take-at, drop-at, take-append-le, drop-append-le}
 use Rattle.geometry.specs.declared.Geometry.{Geometry}
-use Rattle.geometry.specs.Geometry.{Ranged, capacityOf, topCapacityOf, marksStart, keysStart, paysStart, listStart}
+use Rattle.geometry.specs.Geometry.{capacityOf, topCapacityOf, marksStart, keysStart, paysStart, listStart}
 use Rattle.geometry.proofs.Laws.{pays-end}
 use Rattle.levels.specs.Record.{Rec}
-use Rattle.words.specs.Layout.{word, topCountAt, topSlots, topRecs, keysOf, paysOf}
-use Rattle.words.proofs.Slots.{padRecs, blankRec}
-use Rattle.words.proofs.Top.{marksOf, marks-pad, top-slots-length}
+use Rattle.words.specs.Layout.{topCountAt, topSlots, topRecs, keysOf, paysOf}
+use Rattle.words.proofs.Slots.{padRecs, blankRec, map-replicate}
+use Rattle.words.proofs.Top.{map-take, map-drop, marksOf, marks-length, marks-pad, top-slots-length}
 use Rattle.top.specs.Top.{TopReady, withSlots, withTop, closed}
-use Rattle.top.proofs.Lists.{map-take, map-drop}
-use Rattle.top.proofs.Marks.{marks-long}
 use Rattle.top.proofs.Moves.{without, without-length, closed-mid}
-use Rattle.top.proofs.Words.{lay, slots-lay, top-is, padded-is, head-long, ready-inside, ready-is, ready-count}
+use Rattle.top.proofs.Words.{lay, slots-lay, top-is, padded-is, head-long, ready-inside, ready-is}
 
 -- the mark words of pages in a row
 marks-append : (B n m : ℕ) (xs ys : List Rec) → length xs ≡ n * B → marksOf B (n + m) (xs ++ ys) ≡ marksOf B n xs ++ marksOf B m ys
@@ -45,19 +43,15 @@ marks-without B K first w S h e l =
     let y : K * B ≡ (first + w) * B + m * B = ap (λ (n : ℕ). n * B) q ∙ add-mul (first + w) m B in
     let d : length (drop ((first + w) * B) S) ≡ m * B = rw (length-drop, e) (omega (arith, y)) in
     let a : length (take (first * B) S) ≡ first * B = length-take-le (first * B) S (omega arith) in
-    let t : take first (marksOf B K S) ≡ marksOf B first (take (first * B) S) = ap (λ (n : ℕ). take first (marksOf B n S)) o ∙ ap (take first) (marks-cut B first (w + m) S (omega arith)) ∙ take-at (marksOf B first (take (first * B) S)) _ first (marks-long B first (take (first * B) S)) in
-    let u : drop (first + w) (marksOf B K S) ≡ marksOf B m (drop ((first + w) * B) S) = ap (λ (n : ℕ). drop (first + w) (marksOf B n S)) q ∙ ap (drop (first + w)) (marks-cut B (first + w) m S (omega arith)) ∙ drop-at (marksOf B (first + w) (take ((first + w) * B) S)) _ (first + w) (marks-long B (first + w) (take ((first + w) * B) S)) in
+    let t : take first (marksOf B K S) ≡ marksOf B first (take (first * B) S) = ap (λ (n : ℕ). take first (marksOf B n S)) o ∙ ap (take first) (marks-cut B first (w + m) S (omega arith)) ∙ take-at (marksOf B first (take (first * B) S)) _ first (marks-length B first (take (first * B) S)) in
+    let u : drop (first + w) (marksOf B K S) ≡ marksOf B m (drop ((first + w) * B) S) = ap (λ (n : ℕ). drop (first + w) (marksOf B n S)) q ∙ ap (drop (first + w)) (marks-cut B (first + w) m S (omega arith)) ∙ drop-at (marksOf B (first + w) (take ((first + w) * B) S)) _ (first + w) (marks-length B (first + w) (take ((first + w) * B) S)) in
     ap (λ (n : ℕ). marksOf B n (without (first * B) (w * B) blankRec S)) p
     ∙ rw (i, marks-append B first (m + w) (take (first * B) S) (drop ((first + w) * B) S ++ replicate (w * B) blankRec) a, marks-append B m w (drop ((first + w) * B) S) (replicate (w * B) blankRec) d, marks-blank B w h, t, u)
-
-map-replicate : {A B : Type 0} (f : A → B) (n : ℕ) (a : A) → map f (replicate n a) ≡ replicate n (f a)
-map-replicate f zero a = refl
-map-replicate {B = B} f (suc n) a = ap (λ (l : List B). f a ∷ l) (map-replicate f n a)
 
 map-without : (f : Rec → ℕ) (at gap : ℕ) (S : List Rec) → f blankRec ≡ 0 → map f (without at gap blankRec S) ≡ without at gap 0 (map f S)
 map-without f at gap S e =
     map-append f (take at S) (drop (at + gap) S ++ replicate gap blankRec)
-    ∙ rw (map-take f at S, map-append f (drop (at + gap) S) (replicate gap blankRec), map-drop f (at + gap) S, map-replicate f gap blankRec, e)
+    ∙ rw (← map-take f at S, map-append f (drop (at + gap) S) (replicate gap blankRec), ← map-drop f (at + gap) S, map-replicate f gap blankRec, e)
 
 -- one part at a time
 module _ (g : Geometry) (h m k v r : List ℕ) (at gap : ℕ) (eh : length h ≡ 12) where
@@ -124,7 +118,7 @@ module _ (g : Geometry) (ws : List ℕ) (t : TopReady g ws) (first w : ℕ) (l :
       let R = drop (listStart g 1) ws in
       let M = marksOf B K S in
       let eh = head-long g ws (k .ranged) (k .inside) in
-      let em = marks-long B K S in
+      let em = marks-length B K S in
       let ew : length (without first w 0 M) ≡ K = without-length first w 0 M (rw em l) ∙ em in
       let ek : length (keysOf S) ≡ T = length-map S _ ∙ long in
       let ev : length (paysOf S) ≡ T = length-map S _ ∙ long in

@@ -1,7 +1,7 @@
 -- Level 0's edits against the words of a store, for the calls.
 use Prim.Native.Nat.{ℕ, zero, suc, _+_, _*_, _^_, _≤_}
 use mathlib.Core.Path.{_≡_, refl, sym, ap, _∙_}
-use mathlib.Core.Bool.{true, and-eq-true-iff}
+use mathlib.Core.Bool.{true}
 use mathlib.Core.List.{List, [], _∷_, _++_, append-assoc}
 use native.Mathlib.Nat.{add-zero}
 use native.Mathlib.Omega.{arith}
@@ -10,10 +10,10 @@ use lib.ListN.{length, take, drop, set, length-append, length-set}
 use lib.Seq.{take-at, drop-at, take-nil, drop-nil, take-add, drop-drop, take-append-seam}
 use borrow.Author.Tests.{leb-true}
 use Rattle.geometry.specs.declared.Geometry.{Geometry}
-use Rattle.geometry.specs.Geometry.{Valid, headerLength, capacityOf, topCapacityOf, marksStart, listStart, blockWidth, storeLength}
+use Rattle.geometry.specs.Geometry.{Valid, capacityOf, topCapacityOf, marksStart, listStart, blockWidth, storeLength}
 use Rattle.levels.specs.Basics.{all}
 use Rattle.levels.specs.Record.{Rec, Level, records, rising, pages}
-use Rattle.levels.specs.Store.{Store, rows}
+use Rattle.levels.specs.Store.{Store}
 use Rattle.levels.proofs.Basics.{and-left}
 use Rattle.levels.proofs.Compaction.{pages-records}
 use Rattle.levels.proofs.Levels.{records-append}
@@ -23,11 +23,11 @@ use Rattle.words.specs.Layout.{word, topCountAt, topSlots, topRecs, each, store
 use Rattle.words.specs.Form.{topFits, keysRise, topUnusedZero, formed}
 use Rattle.words.proofs.Parts.{part, part-mid}
 use Rattle.words.proofs.Slots.{padRecs, pad-blank}
-use Rattle.words.proofs.Top.{marksOf, topLength, top-words-length, top-marks, top-read, top-slots-length}
+use Rattle.words.proofs.Top.{topLength, top-words-length, top-marks, top-read, top-slots-length}
 use Rattle.words.proofs.State.{top-end, top-inside, header-length, words-length}
-use Rattle.words.proofs.Form.{Clauses, formed-clauses, all-part, marks-small}
+use Rattle.words.proofs.Form.{formed-clauses, all-part, marks-small}
 use Rattle.top.specs.declared.Slot.{Slot}
-use Rattle.top.specs.Top.{TopReady, withSlots, withTop, withSlot, recOf}
+use Rattle.top.specs.Top.{TopReady, withTop, withSlot, recOf}
 use Rattle.top.proofs.Words.{ready-inside, ready-is, slot-set, slots-back}
 
 -- c is word 8, and nothing else in the header

@@ -1,11 +1,11 @@
 -- Lists: an element set or read in the second of two lists, and a list that another one replaces from its start on.
 use Prim.Native.Nat.{ℕ, zero, suc, _+_, _≤_, _<_}
-use mathlib.Core.Path.{_≡_, refl, sym, ap, _∙_}
-use mathlib.Core.List.{List, [], _∷_, _++_, map, append-nil}
+use mathlib.Core.Path.{_≡_, refl, ap}
+use mathlib.Core.List.{List, [], _∷_, _++_, map}
 use native.Mathlib.Nat.{suc-add, zero-add, add-zero}
 use native.Mathlib.Omega.{arith}
 use lib.ListN.{length, take, drop, getD, set, length-append, length-drop}
-use lib.Seq.{getD-append-add, getD-append-seam, length-take-le, take-nil, drop-nil, take-at}
+use lib.Seq.{getD-append-add, length-take-le, drop-nil, take-at}
 
 module _ {A : Type 0} where
   pub set-right : (p x : List A) (n j : ℕ) (v : A) → length p ≡ n → set (p ++ x) (n + j) v ≡ p ++ set x j v
@@ -57,16 +57,6 @@ pub map-set : {A B : Type 0} (f : A → B) (xs : List A) (i : ℕ) (a : A) → m
 map-set f [] i a = refl
 map-set f (x ∷ xs) zero a = refl
 map-set {B = B} f (x ∷ xs) (suc i) a = ap (λ (l : List B). f x ∷ l) (map-set f xs i a)
-
-pub map-take : {A B : Type 0} (f : A → B) (n : ℕ) (xs : List A) → map f (take n xs) ≡ take n (map f xs)
-map-take f zero xs = refl
-map-take f (suc n) [] = refl
-map-take {B = B} f (suc n) (x ∷ xs) = ap (λ (l : List B). f x ∷ l) (map-take f n xs)
-
-pub map-drop : {A B : Type 0} (f : A → B) (n : ℕ) (xs : List A) → map f (drop n xs) ≡ drop n (map f xs)
-map-drop f zero xs = refl
-map-drop f (suc n) [] = refl
-map-drop f (suc n) (x ∷ xs) = map-drop f n xs
 
 pub map-at : {A B : Type 0} (f : A → B) (xs : List A) (i : ℕ) (a : A) (b : B) → i < length xs → getD (map f xs) i b ≡ f (getD xs i a)
 map-at f [] i a b h = absurd (omega arith)

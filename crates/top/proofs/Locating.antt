@@ -7,7 +7,6 @@ use Rattle.geometry.specs.declared.Geometry.{Geometry}
 use Rattle.geometry.specs.Geometry.{keysStart}
 use Rattle.levels.proofs.Rising.{test-rising}
 use Rattle.words.specs.Layout.{word, topCountAt, topRecs}
-use Rattle.top.specs.declared.Spot.{Spot}
 use Rattle.top.specs.declared.Spot.the-variants.{Found, Gap}
 use Rattle.top.specs.Top.{TopReady, spotOf}
 use Rattle.top.proofs.Words.{ready-count, ready-key}

@@ -2,19 +2,18 @@
 use Prim.Native.Nat.{ℕ, zero, suc, _+_, _-_, _*_, _/_, _%_, _^_, _≤_, _<_}
 use mathlib.Core.Path.{_≡_, refl, sym, ap, _∙_}
 use mathlib.Core.Bool.{Bool, true, false}
-use mathlib.Core.List.{List, [], _∷_, _++_, map}
+use mathlib.Core.List.{List, [], _∷_, map}
 use native.Mathlib.Nat.{pow-succ', div-one, div-div-eq-div-mul, mul-left-comm}
 use native.Mathlib.Omega.{arith}
 use lib.Dec.{eqb}
 use lib.Pow.{pow-mono}
-use lib.ListN.{length, take, drop, getD, set, replicate, length-drop, length-replicate, replicate-append-replicate}
-use lib.Seq.{take-set-lt, take-set-le, drop-set-lt, drop-set-add, drop-drop, length-take-le, take-at, drop-at, getD-take, getD-drop}
+use lib.ListN.{length, take, drop, getD, set, length-drop}
+use lib.Seq.{take-set-lt, take-set-le, drop-set-lt, drop-set-add, drop-drop, length-take-le, getD-take, getD-drop}
 use Rattle.levels.specs.Record.{Rec}
 use Rattle.words.specs.Layout.{bit, markWord}
-use Rattle.words.proofs.Slots.{bit-low, bits-high, bit-of, mark-bit, mark-low, blankRec}
+use Rattle.words.proofs.Slots.{bits-high, bit-of, mark-bit, mark-low, blankRec}
 use Rattle.words.proofs.Top.{marksOf}
 use Rattle.top.specs.Top.{setBit}
-use Rattle.top.proofs.Lists.{map-at}
 
 bit-rest : (b : Bool) (m : ℕ) → (bit b + 2 * m) % 2 ≡ bit b
 bit-rest true m = omega arith
@@ -61,11 +60,6 @@ marks-at B (suc n) zero S h = let z : 0 * B ≡ 0 = omega arith in rw z
 marks-at B (suc n) (suc q) S h =
     let z : suc q * B ≡ B + q * B = omega arith in
     marks-at B n q (drop B S) (omega arith) ∙ rw (z, drop-drop)
-
-pub marks-long : (B n : ℕ) (S : List Rec) → length (marksOf B n S) ≡ n
-unfolding marksOf
-marks-long B zero S = refl
-marks-long B (suc n) S = ap suc (marks-long B n (drop B S))
 
 -- bit b of the mark word of page q belongs to record q × B + b
 pub marks-bit : (B n q b : ℕ) (S : List Rec) → q < n → b < B → q * B + b < length S → eqb (getD (marksOf B n S) q 0 / 2 ^ b % 2) 1 ≡ getD S (q * B + b) blankRec .tombstone

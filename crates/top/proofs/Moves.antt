@@ -1,11 +1,11 @@
 -- Words copied down, words made 0, and a part of a list of words without some in its middle.
-use Prim.Native.Nat.{ℕ, zero, suc, _+_, _-_, _*_, _≤_, _<_}
-use mathlib.Core.Path.{_≡_, refl, sym, ap, _∙_}
-use mathlib.Core.List.{List, [], _∷_, _++_, append-assoc}
+use Prim.Native.Nat.{ℕ, _+_, _-_, _≤_, _<_}
+use mathlib.Core.Path.{_≡_, sym, ap, _∙_}
+use mathlib.Core.List.{List, _++_, append-assoc}
 use native.Mathlib.Numerals.{add-one}
 use native.Mathlib.Omega.{arith}
 use lib.ListN.{length, take, drop, getD, set, replicate, length-append, length-drop, length-replicate, getD-replicate}
-use lib.Seq.{length-take-le, paste, paste-zero, paste-suc, length-paste, length-paste-head, take-paste, drop-paste, getD-drop, take-all, take-append-le, drop-append-le, take-append-add, drop-append-add, take-at, drop-at, drop-drop}
+use lib.Seq.{length-take-le, paste, paste-zero, paste-suc, length-paste-head, take-paste, drop-paste, getD-drop, take-all, take-append-le, drop-append-le, take-append-add, drop-append-add, take-at, drop-at, drop-drop}
 use Rattle.top.specs.Top.{copied, cleared, closed}
 use Rattle.top.proofs.Lists.{getD-right}
 

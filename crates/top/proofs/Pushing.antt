@@ -1,24 +1,24 @@
 -- A record goes in between others: the slots after n turns, and at the end.
-use Prim.Native.Nat.{ℕ, zero, suc, _+_, _-_, _/_, _≤_, _<_}
-use mathlib.Core.Path.{_≡_, refl, sym, ap, _∙_}
-use mathlib.Core.List.{List, [], _∷_, _++_, append-assoc}
+use Prim.Native.Nat.{ℕ, suc, _+_, _-_, _/_, _≤_, _<_}
+use mathlib.Core.Path.{_≡_, sym, ap, _∙_}
+use mathlib.Core.List.{List, _∷_, _++_, append-assoc}
 use native.Mathlib.Numerals.{add-one}
 use native.Mathlib.Omega.{arith}
-use lib.ListN.{length, take, drop, getD, set, replicate, length-append, length-drop, take-append-drop, length-set}
-use lib.Seq.{length-take-le, take-at, take-append-le, drop-append-le, drop-append-add, set-append-left, set-getD}
+use lib.ListN.{length, take, drop, getD, set, replicate, take-append-drop, length-set}
+use lib.Seq.{take-at, take-append-le, drop-append-le, drop-append-add, set-append-left, set-getD}
 use Rattle.geometry.specs.declared.Geometry.{Geometry}
 use Rattle.geometry.specs.Geometry.{topCapacityOf, marksStart}
 use Rattle.levels.specs.Record.{Rec}
 use Rattle.levels.specs.Put.{insert}
 use Rattle.words.specs.Layout.{word, topCountAt, topSlots, topRecs}
-use Rattle.words.proofs.Slots.{padRecs, blankRec, pad-recs-length}
+use Rattle.words.proofs.Slots.{padRecs, blankRec}
 use Rattle.words.proofs.Top.{top-slots-length}
 use Rattle.top.specs.declared.Slot.{Slot}
 use Rattle.top.specs.declared.Spot.{Spot}
 use Rattle.top.specs.declared.Spot.the-variants.{Found, Gap}
 use Rattle.top.specs.Top.{TopInside, TopReady, Room, spotOf, recOf, slotAt, withSlot, withSlots, withTop, pushed}
 use Rattle.top.proofs.Lists.{pushedIn, pushed-length, pushed-here, pushed-on, pushed-before, mixed-more, mixed-next, mixed-length}
-use Rattle.top.proofs.Words.{slot-low, slot-read, slot-set, slots-long, top-is, padded-is, header-word, ready-inside, ready-count, ready-slots, ready-recs, ready-is}
+use Rattle.top.proofs.Words.{slot-low, slot-read, slot-set, slots-long, top-is, padded-is, header-word, ready-inside, ready-count, ready-slots, ready-is}
 use Rattle.top.proofs.Spots.{Entered, entered}
 
 -- the words once slots i to n - 1 are done
@@ -139,7 +139,7 @@ module _ (g : Geometry) (ws : List ℕ) (t : TopReady g ws) (slot : Slot) (at : 
         a
         ∙ sym (set-getD (withSlots g ws (set rs i r)) 8 0)
         ∙ rw (header-word g ws (k .ranged) (k .inside) (set rs i r) 8 (omega arith), ← l, spot-entered (Found i) e .1)
-          (sym (top-is g ws (k .ranged) (k .inside) (set rs i r)))
+        (sym (top-is g ws (k .ranged) (k .inside) (set rs i r)))
 
   module _ (e : at ≡ Gap i) (h : Room g ws at) where
     gap-room : suc (topCountAt ws) ≤ topCapacityOf g

@@ -1,16 +1,16 @@
 -- The words of a store around level 0: its three parts between the header and the lists.
-use Prim.Native.Nat.{ℕ, zero, suc, _+_, _-_, _*_, _/_, _%_, _^_, _≤_, _<_}
-use mathlib.Core.Path.{_≡_, refl, sym, ap, _∙_}
-use mathlib.Core.Bool.{Bool, true, false, and-eq-true-iff}
-use mathlib.Core.List.{List, [], _∷_, _++_, map, append-assoc, append-nil}
-use native.Mathlib.Nat.{div-add-mod', mod-lt, div-lt-iff-lt-mul, add-zero, add-sub-cancel}
+use Prim.Native.Nat.{ℕ, _+_, _-_, _*_, _/_, _%_, _^_, _≤_, _<_}
+use mathlib.Core.Path.{_≡_, sym, ap, _∙_}
+use mathlib.Core.Bool.{true, and-eq-true-iff}
+use mathlib.Core.List.{List, _++_, append-assoc, append-nil}
+use native.Mathlib.Nat.{div-add-mod', mod-lt, div-lt-iff-lt-mul, add-zero}
 use native.Mathlib.Omega.{arith}
 use lib.Dec.{ltb, eqb}
-use lib.ListN.{length, take, drop, getD, set, replicate, length-append, length-drop, length-set, length-map, List·getD-append, take-append-drop}
-use lib.Seq.{set-append-left, length-take-le, take-all, take-at, drop-append-le, take-append-le, drop-append-add, getD-take, set-getD}
+use lib.ListN.{length, take, drop, getD, set, length-append, length-drop, length-set, length-map, List·getD-append, take-append-drop}
+use lib.Seq.{set-append-left, length-take-le, getD-take}
 use borrow.Author.Tests.{ltb-true}
 use Rattle.geometry.specs.declared.Geometry.{Geometry}
-use Rattle.geometry.specs.Geometry.{Ranged, capacityOf, topCapacityOf, marksStart, keysStart, paysStart, listStart, storeLength}
+use Rattle.geometry.specs.Geometry.{Ranged, capacityOf, topCapacityOf, marksStart, keysStart, paysStart, listStart}
 use Rattle.geometry.proofs.Laws.{pays-end, store-length-high}
 use Rattle.levels.specs.Record.{Rec}
 use Rattle.levels.specs.Basics.{all}
@@ -19,13 +19,13 @@ use Rattle.words.specs.Layout.{word, topCountAt, topSlots, topRecs, keysOf, pay
 use Rattle.words.specs.Form.{blank, topUnusedZero}
 use Rattle.words.proofs.Parts.{part, part-mid, part-rest}
 use Rattle.words.proofs.Slots.{padRecs, pad-recs-length, blankRec, unpad}
-use Rattle.words.proofs.Top.{marksOf, topLength, top-words-pad, top-words-length, top-slots-length, top-read, top-written}
+use Rattle.words.proofs.Top.{marksOf, marks-length, topLength, top-words-pad, top-words-length, top-slots-length, top-read, top-written}
 use Rattle.words.proofs.State.{top-end, top-inside, lists-inside}
 use Rattle.words.proofs.Form.{all-part}
 use Rattle.top.specs.declared.Slot.{Slot}
-use Rattle.top.specs.Top.{TopInside, TopReady, withSlots, withTop, slotAt, setBit, withSlot, recOf, pushed}
+use Rattle.top.specs.Top.{TopInside, TopReady, withSlots, withTop, slotAt, setBit, withSlot, recOf}
 use Rattle.top.proofs.Lists.{set-right, getD-right, map-set, map-at}
-use Rattle.top.proofs.Marks.{marks-long, marks-bit, marks-set, marks-low}
+use Rattle.top.proofs.Marks.{marks-bit, marks-set, marks-low}
 
 -- header, mark words, keys, payloads and the rest
 abbrev pub lay : List ℕ → List ℕ → List ℕ → List ℕ → List ℕ → List ℕ
@@ -124,19 +124,19 @@ module _ (g : Geometry) (ws : List ℕ) (k : Ranged g) (i : listStart g 1 ≤ le
 
     mark-word : word (withSlots g ws S) (marksStart g + j / g .b) ≡ getD M (j / g .b) 0
     mark-word =
-        rw (slots-lay S e) (lay-mark g H M (keysOf S) (paysOf S) R head-long (j / g .b) (rw marks-long (page-of j h .0)))
+        rw (slots-lay S e) (lay-mark g H M (keysOf S) (paysOf S) R head-long (j / g .b) (rw marks-length (page-of j h .0)))
 
     pub slot-low : word (withSlots g ws S) (marksStart g + j / g .b) < 65536
     slot-low = rw mark-word (marks-low (g .b) (capacityOf g 0) (j / g .b) S (page-of j h .0) room (k .b-high))
 
     pub slot-key : word (withSlots g ws S) (keysStart g + j) ≡ getD S j blankRec .key
     slot-key =
-        rw (slots-lay S e) (lay-key g H M (keysOf S) (paysOf S) R head-long (marks-long _ _ S) j (rw (length-map S, e) h)
+        rw (slots-lay S e) (lay-key g H M (keysOf S) (paysOf S) R head-long (marks-length _ _ S) j (rw (length-map S, e) h)
         ∙ map-at (λ (r : Rec). r .key) S j blankRec 0 (rw e h))
 
     slot-pay : word (withSlots g ws S) (paysStart g + j) ≡ getD S j blankRec .pay
     slot-pay =
-        rw (slots-lay S e) (lay-pay g H M (keysOf S) (paysOf S) R head-long (marks-long _ _ S) (rw (length-map S) e) j (rw (length-map S, e) h)
+        rw (slots-lay S e) (lay-pay g H M (keysOf S) (paysOf S) R head-long (marks-length _ _ S) (rw (length-map S) e) j (rw (length-map S, e) h)
         ∙ map-at (λ (r : Rec). r .pay) S j blankRec 0 (rw e h))
 
     -- slot j read
@@ -160,9 +160,9 @@ module _ (g : Geometry) (ws : List ℕ) (k : Ranged g) (i : listStart g 1 ≤ le
         let vs = set (paysOf S) j (r .pay) in
         let w : marksOf (g .b) (capacityOf g 0) (set S j (recOf r)) ≡ set M q m = rw (p .1 .1) at (marks-set (g .b) (capacityOf g 0) q (j % g .b) S (recOf r) (p .0) (p .1 .0) room) in
         rw (n, slots-lay S e)
-        (ap (λ (us : List ℕ). set (set us (paysStart g + j) (r .pay)) (marksStart g + q) m) (lay-set-key g H M (keysOf S) (paysOf S) R head-long (marks-long _ _ S) j (r .key) (rw (length-map S, e) h))
-        ∙ ap (λ (us : List ℕ). set us (marksStart g + q) m) (lay-set-pay g H M ks (paysOf S) R head-long (marks-long _ _ S) (rw (length-set, length-map S) e) j (r .pay) (rw (length-map S, e) h))
-        ∙ lay-set-mark g H M ks vs R head-long q m (rw marks-long (p .0))
+        (ap (λ (us : List ℕ). set (set us (paysStart g + j) (r .pay)) (marksStart g + q) m) (lay-set-key g H M (keysOf S) (paysOf S) R head-long (marks-length _ _ S) j (r .key) (rw (length-map S, e) h))
+        ∙ ap (λ (us : List ℕ). set us (marksStart g + q) m) (lay-set-pay g H M ks (paysOf S) R head-long (marks-length _ _ S) (rw (length-set, length-map S) e) j (r .pay) (rw (length-map S, e) h))
+        ∙ lay-set-mark g H M ks vs R head-long q m (rw marks-length (p .0))
         ∙ rw (← w, ← map-set (λ (x : Rec). x .key) S j (recOf r), ← map-set (λ (x : Rec). x .pay) S j (recOf r)) (sym (slots-lay (set S j (recOf r)) (length-set S j (recOf r) ∙ e))))
 
   -- the slots read back

@@ -9,7 +9,7 @@ use lib.Seq.{paste}
 use Rattle.geometry.specs.declared.Geometry.{Geometry}
 use Rattle.geometry.specs.Geometry.{Ranged, Valid, headerLength, topCapacityOf, marksStart, keysStart, paysStart, listStart, storeLength}
 use Rattle.levels.specs.Record.{Rec, rising}
-use Rattle.words.specs.Layout.{word, topCountAt, topSlots, topRecs, bit, topWords}
+use Rattle.words.specs.Layout.{word, topCountAt, topRecs, bit, topWords}
 use Rattle.words.specs.Form.{topUnusedZero}
 use Rattle.top.specs.declared.Slot.{Slot}
 use Rattle.top.specs.declared.Spot.{Spot}

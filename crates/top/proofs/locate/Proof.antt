@@ -1,10 +1,9 @@
 use lib.Arith.{lt-of-le-ne}
 use Rattle.geometry.proofs.Bounds.{top-capacity-high}
-use borrow.Author.Needs.{needs}
 use Rattle.top.proofs.Words.{ready-bounds}
 use Rattle.top.proofs.Locating.{located-found, located-gap}
 use Prim.Native.Nat.{ℕ, suc, _≤_, _<_, _-_, _+_, _/_}
-use mathlib.Core.Path.{_≡_, refl, sym, _∙_}
+use mathlib.Core.Path.{_≡_, sym}
 use native.Mathlib.Omega.{arith}
 use Rattle.words.specs.Layout.{word}
 use Rattle.top.proofs.locate.Statement.{statement}

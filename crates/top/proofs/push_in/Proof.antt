@@ -1,11 +1,11 @@
 use Rattle.geometry.specs.Geometry.{topCapacityOf}
 use Rattle.geometry.proofs.Bounds.{top-capacity-high}
-use Rattle.top.specs.Top.{TopReady, pushed}
+use Rattle.top.specs.Top.{pushed}
 use Rattle.top.proofs.Pushing.{push-start, push-first, push-inside, push-long, push-low, push-next, push-more}
 use Prim.Native.Nat.{suc, _≤_, _-_}
-use mathlib.Core.Path.{_≡_, refl, sym, ap, _∙_}
+use mathlib.Core.Path.{_≡_, _∙_}
 use native.Mathlib.Omega.{arith}
-use lib.ListN.{getD, length}
+use lib.ListN.{getD}
 use Rattle.words.specs.Layout.{topSlots}
 use Rattle.words.proofs.Slots.{blankRec}
 use Rattle.top.specs.Top.{recOf}
