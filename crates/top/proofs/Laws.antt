@@ -1,5 +1,5 @@
 -- Level 0's edits against the words of a store, for the calls.
-use Prim.Native.Nat.{ℕ, zero, suc, _+_, _*_, _^_, _≤_}
+use Prim.Native.Nat.{ℕ, zero, suc, _+_, _*_, _^_, _≤_, _<_}
 use mathlib.Core.Path.{_≡_, refl, sym, ap, _∙_}
 use mathlib.Core.Bool.{true}
 use mathlib.Core.List.{List, [], _∷_, _++_, append-assoc}
@@ -27,8 +27,8 @@ use Rattle.words.proofs.Top.{topLength, top-words-length, top-marks, top-read, 
 use Rattle.words.proofs.State.{top-end, top-inside, header-length, words-length}
 use Rattle.words.proofs.Form.{formed-clauses, all-part, marks-small}
 use Rattle.top.specs.declared.Slot.{Slot}
-use Rattle.top.specs.Top.{TopReady, withTop, withSlot, recOf}
-use Rattle.top.proofs.Words.{ready-inside, ready-is, slot-set, slots-back}
+use Rattle.top.specs.Top.{TopReady, withSlots, withTop, withSlot, recOf}
+use Rattle.top.proofs.Words.{ready-inside, ready-is, slot-set, slots-low, slots-back}
 
 -- c is word 8, and nothing else in the header
 header-count : (g : Geometry) (t : Store) (rs : List Rec) → set (headerWords g t) 8 (length rs) ≡ headerWords g (record { live = t .live; cursor = t .cursor; top = rs; levels = t .levels })
@@ -110,14 +110,28 @@ pub set-live : (g : Geometry) (t : Store) (area : List ℕ) (n : ℕ) → set (s
 unfolding storeWords headerWords
 set-live g t area n = refl
 
--- a slot written is that slot and no other
-pub slots-set : (g : Geometry) (ws : List ℕ) → TopReady g ws → (j : ℕ) (r : Slot) → suc j ≤ topCapacityOf g → topSlots g (withSlot g ws j r) ≡ set (topSlots g ws) j (recOf r)
-slots-set g ws t j r h =
-    let k = ready-inside g ws t in
-    let e = top-slots-length g ws in
-    ap (λ (us : List ℕ). topSlots g (withSlot g us j r)) (sym (ready-is g ws t))
-    ∙ ap (topSlots g) (slot-set g ws (k .ranged) (k .inside) (topSlots g ws) e j h r)
-    ∙ slots-back g ws (k .ranged) (k .inside) (set (topSlots g ws) j (recOf r)) (length-set (topSlots g ws) j (recOf r) ∙ e)
+-- A slot written.
+module _ (g : Geometry) (ws : List ℕ) (t : TopReady g ws) (j : ℕ) (r : Slot) (h : j < topCapacityOf g) where
+  abbrev now : List Rec
+  now = set (topSlots g ws) j (recOf r)
+
+  now-long : length now ≡ topCapacityOf g
+  now-long = length-set (topSlots g ws) j (recOf r) ∙ top-slots-length g ws
+
+  -- that slot and no other word of the store changes
+  pub slot-written : withSlot g ws j r ≡ withSlots g ws now
+  slot-written =
+      let k = ready-inside g ws t in
+      ap (λ (us : List ℕ). withSlot g us j r) (sym (ready-is g ws t)) ∙ slot-set g ws (k .ranged) (k .inside) (topSlots g ws) (top-slots-length g ws) j h r
+
+  pub slots-set : topSlots g (withSlot g ws j r) ≡ now
+  slots-set =
+      let k = ready-inside g ws t in
+      ap (topSlots g) slot-written ∙ slots-back g ws (k .ranged) (k .inside) now now-long
+
+  -- mark words have no bit from B on
+  pub slot-marks : (q : ℕ) → q < capacityOf g 0 → word (withSlot g ws j r) (marksStart g + q) < 2 ^ g .b
+  slot-marks q l = let k = ready-inside g ws t in rw slot-written (slots-low g ws (k .ranged) (k .inside) now now-long q l)
 
 -- "Level 0 counts as pages of B records from its start": the first n pages, and those after them
 pub pages-take : (B n : ℕ) (rs : List Rec) → 1 ≤ B → records (take n (pages B rs)) ≡ take (n * B) rs

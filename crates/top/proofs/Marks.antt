@@ -86,10 +86,9 @@ marks-set B (suc n) (suc q) b S r h l i =
     rw (z, take-set-le B S (B + (q * B + b)) r (omega arith), drop-set-add B S (q * B + b) r, marks-set B n q b (drop B S) r (omega arith) l (rw length-drop (omega arith)))
 
 -- a mark word of a page has no bit from B on
-pub marks-low : (B n q : ℕ) (S : List Rec) → q < n → n * B ≤ length S → B ≤ 16 → getD (marksOf B n S) q 0 < 65536
-marks-low B n q S h i b =
-    rw (marks-at B n q S h)
-    (omega (arith, mark-low B (take B (drop (q * B) S)) (take-most B (drop (q * B) S)), pow-mono {i = B} {j = 16} b))
+pub marks-low : (B n q : ℕ) (S : List Rec) → q < n → getD (marksOf B n S) q 0 < 2 ^ B
+marks-low B n q S h =
+    rw (marks-at B n q S h) (mark-low B (take B (drop (q * B) S)) (take-most B (drop (q * B) S)))
   where
     take-most : (n : ℕ) (xs : List Rec) → length (take n xs) ≤ n
     take-most zero xs = omega arith

@@ -7,6 +7,7 @@ use native.Mathlib.Nat.{div-add-mod', mod-lt, div-lt-iff-lt-mul, add-zero}
 use native.Mathlib.Omega.{arith}
 use lib.Dec.{ltb, eqb}
 use lib.ListN.{length, take, drop, getD, set, length-append, length-drop, length-set, length-map, List·getD-append, take-append-drop}
+use lib.Pow.{pow-mono}
 use lib.Seq.{set-append-left, length-take-le, getD-take}
 use borrow.Author.Tests.{ltb-true}
 use Rattle.geometry.specs.declared.Geometry.{Geometry}
@@ -127,7 +128,9 @@ module _ (g : Geometry) (ws : List ℕ) (k : Ranged g) (i : listStart g 1 ≤ le
         rw (slots-lay S e) (lay-mark g H M (keysOf S) (paysOf S) R head-long (j / g .b) (rw marks-length (page-of j h .0)))
 
     pub slot-low : word (withSlots g ws S) (marksStart g + j / g .b) < 65536
-    slot-low = rw mark-word (marks-low (g .b) (capacityOf g 0) (j / g .b) S (page-of j h .0) room (k .b-high))
+    slot-low =
+        rw mark-word
+        (omega (arith, marks-low (g .b) (capacityOf g 0) (j / g .b) S (page-of j h .0), pow-mono {i = g .b} {j = 16} (k .b-high)))
 
     pub slot-key : word (withSlots g ws S) (keysStart g + j) ≡ getD S j blankRec .key
     slot-key =
@@ -164,6 +167,12 @@ module _ (g : Geometry) (ws : List ℕ) (k : Ranged g) (i : listStart g 1 ≤ le
         ∙ ap (λ (us : List ℕ). set us (marksStart g + q) m) (lay-set-pay g H M ks (paysOf S) R head-long (marks-length _ _ S) (rw (length-set, length-map S) e) j (r .pay) (rw (length-map S, e) h))
         ∙ lay-set-mark g H M ks vs R head-long q m (rw marks-length (p .0))
         ∙ rw (← w, ← map-set (λ (x : Rec). x .key) S j (recOf r), ← map-set (λ (x : Rec). x .pay) S j (recOf r)) (sym (slots-lay (set S j (recOf r)) (length-set S j (recOf r) ∙ e))))
+
+  -- no mark word has a bit from B on
+  pub slots-low : (S : List Rec) → length S ≡ topCapacityOf g → (q : ℕ) → q < capacityOf g 0 → word (withSlots g ws S) (marksStart g + q) < 2 ^ g .b
+  slots-low S e q h =
+      rw (slots-lay S e, lay-mark g (take 12 ws) (marksOf (g .b) (capacityOf g 0) S) (keysOf S) (paysOf S) (drop (listStart g 1) ws) head-long q (rw marks-length h))
+      (marks-low (g .b) (capacityOf g 0) q S h)
 
   -- the slots read back
   pub slots-back : (S : List Rec) → length S ≡ topCapacityOf g → topSlots g (withSlots g ws S) ≡ S
