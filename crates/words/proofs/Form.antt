@@ -92,7 +92,7 @@ each-length f zero i = refl
 each-length f (suc n) i = ap suc (each-length f n (suc i))
 
 -- a test of n words in a row is a test of every word of that part
-all-part : (t : ℕ → Bool) (ws : List ℕ) (a n j : ℕ) → a + j + n ≤ length ws → all (λ (i : ℕ). t (word ws (a + i))) (each (λ (i : ℕ). i) j n) ≡ all t (part ws (a + j) n)
+pub all-part : (t : ℕ → Bool) (ws : List ℕ) (a n j : ℕ) → a + j + n ≤ length ws → all (λ (i : ℕ). t (word ws (a + i))) (each (λ (i : ℕ). i) j n) ≡ all t (part ws (a + j) n)
 unfolding part
 all-part t ws a zero j h = refl
 all-part t ws a (suc n) j h =
@@ -271,7 +271,7 @@ pub write-back : (g : Geometry) (ws : List ℕ) → Valid g → length ws ≡ st
 write-back g ws v l e f = held-words g ws (storeAt g ws) (clauses-hold g ws v l (formed-clauses g ws f) e)
 
 -- A store's mark words have no bit from B on.
-marks-small : (B n : ℕ) (rs : List Rec) → all (λ (m : ℕ). ltb m (2 ^ B)) (marksOf B n rs) ≡ true
+pub marks-small : (B n : ℕ) (rs : List Rec) → all (λ (m : ℕ). ltb m (2 ^ B)) (marksOf B n rs) ≡ true
 unfolding marksOf
 marks-small B zero rs = refl
 marks-small B (suc n) rs = rw (lt-ltb _ _ (mark-low B (take B rs) (rw length-take (omega arith))), marks-small B n (drop B rs))

@@ -126,7 +126,7 @@ blankRec = record { key = 0; tombstone = false; pay = 0 }
 abbrev pub padRecs : ℕ → List Rec → List Rec
 padRecs n rs = rs ++ replicate (n - length rs) blankRec
 
-map-replicate : {A B : Type 0} (f : A → B) (n : ℕ) (a : A) → map f (replicate n a) ≡ replicate n (f a)
+pub map-replicate : {A B : Type 0} (f : A → B) (n : ℕ) (a : A) → map f (replicate n a) ≡ replicate n (f a)
 map-replicate f zero a = refl
 map-replicate f (suc n) a = rw (map-replicate f n a)
 

@@ -60,7 +60,7 @@ pub room-fits : (g : Geometry) (s : Store) → Fits g s → Room g 1 (s .levels)
 room-fits g s f =
     room-of g (s .levels) 1 (λ j h. rw one-add (f .level-fits j (omega (arith, f .level-count))))
 
-header-length : (g : Geometry) (s : Store) → length (s .levels) ≤ 3 → length (headerWords g s) ≡ 12
+pub header-length : (g : Geometry) (s : Store) → length (s .levels) ≤ 3 → length (headerWords g s) ≡ 12
 unfolding headerWords
 header-length g s h = rw (pad-length 3 (map (λ (l : Level). length l) (s .levels)) (rw length-map h))
 

@@ -18,12 +18,12 @@ use Rattle.words.specs.Form.{blank}
 use Rattle.words.proofs.Parts.{part, part-length, part-split, part-split-three, part-three, part-cons, pad-cons}
 use Rattle.words.proofs.Slots.{slots-part, slotsOf, slots-of, keys-of, pays-of, mark-of, keys-pad, pays-pad, mark-pad, slots-length, pad-recs-length, blankRec, padRecs, unpad}
 
-map-take : {A B : Type 0} (f : A → B) (n : ℕ) (xs : List A) → take n (map f xs) ≡ map f (take n xs)
+pub map-take : {A B : Type 0} (f : A → B) (n : ℕ) (xs : List A) → take n (map f xs) ≡ map f (take n xs)
 map-take f zero xs = refl
 map-take f (suc n) [] = refl
 map-take f (suc n) (x ∷ xs) = rw (map-take f n xs)
 
-map-drop : {A B : Type 0} (f : A → B) (n : ℕ) (xs : List A) → drop n (map f xs) ≡ map f (drop n xs)
+pub map-drop : {A B : Type 0} (f : A → B) (n : ℕ) (xs : List A) → drop n (map f xs) ≡ map f (drop n xs)
 map-drop f zero xs = refl
 map-drop f (suc n) [] = refl
 map-drop f (suc n) (x ∷ xs) = map-drop f n xs
@@ -138,7 +138,7 @@ marks-pad B (suc n) (r ∷ rs) h l =
     let e : suc n * B ≡ B + n * B = omega arith in
     rw (e, pages-cons B r rs h, pad-cons, take-pad B (n * B) (r ∷ rs), drop-pad B (n * B) (r ∷ rs), mark-pad B (take B (r ∷ rs)), marks-pad B n (drop B (r ∷ rs)) h (rw length-drop (omega arith)))
 
-marks-length : (B n : ℕ) (rs : List Rec) → length (marksOf B n rs) ≡ n
+pub marks-length : (B n : ℕ) (rs : List Rec) → length (marksOf B n rs) ≡ n
 unfolding marksOf
 marks-length B zero rs = refl
 marks-length B (suc n) rs = ap suc (marks-length B n (drop B rs))

@@ -1,0 +1,58 @@
+use mathlib.Core.Path.{_∙_}
+use Rattle.top.proofs.Moves.{closed-is}
+use borrow.Author.Needs.{needs}
+use Rattle.top.proofs.close_part.Statement.{statement}
+use Rattle.top.proofs.close_part.Tie as tie
+use Rattle.top.proofs.close_part.Reads as reads
+use Rattle.top.proofs.close_part.Lts as lts
+use Rattle.top.proofs.clear_part.Reads as clear-part-reads
+use Rattle.top.proofs.copy_down.Reads as copy-down-reads
+
+add-left : tie.Need-add-left
+add-left c = search needs
+
+sub-left : tie.Need-sub-left
+sub-left c = search needs
+
+add-copy-down : tie.Need-add-copy-down
+add-copy-down c = search needs
+
+add-copy-down-2 : tie.Need-add-copy-down-2
+add-copy-down-2 c = search needs
+
+add-copy-down-3 : tie.Need-add-copy-down-3
+add-copy-down-3 c = search needs
+
+copy-down-requires : tie.Need-copy-down-requires
+copy-down-requires c κs = search needs
+
+add-clear-part : tie.Need-add-clear-part
+add-clear-part c = search needs
+
+add-clear-part-2 : tie.Need-add-clear-part-2
+add-clear-part-2 c = search needs
+
+clear-part-requires : tie.Need-clear-part-requires
+clear-part-requires c κs = search needs
+
+same-length : tie.Need-same-length
+same-length c = search needs
+
+returns : tie.Need-returns
+returns c = c .before .before .clear-part .ensures ∙ rw (c .before .before .before .before .before .before .copy-down .ensures) (closed-is _ _ _ _ _ (c .before .before .before .before .before .before .before .before .before .pre .0) (c .before .before .before .before .before .before .before .before .before .pre .1))
+
+pub close-part-spec : {M : Type 1} → statement M
+close-part-spec =
+    tie.close
+    (tie.spec
+    add-left
+    sub-left
+    add-copy-down
+    add-copy-down-2
+    add-copy-down-3
+    copy-down-requires
+    add-clear-part
+    add-clear-part-2
+    clear-part-requires
+    same-length
+    returns)
