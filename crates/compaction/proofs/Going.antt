@@ -7,7 +7,7 @@ use native.Mathlib.Nat.{le-of-mul-le-mul-right}
 use native.Mathlib.Omega.{arith}
 use lib.Dec.{eqb}
 use lib.ListN.{length, getD, length-append}
-use Rattle.levels.specs.Record.{Rec, records}
+use Rattle.levels.specs.Record.{Rec}
 use Rattle.blocks.specs.declared.Layout.{Layout}
 use Rattle.blocks.specs.Blocks.{Sized, SomeFree, bufferOf}
 use Rattle.blocks.proofs.Laws.{free-found}
@@ -15,7 +15,7 @@ use Rattle.stream.specs.declared.Chunk.{Chunk}
 use Rattle.stream.specs.declared.Head.{Head}
 use Rattle.stream.specs.Machine.{Memory, blockChunk, headAt, gathered}
 use Rattle.merging.specs.Contract.{countMarks}
-use Rattle.merging.specs.Blocks.{recAt, recsFrom, countAt, blocks}
+use Rattle.merging.specs.Blocks.{recAt, recsFrom, countAt}
 use Rattle.merging.specs.Relation.{Holds, start}
 use Rattle.merging.proofs.Words.{sized-on}
 use Rattle.merging.proofs.Frame.{Same, kept-same, gather-kept, stored-agree, count-kept}
@@ -110,6 +110,10 @@ module _ (z : Layout) (s : Memory) (n : ℕ) (few : n ≤ 2048) (free : countMar
     chunk-same a k = stored-agree z s a sized k q taken .is
 
     module _ (rs : List Rec) (a : Memory) (k : Going z s rs a) (le : length rs + countAt z (s .words) q ≤ z .b * n) where
+      -- the n blocks have room for them
+      records-low : (j : ℕ) → j ≤ countAt z (s .words) q → length (rs ++ recsFrom (s .words) chunk 0 j) ≤ z .b * n
+      records-low j h = rw (length-append rs (recsFrom (s .words) chunk 0 j), recs-length (s .words) chunk 0 j) (omega arith)
+
       -- its first j records
       records-going : (j : ℕ) → j ≤ countAt z (s .words) q → Going z s (rs ++ recsFrom (s .words) chunk 0 j) (recordsGathered z chunk j a)
       unfolding recordsGathered
@@ -118,11 +122,10 @@ module _ (z : Layout) (s : Memory) (n : ℕ) (few : n ≤ 2048) (free : countMar
           let b = recordsGathered z chunk j a in
           let i = records-going j (omega arith) in
           let ts = rs ++ recsFrom (s .words) chunk 0 j in
-          let l : length ts ≤ z .b * n = rw (length-append rs (recsFrom (s .words) chunk 0 j), recs-length (s .words) chunk 0 j) (omega arith) in
           let w : 0 + j ≡ j = omega arith in
           let e : rs ++ recsFrom (s .words) chunk 0 (suc j) ≡ ts ++ (recAt (b .words) chunk j ∷ []) =
           (rw (recs-snoc (s .words) chunk 0 j, w, record-same b (i .same) j (omega arith)) (sym (append-assoc rs (recsFrom (s .words) chunk 0 j) (recAt (s .words) chunk j ∷ [])))) in
-          rw e (going-next ts b i l (headAt (b .words) chunk j) (omega arith))
+          rw e (going-next ts b i (records-low j (omega arith)) (headAt (b .words) chunk j) (omega arith))
 
       -- all of them, as the machine finds the block
       pub chunk-going : Going z s (rs ++ recsFrom (s .words) chunk 0 (countAt z (s .words) q)) (chunkGathered z q a)
@@ -138,5 +141,5 @@ module _ (z : Layout) (s : Memory) (n : ℕ) (few : n ≤ 2048) (free : countMar
             high = rw c high;
             steps = λ j h.
                 let l : j < countAt z (s .words) q = rw (← c) h in
-                rw (chunk-same a (k .same)) (roomy (rs ++ recsFrom (s .words) chunk 0 j) (recordsGathered z chunk j a) (records-going j (omega arith)) (rw (length-append rs (recsFrom (s .words) chunk 0 j), recs-length (s .words) chunk 0 j) (omega arith)));
+                rw (chunk-same a (k .same)) (roomy (rs ++ recsFrom (s .words) chunk 0 j) (recordsGathered z chunk j a) (records-going j (omega arith)) (records-low j (omega arith)));
           }

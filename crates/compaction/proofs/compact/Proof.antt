@@ -1,4 +1,5 @@
 use borrow.Author.Needs.{needs}
+use Rattle.stream.specs.Machine.{Memory}
 use native.Mathlib.Omega.{arith}
 use mathlib.Core.Path.{_∙_}
 use Rattle.compaction.proofs.Whole.{gathers, flushes-in, leaves-in}
@@ -25,7 +26,8 @@ gather-blocks-requires c κs =
 flush-requires : tie.Need-flush-requires
 flush-requires c κs =
     let a = c .before .before .before .before .before .before .before .before .before .before .before .before .args in
-    rw (c .before .before .before .before .before .before .before .before .before .before .of .ensures) (flushes-in (a .g) (a .s .now) (a .used .now) (a .out .now) (a .list .now) (a .n) (a .cursor) (c .before .before .before .before .before .before .before .before .before .before .before .before .pre) _ (c .before .before .before .before .before .gather-blocks .ensures ∙ rw (c .before .before .before .before .before .before .before .before .before .before .of .ensures, c .before .before .before .before .before .before .before .before .before .begin .ensures)))
+    let b : Memory = record { words = c .before .before .before .before .before .gather-blocks .last .0; used = c .before .before .before .before .before .gather-blocks .last .1 .0; out = c .before .before .before .before .before .gather-blocks .last .1 .1 .0; st = c .before .before .before .before .before .gather-blocks .result } in
+    rw (c .before .before .before .before .before .before .before .before .before .before .of .ensures) (flushes-in (a .g) (a .s .now) (a .used .now) (a .out .now) (a .list .now) (a .n) (a .cursor) (c .before .before .before .before .before .before .before .before .before .before .before .before .pre) b (c .before .before .before .before .before .gather-blocks .ensures ∙ rw (c .before .before .before .before .before .before .before .before .before .before .of .ensures, c .before .before .before .before .before .before .before .before .before .begin .ensures)))
 
 same-length : tie.Need-same-length
 same-length c = search needs
@@ -33,7 +35,8 @@ same-length c = search needs
 returns : tie.Need-returns
 returns c =
     let a = c .before .before .before .before .before .before .before .before .before .before .before .before .before .before .before .args in
-    leaves-in (a .g) (a .s .now) (a .used .now) (a .out .now) (a .list .now) (a .n) (a .cursor) (c .before .before .before .before .before .before .before .before .before .before .before .before .before .before .before .pre) _ (c .before .before .flush .ensures ∙ rw (c .before .before .before .before .before .before .before .before .gather-blocks .ensures, c .before .before .before .before .before .before .before .before .before .before .before .before .before .of .ensures, c .before .before .before .before .before .before .before .before .before .before .before .before .begin .ensures))
+    let b : Memory = record { words = c .before .before .flush .last .0; used = c .before .before .flush .last .1 .0; out = c .before .before .flush .last .1 .1 .0; st = c .before .before .flush .result } in
+    leaves-in (a .g) (a .s .now) (a .used .now) (a .out .now) (a .list .now) (a .n) (a .cursor) (c .before .before .before .before .before .before .before .before .before .before .before .before .before .before .before .pre) b (c .before .before .flush .ensures ∙ rw (c .before .before .before .before .before .before .before .before .gather-blocks .ensures, c .before .before .before .before .before .before .before .before .before .before .before .before .before .of .ensures, c .before .before .before .before .before .before .before .before .before .before .before .before .begin .ensures))
 
 pub compact-spec : {M : Type 1} → statement M
 compact-spec =
