@@ -11,16 +11,11 @@ use Rattle.levels.specs.Choose.{choose, cutAt}
 use Rattle.levels.specs.Merge.{merge}
 use Rattle.levels.proofs.Cut.{cut-run}
 use Rattle.choice.specs.Fences.{Ordered, fenceOf}
-use Rattle.merging.specs.declared.Cut.{Cut}
 use Rattle.merging.specs.Contract.{runOf, mergeOf}
 use Rattle.pair.specs.declared.Picked.{Picked}
-use Rattle.pair.specs.Contract.{levelOf, Chosen}
+use Rattle.pair.specs.Contract.{levelOf, meetsAt, Chosen}
 use Rattle.pair.proofs.Chosen.{ends-in-order, ends-inside, before-is, over-is, behind-is}
 use Rattle.pair.proofs.Merges.{merge-is}
-
--- where X and Y stand
-abbrev pub meetsAt : ℕ → ℕ → Bool → Bool → Picked → Cut
-meetsAt w n pages bottom r = record { x = r .first; xend = r .first + w; y = r .start; yend = r .end; end = n; pages = pages; bottom = bottom }
 
 module _ (w : ℕ) (above under : Level) (r : Picked) (k : Chosen w above under r) (oa : Ordered 0 (map fenceOf above)) (ou : Ordered 0 (map fenceOf under)) (p : 1 ≤ w) (h : w ≤ length above) where
   pub run-is : cutAt w (choose w above under .at) above under .run ≡ take w (drop (r .first) above)

@@ -20,9 +20,8 @@ use Rattle.merging.specs.declared.Merged.{Merged}
 use Rattle.merging.specs.Contract.{mergeOf, Mergeable, Leaves}
 use Rattle.merging.proofs.Close.{rested-length}
 use Rattle.pair.specs.declared.Picked.{Picked}
-use Rattle.pair.specs.Contract.{levelOf, cutOf, upperAfter, lowerAfter, InUse, Chosen, Readables, Closable, leftOf, rightOf, PairReady, PairLeaves}
+use Rattle.pair.specs.Contract.{levelOf, meetsAt, cutOf, upperAfter, lowerAfter, InUse, Chosen, Readables, Closable, leftOf, rightOf, PairReady, PairLeaves}
 use Rattle.pair.proofs.Lists.{copied-take}
-use Rattle.pair.proofs.Below.{meetsAt}
 use Rattle.pair.proofs.Pair.{stored-readable, inside, pair-closable, pair-mergeable, pair-writes, pair-leaves}
 
 module _ (g : Geometry) (ws : List ℕ) (used : List Bool) (upper lower : List ℕ) (i a n cursor : ℕ) (k : PairReady g ws used upper lower i a n cursor) where

@@ -31,10 +31,10 @@ use Rattle.merging.specs.declared.Cut.{Cut}
 use Rattle.merging.specs.declared.Merged.{Merged}
 use Rattle.merging.specs.Contract.{pageAt, mergeOf, Mergeable, Leaves}
 use Rattle.pair.specs.declared.Picked.{Picked}
-use Rattle.pair.specs.Contract.{levelOf, cutOf, lowerAfter, InUse, Chosen, Readables, Paged, PagesReady, PagesLeaves}
+use Rattle.pair.specs.Contract.{levelOf, meetsAt, cutOf, lowerAfter, InUse, Chosen, Readables, Paged, PagesReady, PagesLeaves}
 use Rattle.pair.proofs.Chosen.{run-inside, ends-in-order, ends-inside, overlap-is}
 use Rattle.pair.proofs.Room.{count-few}
-use Rattle.pair.proofs.Below.{meetsAt, met-merge}
+use Rattle.pair.proofs.Below.{met-merge}
 use Rattle.pair.proofs.Pair.{stored-ordered, stored-readable, stored-length}
 
 -- n full pages from page i on: cut into pages, they are the pages that the words hold

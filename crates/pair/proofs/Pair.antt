@@ -29,11 +29,11 @@ use Rattle.merging.specs.declared.Merged.{Merged}
 use Rattle.merging.specs.Contract.{ListedBlock, blocksOf, mergeOf, Mergeable, Leaves}
 use Rattle.merging.proofs.Settle.{NewFit}
 use Rattle.pair.specs.declared.Picked.{Picked}
-use Rattle.pair.specs.Contract.{levelOf, cutOf, upperAfter, lowerAfter, InUse, Chosen, Readables, Stored, Closable, leftOf, rightOf, PairReady, PairLeaves}
+use Rattle.pair.specs.Contract.{levelOf, meetsAt, cutOf, upperAfter, lowerAfter, InUse, Chosen, Readables, Stored, Closable, leftOf, rightOf, PairReady, PairLeaves}
 use Rattle.pair.proofs.Lists.{take-entry}
 use Rattle.pair.proofs.Kept.{base-take, base-drop}
 use Rattle.pair.proofs.Chosen.{run-inside, ends-in-order, ends-inside, overlap-is}
-use Rattle.pair.proofs.Below.{meetsAt, met-merge}
+use Rattle.pair.proofs.Below.{met-merge}
 use Rattle.pair.proofs.Room.{count-few}
 use Rattle.pair.proofs.Merges.{part-is, level-length}
 use Rattle.pair.proofs.After.{listed-fresh, close-fit, close-one, after-long, after-cursor, after-in-use, after-count, after-block, after-level}

@@ -36,6 +36,10 @@ pub record Chosen (w : ℕ) (above under : Level) (r : Picked) : Type 0 where
   pub overlap : r .overlap ≡ choose w above under .value
   pub stretch : _≡_ {A = Stretch} (record { start = r .start; end = r .end }) (stretchOf (take w (drop (r .first) (map fenceOf above))) (map fenceOf under))
 
+-- where X and Y stand
+abbrev pub meetsAt : ℕ → ℕ → Bool → Bool → Picked → Cut
+meetsAt w n pages bottom r = record { x = r .first; xend = r .first + w; y = r .start; yend = r .end; end = n; pages = pages; bottom = bottom }
+
 -- the n blocks that a list names first can be read, and lie in key order
 pub record Readables (g : Geometry) (ws list : List ℕ) (n : ℕ) : Type 0 where
   pub long : length list ≡ 4096
@@ -93,6 +97,13 @@ pub record PairLeaves (g : Geometry) (u l : Settled) (chosen : Least) (ws ws' : 
   pub first : r .first ≡ chosen .at
   pub overlap : r .overlap ≡ chosen .value
 
+-- what a merge of the chosen run from level i leaves of two levels, for the places in use at its start: "step 2's block takes its place before those of steps 3 and 4"
+abbrev pub PairMerged : Geometry → ℕ → Level → Level → Allocation → List ℕ → List ℕ → List Bool → List ℕ → List ℕ → Step → Type 0
+PairMerged g i above under al ws ws' used' upper' lower' r =
+    let c = cutOf g i above under in
+    let u = upperAfter g i al c in
+    PairLeaves g u (lowerAfter g i (u .allocation) c) (choose (windowOf g i) above under) ws ws' used' upper' lower' r
+
 -- what step 2 asks of the run of w blocks from block `first` on; xs is the list as it was
 pub record Closable (g : Geometry) (ws : List ℕ) (used : List Bool) (upper xs : List ℕ) (first w a cursor : ℕ) : Type 0 where
   pub valid : Valid g
@@ -149,3 +160,8 @@ pub record PagesLeaves (g : Geometry) (l : Settled) (chosen : Least) (ws ws' : L
   pub writes : r .writes ≡ length (l .written)
   pub first : r .first ≡ chosen .at
   pub overlap : r .overlap ≡ chosen .value
+
+abbrev pub PagesMerged : Geometry → Level → Allocation → List ℕ → List ℕ → List Bool → List ℕ → Step → Type 0
+PagesMerged g under al ws ws' used' lower' r =
+    let above = pages (g .b) (topRecs g ws) in
+    PagesLeaves g (lowerAfter g 0 al (cutOf g 0 above under)) (choose (windowOf g 0) above under) ws ws' used' lower' r

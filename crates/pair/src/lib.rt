@@ -2,18 +2,17 @@
 
 ghost use mathlib.Core.Path.{_≡_};
 ghost use mathlib.Core.List.{map};
-ghost use Prim.Native.Nat.{_≤_};
+ghost use Prim.Native.Nat.{_+_, _≤_};
 ghost use lib.ListN.{length};
-ghost use Rattle.geometry.specs.Geometry.{Valid, windowOf, storeLength};
+ghost use Rattle.geometry.specs.Geometry.{Valid, storeLength};
 ghost use Rattle.levels.specs.Record.{Level, pages};
-ghost use Rattle.levels.specs.Choose.{choose};
 ghost use Rattle.levels.specs.Merge.{close};
 ghost use Rattle.levels.specs.Place.{Allocation, settle};
 ghost use Rattle.words.specs.Layout.{topRecs};
 ghost use Rattle.choice.specs.Fences.{Fenced, fenceOf, fencesOf};
 ghost use Rattle.blocks.specs.Blocks.{Marks};
 ghost use Rattle.merging.specs.Contract.{mergeOf, Mergeable, Leaves};
-ghost use Rattle.pair.specs.Contract.{levelOf, cutOf, upperAfter, lowerAfter, Chosen, Readables, Paged, InUse, Closable, leftOf, rightOf, PairReady, PairLeaves, PagesReady, PagesLeaves};
+ghost use Rattle.pair.specs.Contract.{levelOf, meetsAt, Chosen, Readables, Paged, InUse, Closable, leftOf, rightOf, PairReady, PairMerged, PagesReady, PagesMerged};
 use geometry::Geometry;
 use merging::Cut;
 use merging::Merged;
@@ -35,6 +34,24 @@ struct Picked {
     overlap: usize,
     start: usize,
     end: usize,
+}
+
+impl Picked {
+    // Where X and Y stand, for the merge of a run of w blocks onto a level of n blocks.
+    fn cut(self, w: usize, n: usize, pages: bool, bottom: bool) -> Cut
+        requires { ⌜ self .first + w ≤ 4096 ⌝ }
+        ensures { λ r. ⌜ r ≡ meetsAt w n pages bottom self ⌝ }
+    {
+        Cut {
+            x: self.first,
+            xend: self.first + w,
+            y: self.start,
+            yend: self.end,
+            end: n,
+            pages: pages,
+            bottom: bottom,
+        }
+    }
 }
 
 // Step 1, over the fences of both levels.
@@ -161,35 +178,22 @@ pub fn merge_pair(
 ) -> Step
     requires { ⌜ PairReady g (now s) (now used) (now upper) (now lower) level a n cursor ⌝ }
     ensures { λ r. ⌜ ((al : Allocation) → al .cursor ≡ cursor → Marks (now (used .entry)) (al .used)
-        → PairLeaves g (upperAfter g level al (cutOf g level (levelOf g (now (s .entry)) (now (upper .entry)) a) (levelOf g (now (s .entry)) (now (lower .entry)) n)))
-        (lowerAfter g level (upperAfter g level al (cutOf g level (levelOf g (now (s .entry)) (now (upper .entry)) a) (levelOf g (now (s .entry)) (now (lower .entry)) n)) .allocation) (cutOf g level (levelOf g (now (s .entry)) (now (upper .entry)) a) (levelOf g (now (s .entry)) (now (lower .entry)) n)))
-        (choose (windowOf g level) (levelOf g (now (s .entry)) (now (upper .entry)) a) (levelOf g (now (s .entry)) (now (lower .entry)) n))
-        (now (s .entry)) (now (s .exit)) (now (used .exit)) (now (upper .exit)) (now (lower .exit)) r) ⌝ }
+        → PairMerged g level (levelOf g (now (s .entry)) (now (upper .entry)) a) (levelOf g (now (s .entry)) (now (lower .entry)) n) al (now (s .entry)) (now (s .exit)) (now (used .exit)) (now (upper .exit)) (now (lower .exit)) r) ⌝ }
 {
     let h = g.levels();
     let w = g.window(level);
     let p = choose_listed(s, upper, lower, g, a, n, w);
-    let first = p.first;
     let mut xs = [0u32; 4096];
     joins::copy_entries(&mut xs, upper, 0, 0, a);
-    let u = close_run(s, used, upper, &xs, g, first, w, a, cursor);
-    let hand = u.cursor;
-    let c = Cut {
-        x: first,
-        xend: first + w,
-        y: p.start,
-        yend: p.end,
-        end: n,
-        pages: false,
-        bottom: level + 1 == h,
-    };
-    let l = merge_list(s, used, lower, &xs, g, c, hand);
+    let u = close_run(s, used, upper, &xs, g, p.first, w, a, cursor);
+    let c = p.cut(w, n, false, level + 1 == h);
+    let l = merge_list(s, used, lower, &xs, g, c, u.cursor);
     Step {
         above: u.count,
         under: l.count,
         cursor: l.cursor,
         writes: u.writes + l.writes,
-        first: first,
+        first: p.first,
         overlap: p.overlap,
     }
 }
@@ -206,32 +210,21 @@ pub fn merge_pages(
 ) -> Step
     requires { ⌜ PagesReady g (now s) (now used) (now lower) n cursor ⌝ }
     ensures { λ r. ⌜ ((al : Allocation) → al .cursor ≡ cursor → Marks (now (used .entry)) (al .used)
-        → PagesLeaves g (lowerAfter g 0 al (cutOf g 0 (pages (g .b) (topRecs g (now (s .entry)))) (levelOf g (now (s .entry)) (now (lower .entry)) n)))
-        (choose (windowOf g 0) (pages (g .b) (topRecs g (now (s .entry)))) (levelOf g (now (s .entry)) (now (lower .entry)) n))
-        (now (s .entry)) (now (s .exit)) (now (used .exit)) (now (lower .exit)) r) ⌝ }
+        → PagesMerged g (levelOf g (now (s .entry)) (now (lower .entry)) n) al (now (s .entry)) (now (s .exit)) (now (used .exit)) (now (lower .exit)) r) ⌝ }
 {
     let h = g.levels();
     let a = g.capacity(0);
     let w = g.window(0);
     let p = choose_pages(s, lower, g, a, n, w);
-    let first = p.first;
     let xs = [0u32; 4096];
-    let c = Cut {
-        x: first,
-        xend: first + w,
-        y: p.start,
-        yend: p.end,
-        end: n,
-        pages: true,
-        bottom: 1 == h,
-    };
+    let c = p.cut(w, n, true, 1 == h);
     let l = merge_list(s, used, lower, &xs, g, c, cursor);
     Step {
         above: a - w,
         under: l.count,
         cursor: l.cursor,
         writes: l.writes,
-        first: first,
+        first: p.first,
         overlap: p.overlap,
     }
 }
