@@ -1,0 +1,174 @@
+-- The merges out of listed levels, one after the other.
+use Prim.Native.Nat.{ℕ, zero, suc, _+_, _-_, _*_, _≤_, _<_}
+use mathlib.Core.Path.{_≡_, refl, sym, ap, _∙_, subst}
+use mathlib.Core.Bool.{Bool, true, false}
+use mathlib.Core.List.{List, [], _∷_, _++_, append-assoc}
+use native.Mathlib.Omega.{arith}
+use lib.Dec.{eqb}
+use lib.ListN.{length, getD}
+use Rattle.geometry.specs.declared.Geometry.{Geometry}
+use Rattle.geometry.specs.Geometry.{Valid, topCapacityOf}
+use Rattle.levels.specs.Basics.{if_then_else_, total}
+use Rattle.levels.specs.Record.{Block}
+use Rattle.levels.specs.Store.{Store, rows}
+use Rattle.levels.specs.Call.{Compaction, Merge, mergeLevel, afterMerge, afterMerges, deepestOver, mergesBelow}
+use Rattle.levels.specs.Count.{blocksMerged, blocksCompacted, totalInto, totalCompacted, countsOf}
+use Rattle.levels.specs.Count as levels
+use Rattle.levels.proofs.Every.{Every}
+use Rattle.levels.proofs.StoreRows.{load}
+use Rattle.levels.proofs.CompactInside.{CompactionFacts, compaction-newly}
+use Rattle.levels.proofs.InCall.{MergeFacts, next-facts, merge-start, below-stop, below-next}
+use Rattle.levels.proofs.CallCounts.{merge-short}
+use Rattle.levels.proofs.MergeBounds.{merge-written}
+use Rattle.words.specs.Layout.{areaOf, writeBlocks}
+use Rattle.words.specs.Calls.{compactedBlocks, writtenBlocks}
+use Rattle.words.proofs.Blocks.{writes-append}
+use Rattle.cascade.specs.declared.Counts.{Counts}
+use Rattle.cascade.specs.declared.Tally.{Tally}
+use Rattle.cascade.specs.declared.Run.{Run}
+use Rattle.cascade.specs.Running.{storeOf, Stands, numbersOf, plus, Few, Small, Grown, Leaving, StepReady, stepCounts, deepestFor, Rolling, listCounts}
+use Rattle.cascade.proofs.Chaining.{grown-small, small-more, plus-assoc}
+use Rattle.cascade.proofs.Depth.{deepest-is}
+
+-- the counts of a merge and those after it
+pub counts-cons : (m : Merge) (ms : List Merge) (j : ℕ) → countsOf j (m ∷ ms) ≡ plus (stepCounts m j) (countsOf j ms)
+unfolding countsOf
+counts-cons m ms j =
+    let f : ℕ = if eqb (suc (m .level)) j then 1 else 0 in
+    let h : ℕ = if eqb (suc (m .level)) j then blocksMerged m else 0 in
+    let x : f + totalInto j (λ m. 1) ms ≡ f + 0 + totalInto j (λ m. 1) ms = omega arith in
+    let y : h + totalInto j blocksMerged ms ≡ h + 0 + totalInto j blocksMerged ms = omega arith in
+    let c : ℕ = totalCompacted j (m .compactions) in
+    let w : ℕ = total (λ (m : Merge). totalCompacted j (m .compactions)) ms in
+    let z : c + w ≡ c + 0 + w = omega arith in
+    λ i. record { merges = x i; written = y i; compacted = z i }
+
+-- no merge with its step 5 counts more than 16,384 blocks
+compacted-most : (g : Geometry) (e : Store) (j : ℕ) (cs : List Compaction) → Valid g → Every (CompactionFacts g e) cs → totalCompacted j cs ≤ 8192 * length cs
+compacted-most g e j [] v f = omega arith
+compacted-most g e j (c ∷ cs) v f = pick (eqb (c .level) j) (compacted-most g e j cs v (f .1))
+  where
+    pick : (t : Bool) → totalCompacted j cs ≤ 8192 * length cs → (if t then blocksCompacted c else 0) + totalCompacted j cs ≤ 8192 * suc (length cs)
+    pick true q = omega (arith, compaction-newly g e c (f .0), f .0 .room, v .places-high)
+    pick false q = omega arith
+
+pub step-low : (g : Geometry) (e : Store) (m : Merge) → Valid g → MergeFacts g e m → (j : ℕ) → (stepCounts m j .merges ≤ 16384) × (stepCounts m j .written ≤ 16384) × (stepCounts m j .compacted ≤ 16384)
+unfolding countsOf
+step-low g e m v f j = pick (eqb (suc (m .level)) j)
+  where
+    pick : (b : Bool) → ((if b then 1 else 0) + 0 ≤ 16384) × ((if b then blocksMerged m else 0) + 0 ≤ 16384) × (totalCompacted j (m .compactions) + 0 ≤ 16384)
+    pick true = (omega arith, omega (arith, merge-written g e m v f, f .room, v .places-high), omega (arith, compacted-most g e j (m .compactions) v (f .five .facts), merge-short g e m f))
+    pick false = (omega arith, omega arith, omega (arith, compacted-most g e j (m .compactions) v (f .five .facts), merge-short g e m f))
+
+-- what is left of a list of merges comes to the same as the whole
+pub record Rest (g : Geometry) (t0 : Store) (ms0 : List Merge) (ws0 : List ℕ) (r0 : Run) (t : Store) (ms : List Merge) (ws : List ℕ) (r : Run) : Type 0 where
+  pub store : afterMerges t ms ≡ afterMerges t0 ms0
+  pub area : writeBlocks g (areaOf g ws) (writtenBlocks ms) ≡ writeBlocks g (areaOf g ws0) (writtenBlocks ms0)
+  pub one : plus (numbersOf (r .tally .one)) (countsOf 1 ms) ≡ plus (numbersOf (r0 .tally .one)) (countsOf 1 ms0)
+  pub two : plus (numbersOf (r .tally .two)) (countsOf 2 ms) ≡ plus (numbersOf (r0 .tally .two)) (countsOf 2 ms0)
+  pub three : plus (numbersOf (r .tally .three)) (countsOf 3 ms) ≡ plus (numbersOf (r0 .tally .three)) (countsOf 3 ms0)
+
+pub record Goes (n : ℕ) (g : Geometry) (ws0 one0 two0 three0 : List ℕ) (r0 : Run) (ws one two three : List ℕ) (r : Run) : Type 0 where
+  pub steps : ℕ
+  pub rolling : Rolling steps g ws one two three r
+  pub rest : Rest g (storeOf g ws0 one0 two0 three0 r0) (mergesBelow n g (storeOf g ws0 one0 two0 three0 r0)) ws0 r0 (storeOf g ws one two three r) (mergesBelow steps g (storeOf g ws one two three r)) ws r
+
+pub goes-first : (n : ℕ) (g : Geometry) (ws one two three : List ℕ) (r : Run) → Rolling n g ws one two three r → Goes n g ws one two three r ws one two three r
+goes-first n g ws one two three r k = record { steps = n; rolling = k; rest = record { store = refl; area = refl; one = refl; two = refl; three = refl } }
+
+module _ (n : ℕ) (g : Geometry) (ws0 one0 two0 three0 : List ℕ) (r0 : Run) (ws one two three : List ℕ) (r : Run) (k : Goes n g ws0 one0 two0 three0 r0 ws one two three r) (d : ℕ) (ed : d ≡ deepestFor g (g .h) (r .n1) (r .n2)) where
+  t : Store
+  t = storeOf g ws one two three r
+
+  deepest : d ≡ deepestOver g (g .h - 1) (storeOf g ws one two three r)
+  deepest = let s = k .rolling .stands in deepest-is g (storeOf g ws one two three r) (r .n1) (r .n2) d (k .rolling .valid .ranged) (s .first .count) (s .second .count) ed
+
+  -- nothing is over its capacity
+  pub goes-last : (u : Run) → u ≡ r → d ≡ 0 → (t0 : Store) → t0 ≡ storeOf g ws0 one0 two0 three0 r0 → Leaving g (afterMerges t0 (mergesBelow n g t0)) (writtenBlocks (mergesBelow n g t0)) (listCounts (mergesBelow n g t0)) ws0 r0 ws one two three u
+  unfolding countsOf writeBlocks
+  goes-last u eu z t0 et =
+      let x : Store = storeOf g ws one two three r in
+      let q : mergesBelow (k .steps) g x ≡ [] = below-stop (k .steps) g x (sym deepest ∙ z) in
+      let e = k .rest in
+      let f = subst (λ (ms : List Merge). Rest g (storeOf g ws0 one0 two0 three0 r0) (mergesBelow n g (storeOf g ws0 one0 two0 three0 r0)) ws0 r0 x ms ws r) q e in
+      rw (et, eu)
+      (record {
+        stands = subst (λ (y : Store). Stands g y ws one two three r) (f .store) (k .rolling .stands);
+        area = f .area;
+        counts = record { one = none (numbersOf (r .tally .one)) ∙ f .one; two = none (numbersOf (r .tally .two)) ∙ f .two; three = none (numbersOf (r .tally .three)) ∙ f .three };
+      })
+    where
+      none : (c : levels.Counts) → c ≡ plus c (record { merges = 0; written = 0; compacted = 0 })
+      none c =
+          let x : c .merges ≡ c .merges + 0 = omega arith in
+          let y : c .written ≡ c .written + 0 = omega arith in
+          let z : c .compacted ≡ c .compacted + 0 = omega arith in
+          λ i. record { merges = x i; written = y i; compacted = z i }
+
+  -- a merge is due
+  module _ (j : ℕ) (dj : d ≡ suc j) where
+    facts : MergeFacts g (k .rolling .entry) (mergeLevel g (suc j) (storeOf g ws one two three r))
+    facts = let p = k .rolling in next-facts g (p .entry) (storeOf g ws one two three r) j (p .valid) (p .entry-is) (p .inside) (p .ruled) (sym deepest ∙ dj)
+
+    pub goes-asks : StepReady 1900000000 g ws one two three d r
+    goes-asks =
+        let p = k .rolling in
+        record {
+          valid = p .valid;
+          entry = p .entry;
+          stands = p .stands;
+          facts = subst (λ (i : ℕ). MergeFacts g (p .entry) (mergeLevel g i (storeOf g ws one two three r))) (sym dj) facts;
+          full = λ z. absurd (omega (arith, z, dj));
+          small = small-more (p .bound) 1900000000 (r .tally) (omega (arith, p .bound-low)) (p .small);
+        }
+
+    falls : load (rows (afterMerge (mergeLevel g (suc j) (storeOf g ws one two three r)))) < load (rows (storeOf g ws one two three r))
+    falls = omega (arith, facts .falls, ap (λ (x : Store). load (rows x)) (merge-start g (suc j) (storeOf g ws one two three r)))
+
+    module _ (ws' one' two' three' : List ℕ) (r' : Run)
+        (l : Leaving g (afterMerge (mergeLevel g d (storeOf g ws one two three r))) (mergeLevel g d (storeOf g ws one two three r) .written ++ compactedBlocks (mergeLevel g d (storeOf g ws one two three r) .compactions)) (stepCounts (mergeLevel g d (storeOf g ws one two three r))) ws r ws' one' two' three' r') where
+      left : let m : Merge = mergeLevel g (suc j) (storeOf g ws one two three r) in Leaving g (afterMerge m) (m .written ++ compactedBlocks (m .compactions)) (stepCounts m) ws r ws' one' two' three' r'
+      left = subst (λ (i : ℕ). let m : Merge = mergeLevel g i (storeOf g ws one two three r) in Leaving g (afterMerge m) (m .written ++ compactedBlocks (m .compactions)) (stepCounts m) ws r ws' one' two' three' r') dj l
+
+      pub goes-less : load (rows (storeOf g ws' one' two' three' r')) < load (rows (storeOf g ws one two three r))
+      unfolding left
+      goes-less = omega (arith, falls, ap (λ (x : Store). load (rows x)) (left .stands .store))
+
+      pub goes-on : Goes n g ws0 one0 two0 three0 r0 ws' one' two' three' r'
+      unfolding left
+      goes-on =
+          let p = k .rolling in
+          let x : Store = storeOf g ws one two three r in
+          let m : Merge = mergeLevel g (suc j) x in
+          let y : Store = afterMerge m in
+          let s = left .stands in
+          let f = facts in
+          let st = k .steps in
+          let q : mergesBelow st g x ≡ m ∷ mergesBelow (st - 1) g y = below-next st g (p .entry) x j (p .valid) (p .entry-is) (p .inside) (p .ruled) (p .load-low) (sym deepest ∙ dj) in
+          let e = subst (λ (ms : List Merge). Rest g (storeOf g ws0 one0 two0 three0 r0) (mergesBelow n g (storeOf g ws0 one0 two0 three0 r0)) ws0 r0 x ms ws r) q (k .rest) in
+          let ms : List Merge = mergesBelow (st - 1) g y in
+          let count : (i : ℕ) (c c' : levels.Counts) → c' ≡ plus c (stepCounts m i) → plus c' (countsOf i ms) ≡ plus c (countsOf i (m ∷ ms)) = λ i c c' a. ap (λ (z : levels.Counts). plus z (countsOf i ms)) a ∙ plus-assoc c (stepCounts m i) (countsOf i ms) ∙ ap (plus c) (sym (counts-cons m ms i)) in
+          let now : Rest g (storeOf g ws0 one0 two0 three0 r0) (mergesBelow n g (storeOf g ws0 one0 two0 three0 r0)) ws0 r0 y ms ws' r' = record {
+            store = e .store;
+            area = ap (λ (z : List ℕ). writeBlocks g z (writtenBlocks ms)) (left .area) ∙ sym (writes-append g (areaOf g ws) (m .written ++ compactedBlocks (m .compactions)) (writtenBlocks ms))
+                ∙ ap (writeBlocks g (areaOf g ws)) (append-assoc (m .written) (compactedBlocks (m .compactions)) (writtenBlocks ms)) ∙ e .area;
+            one = count 1 _ _ (left .counts .one) ∙ e .one;
+            two = count 2 _ _ (left .counts .two) ∙ e .two;
+            three = count 3 _ _ (left .counts .three) ∙ e .three;
+          } in
+          record {
+            steps = st - 1;
+            rolling = record {
+              valid = p .valid;
+              entry = p .entry;
+              entry-is = p .entry-is;
+              inside = rw (s .store) (f .five .inside);
+              ruled = rw (s .store) (f .after-ruled);
+              stands = subst (λ (z : Store). Stands g z ws' one' two' three' r') (sym (s .store)) s;
+              load-low = omega (arith, goes-less, p .load-low);
+              bound = p .bound + 16384;
+              small = grown-small (stepCounts m) (r .tally) (r' .tally) (p .bound) (p .bound + 16384) 16384 (step-low g (p .entry) m (p .valid) f) (omega arith) (p .small) (left .counts);
+              bound-low = omega (arith, p .bound-low, p .load-low, goes-less);
+            };
+            rest = subst (λ (z : Store). Rest g (storeOf g ws0 one0 two0 three0 r0) (mergesBelow n g (storeOf g ws0 one0 two0 three0 r0)) ws0 r0 z (mergesBelow (st - 1) g z) ws' r') (sym (s .store)) now;
+          }
