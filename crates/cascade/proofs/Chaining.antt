@@ -228,7 +228,7 @@ module _ (g : Geometry) (ws one two three : List ℕ) (level : ℕ) (r : Run) (k
           let y : Store = afterCompactions x cs in
           let ds : List Compaction = compactIfNeeded g (suc level) y in
           let c : Leaving g (afterCompactions y ds) (compactedBlocks ds) (compactedCounts ds) ws2 r2 ws3 one3 two3 three3 r3 =
-              subst (λ (n : ℕ). Leaving g (afterCompactions y (compactIfNeeded g n y)) (compactedBlocks (compactIfNeeded g n y)) (compactedCounts (compactIfNeeded g n y)) ws2 r2 ws3 one3 two3 three3 r3) ei c0 in
+          subst (λ (n : ℕ). Leaving g (afterCompactions y (compactIfNeeded g n y)) (compactedBlocks (compactIfNeeded g n y)) (compactedCounts (compactIfNeeded g n y)) ws2 r2 ws3 one3 two3 three3 r3) ei c0 in
           let q : mergeLevel g level t .compactions ≡ cs ++ ds = five-below g t level low in
           let d = leaving-chain g _ _ _ _ _ _ ws r ws1 one1 two1 three1 r1 ws3 one3 two3 three3 r3 a (leaving-chain g _ _ _ _ _ _ ws1 r1 ws2 one2 two2 three2 r2 ws3 one3 two3 three3 r3 b c) in
           record {

@@ -157,8 +157,8 @@ module _ (e t : Store) (j : ℕ) (g : Geometry) (ws : List ℕ) (used : List Boo
 
   module _ (ws' : List ℕ) (used' : List Bool) (upper' lower' : List ℕ) (r : Step)
       (left : PairLeaves g (upperAfter g level (allocationOf t) (cutOf g level (levelOf g ws upper a) (levelOf g ws lower n)))
-          (lowerAfter g level (upperAfter g level (allocationOf t) (cutOf g level (levelOf g ws upper a) (levelOf g ws lower n)) .allocation) (cutOf g level (levelOf g ws upper a) (levelOf g ws lower n)))
-          (choose (windowOf g level) (levelOf g ws upper a) (levelOf g ws lower n)) ws ws' used' upper' lower' r) where
+      (lowerAfter g level (upperAfter g level (allocationOf t) (cutOf g level (levelOf g ws upper a) (levelOf g ws lower n)) .allocation) (cutOf g level (levelOf g ws upper a) (levelOf g ws lower n)))
+      (choose (windowOf g level) (levelOf g ws upper a) (levelOf g ws lower n)) ws ws' used' upper' lower' r) where
     left-is : PairOf g (allocationOf t) ws ws' used' upper' lower' r (suc j) (getD (t .levels) j []) (getD (t .levels) (suc j) [])
     unfolding PairOf
     left-is =

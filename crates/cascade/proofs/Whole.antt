@@ -169,7 +169,7 @@ module _ (g : Geometry) (ws : List ℕ) (k : FullStore g ws) where
             dite (decLt i (g .h))
             (λ y. rw (room-level g (suc i) y) (omega (arith, l .count, end-fits .level-fits i y)))
             (λ y. let z : getD (afterMerges (storeAt g ws) (mergesFrom g (storeAt g ws)) .levels) i [] ≡ [] = List·getD-eq-default (afterMerges (storeAt g ws) (mergesFrom g (storeAt g ws)) .levels) [] (omega (arith, listing .inside .many)) in
-                let c : n ≡ 0 = l .count ∙ ap length z in rw c (omega arith))
+            let c : n ≡ 0 = l .count ∙ ap length z in rw c (omega arith))
 
         -- what `store_back` asks
         pub back-ready : Valid g × ((length ws2 ≡ storeLength g) × ((r2 .n1 ≤ roomOf g 1) × ((r2 .n2 ≤ roomOf g 2) × ((r2 .n3 ≤ roomOf g 3) × (r2 .cursor < g .p)))))
@@ -190,9 +190,9 @@ module _ (g : Geometry) (ws : List ℕ) (k : FullStore g ws) where
             let q : take (g .h) ls ≡ placesIn (t .levels) = three-places (g .h) (t .levels) _ _ _ (listing .inside .many) (v .ranged .h-high) (s .first .places) (s .second .places) (s .third .places) in
             let c = leaving-chain g _ _ _ _ _ _ ws r ws1 one1 two1 three1 r1 ws2 one2 two2 three2 r2 a b in
             let area : areaOf g ws2 ≡ writeBlocks g (areaOf g ws) (writtenBlocks (mergesFrom g (storeAt g ws))) =
-                c .area ∙ ap (writeBlocks g (areaOf g ws)) (append-assoc (m .written) (compactedBlocks (m .compactions)) (writtenBlocks ms) ∙ ap writtenBlocks (sym all-is)) in
+            c .area ∙ ap (writeBlocks g (areaOf g ws)) (append-assoc (m .written) (compactedBlocks (m .compactions)) (writtenBlocks ms) ∙ ap writtenBlocks (sym all-is)) in
             let counts : (j : ℕ) (x : levels.Counts) → x ≡ plus (record { merges = 0; written = 0; compacted = 0 }) (plus (stepCounts m j) (countsOf j ms)) → x ≡ countsOf j (mergesFrom g (storeAt g ws)) =
-                λ j x d. d ∙ zero-plus (plus (stepCounts m j) (countsOf j ms)) ∙ sym (counts-cons m ms j) ∙ ap (countsOf j) (sym all-is) in
+            λ j x d. d ∙ zero-plus (plus (stepCounts m j) (countsOf j ms)) ∙ sym (counts-cons m ms j) ∙ ap (countsOf j) (sym all-is) in
             record {
               words = e ∙ ap (λ (x : ℕ). withLists g ws2 x ls) (s .cursor) ∙ lists-back g ws2 t v end-fits (s .held) ls q ∙ ap (storeWords g t) area;
               one = counts 1 _ (c .counts .one ∙ ap (λ (z : Tally). plus (numbersOf (z .one)) (plus (stepCounts m 1) (countsOf 1 ms))) (l .none));

@@ -132,7 +132,6 @@ fn compact_list(
     r
 }
 
-
 // Step 5 for level j + 1, whose list this is: it is compacted if needed.
 fn compact_one(
     s: &mut [u32],
