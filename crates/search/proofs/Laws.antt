@@ -105,7 +105,7 @@ records-split ws d i (suc m) n =
     let b : i + suc m ≡ suc i + m = omega arith in
     rw (a, b, records-split ws d (suc i) m n, append-assoc)
 
-span-split : (ws : List ℕ) (d : Directory) (mid : ℕ) → mid ≤ d .chunks → recordsOf ws d ≡ span ws d 0 mid ++ span ws d mid (d .chunks)
+pub span-split : (ws : List ℕ) (d : Directory) (mid : ℕ) → mid ≤ d .chunks → recordsOf ws d ≡ span ws d 0 mid ++ span ws d mid (d .chunks)
 span-split ws d mid h =
     let n : d .chunks ≡ mid - 0 + (d .chunks - mid) = omega arith in
     let q : 0 + (mid - 0) ≡ mid = omega arith in

@@ -39,7 +39,6 @@ use Rattle.form.proofs.Ready.{checked-ready, checked-refused, ready-sized, read
 use Rattle.store.specs.Answers.{lookedAnswer, lookedOf, nextedAnswer}
 use Rattle.store.specs.declared.Looked.the-variants as looked
 use Rattle.store.specs.declared.Nexted.the-variants as nexted
-use Rattle.store.proofs.Maps.{small-records, small-overlay, small-unmarked, first-small}
 
 -- A call that is turned down answers the reason, and nothing else.
 module _ (ws : List ℕ) (n : ℕ) (e : checkedOf ws ≡ Refused n) where
@@ -125,16 +124,6 @@ module _ (ws : List ℕ) (g : Geometry) (e : checkedOf ws ≡ Ready g) where
   pub next-levels : (k : ℕ) → firstFrom k (unmarked (layered ws (topOf g ws) (levelOf g ws 1) (levelOf g ws 2) (levelOf g ws 3))) ≡ next k (rows (storeAt g ws))
   unfolding next mapOf
   next-levels k = rw (ready-view ws g e)
-
--- the key that the walk answers is a word
-pub next-fits : (ws : List ℕ) → ((i : ℕ) → word ws i < 4294967296) → (a b c d : Directory) (q k v : ℕ) → At k v ≡ followingOf (firstFrom q (unmarked (layered ws a b c d))) → k < 4294967296
-next-fits ws f a b c d q k v h =
-    let r0 = small-records ws f a 0 (a .chunks) in
-    let r1 = small-records ws f b 0 (b .chunks) in
-    let r2 = small-records ws f c 0 (c .chunks) in
-    let r3 = small-records ws f d 0 (d .chunks) in
-    first-small q (unmarked (layered ws a b c d)) k v
-    (small-unmarked (layered ws a b c d) (small-overlay _ _ r0 (small-overlay _ _ r1 (small-overlay _ _ r2 r3)))) h
 
 -- Show: levels that there are not, and those that there are.
 pub show-low : (g : Geometry) (ws : List ℕ) (i k : ℕ) → i < 1 → [] ≡ showIn g ws i k

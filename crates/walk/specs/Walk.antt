@@ -13,6 +13,7 @@ use Rattle.chunks.specs.declared.Chunk.{Chunk}
 use Rattle.chunks.specs.Chunks.{chunkRecs}
 use Rattle.directory.specs.declared.Directory.{Directory}
 use Rattle.directory.specs.Directory.{Formed, recordsFrom, recordsOf}
+use Rattle.search.proofs.Between.{Below}
 use Rattle.walk.specs.declared.Cursor.{Cursor}
 use Rattle.walk.specs.declared.Following.{Following}
 use Rattle.walk.specs.declared.Following.the-variants.{At, Nothing}
@@ -29,6 +30,13 @@ pub record Good (ws : List ℕ) (d : Directory) (c : Cursor) : Type 0 where
   pub pays-in : c .chunk .pays + c .chunk .count ≤ length ws
   pub alive : 1 ≤ c .chunk .count → (c .key ≡ word ws (c .chunk .keys)) × (c .key < 4294967296)
   pub ended : c .chunk .count ≡ 0 → (c .key ≡ 4294967296) × (c .next ≡ d .chunks)
+
+-- A cursor into a level for the walk from key q on: the records that it passes over are below q.
+pub record FromKey (ws : List ℕ) (d : Directory) (q : ℕ) (c : Cursor) : Type 0 where
+  pub good : Good ws d c
+  pub passed : List Rec
+  pub cut : recordsOf ws d ≡ passed ++ rest ws d c
+  pub below : Below q passed
 
 -- four lists of records laid over each other, the upper ones first
 abbrev pub four : List Rec → List Rec → List Rec → List Rec → List Rec
@@ -60,3 +68,8 @@ upperOf c0 c1 c2 c3 k = if eqb (c0 .key) k then c0 .chunk else (if eqb (c1 .key)
 abbrev pub followingOf : Option Rec → Following
 followingOf none = Nothing
 followingOf (some r) = At (r .key) (r .pay)
+
+-- a key that is answered is a word
+abbrev pub KeyFits : Following → Type 0
+KeyFits Nothing = Unit {0}
+KeyFits (At k v) = k < 4294967296

@@ -1,5 +1,6 @@
 // A walk over four levels side by side: the least key leaves every level that has it, and the uppermost
-// record with it decides. It counts the live keys, and finds the first one from a key on.
+// record with it decides. It counts the live keys, and finds the first one from a key on; for that each level
+// is entered at the only chunk that can have the key.
 
 ghost use mathlib.Core.Path.{_≡_};
 ghost use Prim.Native.Nat.{_+_, _-_, _%_, _≤_, _<_};
@@ -8,7 +9,7 @@ ghost use lib.Dec.{eqb};
 ghost use Rattle.levels.specs.Map.{unmarked, firstFrom};
 ghost use Rattle.chunks.specs.Peel.{past, liveBit};
 ghost use Rattle.directory.specs.Directory.{Formed, recordsFrom};
-ghost use Rattle.walk.specs.Walk.{Good, rest, upperOf, LeastOf, Smaller, layered, followingOf};
+ghost use Rattle.walk.specs.Walk.{Good, rest, FromKey, upperOf, LeastOf, Smaller, layered, followingOf, KeyFits};
 use chunks::Chunk;
 use directory::Directory;
 
@@ -55,6 +56,19 @@ fn refill(s: &[u32], dir: Directory, next: usize) -> Cursor
         chunk: none,
         key: END,
     }
+}
+
+// A level from the chunk on that can have q: what stands before it is below q, and need not be read.
+fn cursor_from(s: &[u32], dir: Directory, q: usize) -> Cursor
+    requires { ⌜ Formed dir (now s) ⌝ }
+    ensures { λ r. ⌜ FromKey (now (s .entry)) dir q r ⌝ }
+{
+    let n = dir.chunks;
+    if n < 1 {
+        return refill(s, dir, 0);
+    }
+    let start = search::seek_chunk(s, dir, q);
+    refill(s, dir, start)
 }
 
 // Past the next record, where its key is k.
@@ -158,12 +172,12 @@ pub fn next_from(
     q: usize,
 ) -> Following
     requires { ⌜ Formed d0 (now s) × (Formed d1 (now s) × (Formed d2 (now s) × Formed d3 (now s))) ⌝ }
-    ensures { λ r. ⌜ r ≡ followingOf (firstFrom q (unmarked (layered (now (s .entry)) d0 d1 d2 d3))) ⌝ }
+    ensures { λ r. ⌜ (r ≡ followingOf (firstFrom q (unmarked (layered (now (s .entry)) d0 d1 d2 d3)))) × KeyFits r ⌝ }
 {
-    let mut c0 = refill(s, d0, 0);
-    let mut c1 = refill(s, d1, 0);
-    let mut c2 = refill(s, d2, 0);
-    let mut c3 = refill(s, d3, 0);
+    let mut c0 = cursor_from(s, d0, q);
+    let mut c1 = cursor_from(s, d1, q);
+    let mut c2 = cursor_from(s, d2, q);
+    let mut c3 = cursor_from(s, d3, q);
     loop {
         let k = least(c0.key, c1.key, c2.key, c3.key);
         if END <= k {

@@ -3,7 +3,7 @@ use Rattle.walk.specs.Walk.{layered}
 use native.Mathlib.Omega.{arith}
 use mathlib.Core.Path.{sym, _∙_}
 use Rattle.form.proofs.Ready.{ready-sized, ready-levels}
-use Rattle.store.proofs.Answering.{next-levels, next-at, next-nothing, next-fits}
+use Rattle.store.proofs.Answering.{next-levels, next-at, next-nothing}
 use borrow.Author.Needs.{needs}
 use Rattle.store.proofs.next_key.Statement.{statement}
 use Rattle.store.proofs.next_key.Tie as tie
@@ -39,15 +39,15 @@ enum-told c = search needs
 returns : tie.Need-returns
 returns c =
     rw (← next-levels (c .before .before .before .before .before .before .before .before .args .s .now) (c .before .before .before .before .before .before .before .before .args .g) (c .before .before .before .before .before .before .before .before .pre) (c .before .before .before .before .before .before .before .before .args .k), ← c .before .before .before .before .before .before .top-of .ensures, ← c .before .before .before .before .before .level-of .ensures, ← c .before .before .before .before .level-of2 .ensures, ← c .before .before .before .level-of3 .ensures)
-    (next-nothing (firstFrom (c .before .before .before .before .before .before .before .before .args .k) (unmarked (layered (c .before .before .before .before .before .before .before .before .args .s .now) (c .before .before .before .before .before .before .top-of .result) (c .before .before .before .before .before .level-of .result) (c .before .before .before .before .level-of2 .result) (c .before .before .before .level-of3 .result)))) (sym (c .enum-told .given .1) ∙ c .before .before .next-from .ensures))
+    (next-nothing (firstFrom (c .before .before .before .before .before .before .before .before .args .k) (unmarked (layered (c .before .before .before .before .before .before .before .before .args .s .now) (c .before .before .before .before .before .before .top-of .result) (c .before .before .before .before .before .level-of .result) (c .before .before .before .before .level-of2 .result) (c .before .before .before .level-of3 .result)))) (sym (c .enum-told .given .1) ∙ c .before .before .next-from .ensures .0))
 
 cast-t11 : tie.Need-cast-t11
-cast-t11 c = omega (arith, next-fits _ (λ i. c .before .before .before .before .before .before .before .before .shared-slice-known .given i .fits) _ _ _ _ _ _ _ (sym (c .before .key .given .1) ∙ c .before .before .before .next-from .ensures))
+cast-t11 c = let f = rw (c .before .key .given .1) at (c .before .before .before .next-from .ensures .1) in omega arith
 
 returns-2 : tie.Need-returns-2
 returns-2 c =
     rw (← next-levels (c .before .before .before .before .before .before .before .before .before .args .s .now) (c .before .before .before .before .before .before .before .before .before .args .g) (c .before .before .before .before .before .before .before .before .before .pre) (c .before .before .before .before .before .before .before .before .before .args .k), ← c .before .before .before .before .before .before .before .top-of .ensures, ← c .before .before .before .before .before .before .level-of .ensures, ← c .before .before .before .before .before .level-of2 .ensures, ← c .before .before .before .before .level-of3 .ensures)
-    (next-at (firstFrom (c .before .before .before .before .before .before .before .before .before .args .k) (unmarked (layered (c .before .before .before .before .before .before .before .before .before .args .s .now) (c .before .before .before .before .before .before .before .top-of .result) (c .before .before .before .before .before .before .level-of .result) (c .before .before .before .before .before .level-of2 .result) (c .before .before .before .before .level-of3 .result)))) _ _ (sym (c .before .key .given .1) ∙ c .before .before .before .next-from .ensures))
+    (next-at (firstFrom (c .before .before .before .before .before .before .before .before .before .args .k) (unmarked (layered (c .before .before .before .before .before .before .before .before .before .args .s .now) (c .before .before .before .before .before .before .before .top-of .result) (c .before .before .before .before .before .before .level-of .result) (c .before .before .before .before .before .level-of2 .result) (c .before .before .before .before .level-of3 .result)))) _ _ (sym (c .before .key .given .1) ∙ c .before .before .before .next-from .ensures .0))
 
 pub next-key-spec : {M : Type 1} → statement M
 next-key-spec =

@@ -1,16 +1,15 @@
 use native.Mathlib.Omega.{arith}
-use mathlib.Core.Path.{_≡_, sym, _∙_, ap}
-use mathlib.Core.List.{List}
-use Rattle.levels.specs.Record.{Rec}
+use mathlib.Core.Path.{_≡_, sym, _∙_}
 use Rattle.levels.specs.Map.{unmarked, firstFrom}
 use Rattle.walk.specs.Walk.{rest, layered}
-use Rattle.walk.proofs.Four.{Abreast, rests, load, rests-start, upper-pay-in, next-hit, next-miss, next-end, walk-less}
+use Rattle.walk.proofs.Four.{Abreast, rests, load, upper-pay-in, next-hit, next-miss, next-end, walk-less}
+use Rattle.walk.proofs.From.{next-start}
 use Rattle.walk.proofs.next_from.Statement.{statement}
 use Rattle.walk.proofs.next_from.Tie as tie
 use Rattle.walk.proofs.next_from.Reads as reads
 use Rattle.walk.proofs.next_from.Lts as lts
+use Rattle.walk.proofs.cursor_from.Reads as cursor-from-reads
 use Rattle.walk.proofs.least.Reads as least-reads
-use Rattle.walk.proofs.refill.Reads as refill-reads
 use Rattle.walk.proofs.step.Reads as step-reads
 use Rattle.walk.proofs.upper.Reads as upper-reads
 
@@ -20,25 +19,25 @@ Inv-loop s d0 d1 d2 d3 q c0₀ c1₀ c2₀ c3₀ c0 c1 c2 c3 = Abreast s d0 d1 d
 abbrev μ-loop : tie.MeasureT-loop
 μ-loop s d0 d1 d2 d3 q c0₀ c1₀ c2₀ c3₀ c0 c1 c2 c3 = load (rest s d0 c0) (rest s d1 c1) (rest s d2 c2) (rest s d3 c3)
 
-refill-requires : tie.Need-refill-requires Inv-loop μ-loop
-refill-requires c κs = (c .before .pre .0, omega arith)
+cursor-from-requires : tie.Need-cursor-from-requires Inv-loop μ-loop
+cursor-from-requires c κs = c .before .pre .0
 
-refill-requires-2 : tie.Need-refill-requires-2 Inv-loop μ-loop
-refill-requires-2 c κs = (c .before .before .pre .1 .0, omega arith)
+cursor-from-requires-2 : tie.Need-cursor-from-requires-2 Inv-loop μ-loop
+cursor-from-requires-2 c κs = c .before .before .pre .1 .0
 
-refill-requires-3 : tie.Need-refill-requires-3 Inv-loop μ-loop
-refill-requires-3 c κs = (c .before .before .before .pre .1 .1 .0, omega arith)
+cursor-from-requires-3 : tie.Need-cursor-from-requires-3 Inv-loop μ-loop
+cursor-from-requires-3 c κs = c .before .before .before .pre .1 .1 .0
 
-refill-requires-4 : tie.Need-refill-requires-4 Inv-loop μ-loop
-refill-requires-4 c κs = (c .before .before .before .before .pre .1 .1 .1, omega arith)
+cursor-from-requires-4 : tie.Need-cursor-from-requires-4 Inv-loop μ-loop
+cursor-from-requires-4 c κs = c .before .before .before .before .pre .1 .1 .1
 
 loop-holds : tie.Need-loop-holds Inv-loop μ-loop
 loop-holds c =
-    let r0 = c .before .before .before .refill .ensures in
-    let r1 = c .before .before .refill2 .ensures in
-    let r2 = c .before .refill3 .ensures in
-    let r3 = c .refill4 .ensures in
-    (record { good0 = r0 .0; good1 = r1 .0; good2 = r2 .0; good3 = r3 .0 }, ap (λ (rs : List Rec). firstFrom (c .before .before .before .before .before .args .q) (unmarked rs)) (rests-start _ _ _ _ _ _ _ _ _ (r0 .1) (r1 .1) (r2 .1) (r3 .1)))
+    let r0 = c .before .before .before .cursor-from .ensures in
+    let r1 = c .before .before .cursor-from2 .ensures in
+    let r2 = c .before .cursor-from3 .ensures in
+    let r3 = c .cursor-from4 .ensures in
+    (record { good0 = r0 .good; good1 = r1 .good; good2 = r2 .good; good3 = r3 .good }, next-start _ _ _ _ _ _ _ _ _ _ r0 r1 r2 r3)
 
 least-requires : tie.Need-least-requires Inv-loop μ-loop
 least-requires c κs = tt
@@ -47,7 +46,7 @@ returns : tie.Need-returns Inv-loop μ-loop
 returns c =
     let i = c .before .before .loop .inv in
     let a = c .before .before .before .before .before .before .before .before in
-    rw (← i .1, next-end _ _ _ _ _ _ _ _ _ (i .0) _ (c .before .least .ensures) (c .if1 .taken) (a .args .q))
+    (rw (← i .1, next-end _ _ _ _ _ _ _ _ _ (i .0) _ (c .before .least .ensures) (c .if1 .taken) (a .args .q)), tt)
 
 upper-requires : tie.Need-upper-requires Inv-loop μ-loop
 upper-requires c κs = tt
@@ -70,7 +69,7 @@ returns-2 c =
     let k = c .before .before .before in
     let i = k .before .before .before .loop .inv in
     let a = k .before .before .before .before .before .before .before .before .before in
-    rw (← i .1, next-hit _ _ _ _ _ _ _ _ _ (i .0) _ (k .before .before .least .ensures) (k .before .if1 .left) _ (k .upper .ensures) (a .args .q) (c .before .if2 .taken))
+    (rw (← i .1, next-hit _ _ _ _ _ _ _ _ _ (i .0) _ (k .before .before .least .ensures) (k .before .if1 .left) _ (k .upper .ensures) (a .args .q) (c .before .if2 .taken)), k .before .if1 .left)
 
 step-requires : tie.Need-step-requires Inv-loop μ-loop
 step-requires c κs = (c .before .before .before .before .before .loop .inv .0 .good0, c .before .before .before .if1 .left)
@@ -105,10 +104,10 @@ next-from-spec =
     (tie.spec
     Inv-loop
     μ-loop
-    refill-requires
-    refill-requires-2
-    refill-requires-3
-    refill-requires-4
+    cursor-from-requires
+    cursor-from-requires-2
+    cursor-from-requires-3
+    cursor-from-requires-4
     loop-holds
     least-requires
     returns
