@@ -162,3 +162,12 @@ without-length k x (r ∷ rs) e = go (ℕ-discrete (r .key) k) (without-length k
     go : Dec (r .key ≡ k) → (find k rs ≡ some x → suc (length (without k rs)) ≡ length rs) → suc (length (without k (r ∷ rs))) ≡ suc (length rs)
     go (yes d) ih = ap (λ (l : List Rec). suc (length l)) (without-here k r rs d)
     go (no d) ih = ap (λ (l : List Rec). suc (length l)) (without-past k r rs d) ∙ ap suc (ih (sym (find-past k r rs d) ∙ e))
+
+-- a key that was not there: as before
+pub without-none : (k : ℕ) (rs : List Rec) → find k rs ≡ none → without k rs ≡ rs
+without-none k [] e = refl
+without-none k (r ∷ rs) e = go (ℕ-discrete (r .key) k) (without-none k rs)
+  where
+    go : Dec (r .key ≡ k) → (find k rs ≡ none → without k rs ≡ rs) → without k (r ∷ rs) ≡ r ∷ rs
+    go (yes d) ih = absurd (Option·none-ne-some r (sym e ∙ find-here k r rs d))
+    go (no d) ih = without-past k r rs d ∙ ap (λ (l : List Rec). r ∷ l) (ih (sym (find-past k r rs d) ∙ e))

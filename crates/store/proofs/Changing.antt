@@ -1,4 +1,4 @@
--- What the proofs of put and delete need: each answer of the code is the definition's, and demand 3 of it.
+-- What the proofs of put and delete need: each answer of the code is the definition's, and demands 1 to 3 of it.
 use Prim.Native.Nat.{ℕ, suc, _+_, _-_}
 use mathlib.Core.Path.{_≡_, refl, sym, ap, _∙_, subst}
 use mathlib.Core.Bool.{Bool, true, false, not}
@@ -19,9 +19,10 @@ use Rattle.levels.specs.Count.{Counts, countsOf}
 use Rattle.levels.proofs.PutDelete.{putRec, deleteRec, enter-is, put-live, put-full, put-new, delete-live, delete-absent}
 use Rattle.words.specs.Layout.{geometryAt, liveAt, storeAt}
 use Rattle.words.specs.Form.{reasonOf}
-use Rattle.words.specs.Calls.{Outcome, ChangeAnswer, changeOutcome, putOf, deleteOf}
+use Rattle.words.specs.Calls.{Outcome, ChangeAnswer, mapAt, changeOutcome, putOf, deleteOf}
 use Rattle.words.proofs.Steps.{put-of, delete-of}
 use Rattle.words.proofs.Demand.{Demand, ownPut, ownDelete, put-demand, delete-demand}
+use Rattle.words.proofs.MapAfter.{put-enters, delete-takes-out, put-refused-words, delete-refused-words, put-full-only}
 use Rattle.search.specs.declared.Found.{Found}
 use Rattle.search.specs.Search.{foundOf}
 use Rattle.form.specs.declared.Checked.the-variants.{Ready, Refused}
@@ -100,22 +101,35 @@ module _ (g : Geometry) (ws : List ℕ) (k : ℕ) where
       → _≡_ {A = Outcome ChangeAnswer} (record { answer = changedAnswer (changed.Done (record { live = false; tally = t })); words = ws }) (changeOutcome g ws (delete g (storeAt g ws) k))
   delete-none t h n = absent-outcome g ws t n ∙ ap (changeOutcome g ws) (sym (delete-absent g (storeAt g ws) k h))
 
--- the outcome of the definition has demand 3
+-- the reason in the answer is the definition's
+reason-is : (r : Changed) (out : List ℕ) (o : Outcome ChangeAnswer) (n : ℕ) → _≡_ {A = Outcome ChangeAnswer} (record { answer = changedAnswer r; words = out }) o → changedAnswer r .reason ≡ n → o .answer .reason ≡ n
+reason-is r out o n e q = sym (ap (λ (x : Outcome ChangeAnswer). x .answer .reason) e) ∙ q
+
+-- the outcome of the definition has demands 1 to 3
 pub put-done : (ws : List ℕ) (k v : ℕ) (r : Changed) (out : List ℕ) → _≡_ {A = Outcome ChangeAnswer} (record { answer = changedAnswer r; words = out }) (putOf ws k v) → PutDone ws k v r out
-put-done ws k v r out e = record {
-  outcome = e;
-  demand = λ z. let g : Geometry = geometryAt ws in
-      let s : Store = storeAt g ws in
-      subst (λ (x : Outcome ChangeAnswer). Demand g ws (ownPut g s k v) (mergesOf (put g s k v)) (x .answer) (x .words)) (sym e) (put-demand ws k v z);
-}
+put-done ws k v r out e =
+    let w : out ≡ putOf ws k v .words = ap (λ (x : Outcome ChangeAnswer). x .words) e in
+    record {
+      outcome = e;
+      map = λ z q. ap mapAt w ∙ put-enters ws z k v (reason-is r out (putOf ws k v) 0 e q);
+      full = λ z q. put-full-only ws k v (reason-is r out (putOf ws k v) 5 e q);
+      kept = λ h. w ∙ put-refused-words ws k v (λ q. h (ap (λ (x : Outcome ChangeAnswer). x .answer .reason) e ∙ q));
+      demand = λ z. let g : Geometry = geometryAt ws in
+          let s : Store = storeAt g ws in
+          subst (λ (x : Outcome ChangeAnswer). Demand g ws (ownPut g s k v) (mergesOf (put g s k v)) (x .answer) (x .words)) (sym e) (put-demand ws k v z);
+    }
 
 pub delete-done : (ws : List ℕ) (k : ℕ) (r : Changed) (out : List ℕ) → _≡_ {A = Outcome ChangeAnswer} (record { answer = changedAnswer r; words = out }) (deleteOf ws k) → DeleteDone ws k r out
-delete-done ws k r out e = record {
-  outcome = e;
-  demand = λ z. let g : Geometry = geometryAt ws in
-      let s : Store = storeAt g ws in
-      subst (λ (x : Outcome ChangeAnswer). Demand g ws (ownDelete g s k) (mergesOf (delete g s k)) (x .answer) (x .words)) (sym e) (delete-demand ws k z);
-}
+delete-done ws k r out e =
+    let w : out ≡ deleteOf ws k .words = ap (λ (x : Outcome ChangeAnswer). x .words) e in
+    record {
+      outcome = e;
+      map = λ z q. ap mapAt w ∙ delete-takes-out ws z k (reason-is r out (deleteOf ws k) 0 e q);
+      kept = λ h. w ∙ delete-refused-words ws k (λ q. h (ap (λ (x : Outcome ChangeAnswer). x .answer .reason) e ∙ q));
+      demand = λ z. let g : Geometry = geometryAt ws in
+          let s : Store = storeAt g ws in
+          subst (λ (x : Outcome ChangeAnswer). Demand g ws (ownDelete g s k) (mergesOf (delete g s k)) (x .answer) (x .words)) (sym e) (delete-demand ws k z);
+    }
 
 -- A store that is turned down.
 module _ (ws : List ℕ) (n : ℕ) (e : checkedOf ws ≡ Refused n) where

@@ -1,16 +1,14 @@
 -- Laws of the map of rows of records, without words: what the uppermost record decides, and which keys there are.
 use Prim.Native.Nat.{ℕ, suc, _≤_}
-use mathlib.Core.Path.{_≡_, refl, sym, _∙_}
-use mathlib.Core.Bool.{Bool, true, false, and-eq-true-iff, true≢false}
+use mathlib.Core.Path.{_≡_}
+use mathlib.Core.Bool.{Bool, true, false, and-eq-true-iff}
 use mathlib.Core.List.{List, [], _∷_}
-use mathlib.Core.Option.{none, some}
-use native.Mathlib.Decide.{ℕ-discrete}
 use native.Mathlib.Omega.{arith}
-use Rattle.levels.specs.Basics.{if_then_else_, all}
+use Rattle.levels.specs.Basics.{all}
 use Rattle.levels.specs.Record.{Rec, rising}
-use Rattle.levels.specs.Map.{find, into, overlay, view, unmarked, mapOf, decides, present, lookUp}
+use Rattle.levels.specs.Map.{into, overlay, view, unmarked}
 use Rattle.chunks.specs.Chunks.{Rising}
-use Rattle.chunks.proofs.Find.{find-here, find-past, find-below, find-overlay, into-below, into-same, into-above, Way, less, same, more, way}
+use Rattle.chunks.proofs.Find.{into-below, into-same, into-above, Way, less, same, more, way}
 use Rattle.chunks.proofs.Slots.{rising-is}
 
 -- every row rises
@@ -21,12 +19,6 @@ RowsRise (l ∷ ls) = Rising 0 l × RowsRise ls
 pub rows-rise : (ls : List (List Rec)) → all (rising 0) ls ≡ true → RowsRise ls
 rows-rise [] e = tt
 rows-rise (l ∷ ls) e = let k = simp and-eq-true-iff at e in (rising-is 0 l (k .0), rows-rise ls (k .1))
-
--- "the first level from 0 down that has k decides": the view has its record
-pub view-find : (k : ℕ) (ls : List (List Rec)) → RowsRise ls → find k (view ls) ≡ decides k ls
-unfolding view decides find
-view-find k [] h = refl
-view-find k (l ∷ ls) h = find-overlay k 0 l (view ls) (h .0) ∙ rw (view-find k ls (h .1))
 
 -- An overlay of lists that rise rises.
 into-rises : (low : ℕ) (x : Rec) (f : List Rec → List Rec) (ys : List Rec) → low ≤ x .key → Rising low ys
@@ -64,27 +56,3 @@ unmarked-rises low (r ∷ rs) h = go (r .tombstone) (unmarked-rises (suc (r .key
     go : (t : Bool) → Rising (suc (r .key)) (unmarked rs) → Rising low (elim t [ true ↦ unmarked rs | false ↦ r ∷ unmarked rs ])
     go true u = weaken low (suc (r .key)) (unmarked rs) (omega (arith, h .0)) u
     go false u = (h .0, u)
-
-present-live : (r : Rec) → r .tombstone ≡ false → present (some r) ≡ some r
-present-live r e = go (r .tombstone) e
-  where
-    go : (t : Bool) → t ≡ false → (if t then none else some r) ≡ some r
-    go true h = absurd (true≢false h)
-    go false h = refl
-
--- "a mark or no record is absent": the map has what the view has and is no tombstone
-pub unmarked-find : (k low : ℕ) (rs : List Rec) → Rising low rs → find k (unmarked rs) ≡ present (find k rs)
-unfolding unmarked find
-unmarked-find k low [] h = refl
-unmarked-find k low (r ∷ rs) h = go (r .tombstone) refl (ℕ-discrete (r .key) k) (unmarked-find k (suc (r .key)) rs (h .1))
-  where
-    go : (t : Bool) → r .tombstone ≡ t → Dec (r .key ≡ k) → find k (unmarked rs) ≡ present (find k rs) → find k (elim t [ true ↦ unmarked rs | false ↦ r ∷ unmarked rs ]) ≡ present (find k (r ∷ rs))
-    go true e (yes q) ih = rw (find-here k r rs q, e) (find-below k (suc (r .key)) (unmarked rs) (unmarked-rises (suc (r .key)) rs (h .1)) (omega arith))
-    go true e (no n) ih = rw (find-past k r rs n) ih
-    go false e (yes q) ih = rw (find-here k r rs q, find-here k r (unmarked rs) q, present-live r e)
-    go false e (no n) ih = rw (find-past k r rs n, find-past k r (unmarked rs) n) ih
-
--- Look up finds k in the map.
-pub map-find : (k : ℕ) (ls : List (List Rec)) → RowsRise ls → lookUp k ls ≡ find k (mapOf ls)
-unfolding lookUp mapOf
-map-find k ls h = sym (unmarked-find k 0 (view ls) (view-rises ls h) ∙ rw (view-find k ls h))

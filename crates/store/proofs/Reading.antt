@@ -16,17 +16,13 @@ use Rattle.levels.specs.Map.{find, view, mapOf, liveCount, firstFrom, next}
 use Rattle.levels.specs.Store.{rows}
 use Rattle.words.specs.Layout.{geometryAt, liveAt, storeAt, levelAt, placeOf}
 use Rattle.words.specs.Form.{keysRise, liveExact, formed, reasonOf}
-use Rattle.words.specs.Calls.{lookAnswer, nextAnswer, checkOf, lookUpOf, nextOf, enclosing, partOf, showIn, showOf}
+use Rattle.words.specs.Calls.{mapAt, nextAnswer, checkOf, lookUpOf, nextOf, enclosing, partOf, showIn, showOf}
 use Rattle.chunks.specs.Chunks.{Rising}
 use Rattle.chunks.proofs.Find.{find-here, find-past, find-below}
 use Rattle.entry.proofs.Laws.{size-short, size-broken, size-other, sized-opened, ready-reason}
 use Rattle.form.proofs.Ready.{checked-none, ready-live, ready-rises}
-use Rattle.store.proofs.Maps.{RowsRise, rows-rise, view-rises, unmarked-rises, map-find}
+use Rattle.store.proofs.Maps.{RowsRise, rows-rise, view-rises, unmarked-rises}
 use Rattle.store.proofs.Answering.{show-low, show-high, show-inside}
-
--- the finite map that a store's words hold: its records in key order
-abbrev pub mapAt : List ℕ → List Rec
-mapAt ws = mapOf (rows (storeAt (geometryAt ws) ws))
 
 module _ (ws : List ℕ) (e : reasonOf ws ≡ 0) where
   rise : RowsRise (rows (storeAt (geometryAt ws) ws))
@@ -45,11 +41,6 @@ module _ (ws : List ℕ) (e : reasonOf ws ≡ 0) where
   pub check-passes : checkOf ws ≡ 0
   unfolding checkOf
   check-passes = e
-
-  -- Look up finds k in the map, with its payload.
-  pub look-up-map : (k : ℕ) → lookUpOf ws k ≡ lookAnswer (find k (mapAt ws))
-  unfolding lookUpOf
-  look-up-map k = rw (none-test, lookUpOf, map-find k (rows (storeAt (geometryAt ws) ws)) rise)
 
   -- Next gives the first record of the map from k on.
   pub next-map : (k : ℕ) → nextOf ws k ≡ nextAnswer (firstFrom k (mapAt ws))

@@ -3,19 +3,23 @@ use Prim.Native.Nat.{ℕ, _+_, _<_}
 use mathlib.Core.Path.{_≡_}
 use mathlib.Core.Bool.{Bool, false, not, _||_}
 use mathlib.Core.List.{List}
+use mathlib.Core.Option.{none}
+use mathlib.Core.Logic.{_≢_}
 use lib.Dec.{ltb}
-use lib.ListN.{set}
+use lib.ListN.{length, set}
 use Rattle.geometry.specs.declared.Geometry.{Geometry}
-use Rattle.geometry.specs.Geometry.{topCapacityOf}
+use Rattle.geometry.specs.Geometry.{keyLimitOf, topCapacityOf}
 use Rattle.levels.specs.Basics.{isSome}
 use Rattle.levels.specs.Record.{Rec}
 use Rattle.levels.specs.Map.{find}
 use Rattle.levels.specs.Call.{Merge, afterMerges}
 use Rattle.levels.specs.Put.{insert, mergesFor, withRecord, put, delete, mergesOf}
 use Rattle.levels.specs.Count.{countsOf}
+use Rattle.levels.proofs.Insert.{without}
+use Rattle.levels.proofs.PutDelete.{putRec}
 use Rattle.words.specs.Layout.{geometryAt, topCountAt, topRecs, storeAt}
 use Rattle.words.specs.Form.{reasonOf}
-use Rattle.words.specs.Calls.{Outcome, ChangeAnswer, leftWords, putOf, deleteOf}
+use Rattle.words.specs.Calls.{Outcome, ChangeAnswer, mapAt, leftWords, putOf, deleteOf}
 use Rattle.words.proofs.Demand.{Demand, ownPut, ownDelete}
 use Rattle.search.specs.declared.Found.{Found}
 use Rattle.search.specs.declared.Found.the-variants as found
@@ -29,6 +33,12 @@ use Rattle.store.specs.Answers.{changedAnswer}
 pub record PutDone (ws : List ℕ) (k v : ℕ) (r : Changed) (out : List ℕ) : Type 0 where
   -- the answer and, word for word, the lent store of document 01's put, refusals with them
   pub outcome : _≡_ {A = Outcome ChangeAnswer} (record { answer = changedAnswer r; words = out }) (putOf ws k v)
+  -- demand 2, "a finite map fed with the same accepted puts and deletes": an accepted put enters its record
+  pub map : reasonOf ws ≡ 0 → changedAnswer r .reason ≡ 0 → mapAt out ≡ insert (putRec k v) (mapAt ws)
+  -- demand 2, "A put is turned down as full only for a new key when the map holds its stated limit."
+  pub full : reasonOf ws ≡ 0 → changedAnswer r .reason ≡ 5 → (find k (mapAt ws) ≡ none) × (length (mapAt ws) ≡ keyLimitOf (geometryAt ws))
+  -- demand 1, "with every lent word unchanged after a refusal"
+  pub kept : changedAnswer r .reason ≢ 0 → out ≡ ws
   -- demand 3 of the merges that it has made, where the store is not turned down
   pub demand : reasonOf ws ≡ 0
       → let g = geometryAt ws in let s = storeAt g ws in Demand g ws (ownPut g s k v) (mergesOf (put g s k v)) (changedAnswer r) out
@@ -36,6 +46,10 @@ pub record PutDone (ws : List ℕ) (k v : ℕ) (r : Changed) (out : List ℕ) : 
 -- and a delete of k
 pub record DeleteDone (ws : List ℕ) (k : ℕ) (r : Changed) (out : List ℕ) : Type 0 where
   pub outcome : _≡_ {A = Outcome ChangeAnswer} (record { answer = changedAnswer r; words = out }) (deleteOf ws k)
+  -- demand 2: an accepted delete takes its key out of the map
+  pub map : reasonOf ws ≡ 0 → changedAnswer r .reason ≡ 0 → mapAt out ≡ without k (mapAt ws)
+  -- demand 1, "with every lent word unchanged after a refusal"
+  pub kept : changedAnswer r .reason ≢ 0 → out ≡ ws
   pub demand : reasonOf ws ≡ 0
       → let g = geometryAt ws in let s = storeAt g ws in Demand g ws (ownDelete g s k) (mergesOf (delete g s k)) (changedAnswer r) out
 

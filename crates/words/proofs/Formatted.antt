@@ -1,7 +1,7 @@
 -- "Format": the words that it leaves are those of the empty store, and pass the form check.
-use Prim.Native.Nat.{ℕ, zero, suc, _+_, _-_, _*_}
-use mathlib.Core.Path.{_≡_, refl, sym, ap, subst, _∙_}
-use mathlib.Core.Bool.{Bool, true, false}
+use Prim.Native.Nat.{ℕ, zero, suc, _-_, _*_}
+use mathlib.Core.Path.{_≡_, refl, sym, ap, _∙_}
+use mathlib.Core.Bool.{true}
 use mathlib.Core.List.{List, [], _∷_, _++_, map}
 use native.Mathlib.Omega.{arith}
 use lib.ListN.{length, replicate, length-replicate}
@@ -10,7 +10,7 @@ use Rattle.geometry.specs.declared.Geometry.{Geometry}
 use Rattle.geometry.specs.Geometry.{Valid, capacityOf, topCapacityOf, blockWidth, storeLength, sizeReason}
 use Rattle.levels.specs.Basics.{all}
 use Rattle.levels.specs.Record.{Level}
-use Rattle.levels.specs.Store.{Store, emptyStore}
+use Rattle.levels.specs.Store.{emptyStore}
 use Rattle.levels.proofs.Laid.{all-append}
 use Rattle.levels.proofs.Empty.{empty-blocks, empty-fits, empty-sound}
 use Rattle.words.specs.Layout.{pad, headerWords, topWords, listWords, storeWords}
@@ -58,14 +58,19 @@ format-words g v =
     let n : length (behindHand g) ≡ storeLength g - 8 = omega (arith, l) in
     ap (λ (zs : List ℕ). g .b ∷ g .w ∷ g .d ∷ g .g ∷ g .h ∷ g .p ∷ 0 ∷ (g .p - 1) ∷ zs) (ap (λ (m : ℕ). replicate m 0) (sym n) ∙ sym (zeros-are (behindHand g) (zero-behind g)))
 
-empty-laid : (g : Geometry) → Laid g (clearArea g) (emptyStore g)
+pub empty-laid : (g : Geometry) → Laid g (clearArea g) (emptyStore g)
 unfolding emptyStore
 empty-laid g = record { full = length-replicate (g .p * blockWidth g) 0; standing = rw (empty-blocks (g .h)) tt }
 
--- what format leaves passes the form check
-pub format-passes : (ws : List ℕ) (g : Geometry) → sizeReason (length ws) g ≡ 0 → reasonOf (formatOf ws g .words) ≡ 0
+-- what format leaves, where it is not turned down
+pub format-leaves : (ws : List ℕ) (g : Geometry) → sizeReason (length ws) g ≡ 0 → formatOf ws g .words ≡ storeWords g (emptyStore g) (clearArea g)
 unfolding formatOf
-format-passes ws g e =
+format-leaves ws g e =
     let k = size-legal (length ws) g e in
-    rw (eq-eqb (sizeReason (length ws) g) 0 e, formatOf)
-    (ap (λ (n : ℕ). reasonOf (formatWords g n)) (k .1) ∙ ap reasonOf (format-words g (k .0)) ∙ reason-back g (emptyStore g) (clearArea g) (k .0) (empty-fits g) (empty-laid g) (empty-sound g (k .0)))
+    rw (eq-eqb (sizeReason (length ws) g) 0 e, formatOf) (ap (formatWords g) (k .1) ∙ format-words g (k .0))
+
+-- it passes the form check
+pub format-passes : (ws : List ℕ) (g : Geometry) → sizeReason (length ws) g ≡ 0 → reasonOf (formatOf ws g .words) ≡ 0
+format-passes ws g e =
+    let v = size-legal (length ws) g e .0 in
+    ap reasonOf (format-leaves ws g e) ∙ reason-back g (emptyStore g) (clearArea g) v (empty-fits g) (empty-laid g) (empty-sound g v)

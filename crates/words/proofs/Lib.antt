@@ -10,3 +10,4 @@ pub mod Reason
 pub mod Steps
 pub mod Demand
 pub mod Formatted
+pub mod MapAfter

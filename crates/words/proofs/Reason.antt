@@ -1,5 +1,5 @@
 -- "Why a call is turned down": 0 is the answer of a legal geometry, the layout's length and words that pass the form check.
-use Prim.Native.Nat.{ℕ}
+use Prim.Native.Nat.{ℕ, _≤_}
 use mathlib.Core.Path.{_≡_, refl, _∙_}
 use mathlib.Core.Bool.{Bool, true, false}
 use mathlib.Core.List.{List}
@@ -48,6 +48,26 @@ reason-formed ws e = go (sizeReason (length ws) (geometryAt ws)) (formed (geomet
     go r true true a f b z = let k = size-legal (length ws) (geometryAt ws) (a ∙ eqb-true r 0 b) in (k .0, k .1, f)
     go r false true a f b z = absurd (omega arith)
     go r t false a f b z = absurd (eqb-false r 0 b z)
+
+-- the last reason that words are turned down for is 4
+size-most : (n : ℕ) (g : Geometry) → sizeReason n g ≤ 3
+unfolding sizeReason
+size-most n g = go (ltb n 12) (isLegal g) (eqb n (storeLength g))
+  where
+    go : (a b c : Bool) → _≤_ (elim a [ true ↦ 1 | false ↦ elim b [ false ↦ 2 | true ↦ elim c [ true ↦ 0 | false ↦ 3 ] ] ]) 3
+    go true b c = omega arith
+    go false false c = omega arith
+    go false true true = omega arith
+    go false true false = omega arith
+
+pub reason-most : (ws : List ℕ) → reasonOf ws ≤ 4
+unfolding reasonOf
+reason-most ws = go (eqb (sizeReason (length ws) (geometryAt ws)) 0) (formed (geometryAt ws) ws)
+  where
+    go : (u t : Bool) → _≤_ (elim u [ true ↦ elim t [ true ↦ 0 | false ↦ 4 ] | false ↦ sizeReason (length ws) (geometryAt ws) ]) 4
+    go true true = omega arith
+    go true false = omega arith
+    go false t = omega (arith, size-most (length ws) (geometryAt ws))
 
 -- Everything about words that are not turned down.
 pub record Passed (g : Geometry) (ws : List ℕ) : Type 0 where

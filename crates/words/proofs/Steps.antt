@@ -65,15 +65,18 @@ laid-merges g e s (m ∷ ms) area f h l =
     writes-append g (m .written) (compactedBlocks (m .compactions) ++ writtenBlocks ms) area ∙ writes-append g (compactedBlocks (m .compactions)) (writtenBlocks ms) a in
     subst (λ (x : List ℕ). Laid g x (afterMerges (afterMerge m) ms)) (sym q) (laid-merges g e (afterMerge m) ms b (f .1) (h .1) i)
 
--- the words that a call leaves which enters a record
+-- a call that enters a record: the blocks of the store that it leaves stand in their places
+pub entered-laid : (g : Geometry) (ws : List ℕ) (r : Rec) (was : Bool) (live : ℕ) (ms : List Merge) (t : Store) → Passed g ws → EnterFacts g (storeAt g ws) r was live ms t → Laid g (writeBlocks g (areaOf g ws) (writtenBlocks ms)) t
+entered-laid g ws r was live ms t p f =
+    let s : Store = storeAt g ws in
+    let a = subst (ListFacts g s s) (sym (f .merges)) (call-facts g s (p .valid) (p .fits) (p .sound) (r .key)) in
+    laid-levels g (writeBlocks g (areaOf g ws) (writtenBlocks ms)) (afterMerges s ms) t (ap (λ (x : Store). x .levels) (f .store)) (laid-merges g s s ms (areaOf g ws) (a .facts) (a .chained) (p .laid))
+
+-- and its words pass the form check
 entered-passes : (g : Geometry) (ws : List ℕ) (r : Rec) (was : Bool) (live : ℕ) (ms : List Merge) (t : Store) → Passed g ws → EnterFacts g (storeAt g ws) r was live ms t → reasonOf (leftWords g ws ms t) ≡ 0
 unfolding leftWords
 entered-passes g ws r was live ms t p f =
-    let s : Store = storeAt g ws in
-    let a = subst (ListFacts g s s) (sym (f .merges)) (call-facts g s (p .valid) (p .fits) (p .sound) (r .key)) in
-    let l = laid-merges g s s ms (areaOf g ws) (a .facts) (a .chained) (p .laid) in
-    let d = laid-levels g (writeBlocks g (areaOf g ws) (writtenBlocks ms)) (afterMerges s ms) t (ap (λ (x : Store). x .levels) (f .store)) l in
-    reason-back g t (writeBlocks g (areaOf g ws) (writtenBlocks ms)) (p .valid) (f .fits) d (f .sound)
+    reason-back g t (writeBlocks g (areaOf g ws) (writtenBlocks ms)) (p .valid) (f .fits) (entered-laid g ws r was live ms t p f) (f .sound)
 
 -- a put or delete of words that pass the form check
 pub put-of : (ws : List ℕ) (k v : ℕ) → reasonOf ws ≡ 0 → putOf ws k v ≡ changeOutcome (geometryAt ws) ws (put (geometryAt ws) (storeAt (geometryAt ws) ws) k v)

@@ -8,7 +8,7 @@ use lib.ListN.{length, take, drop, replicate}
 use Rattle.geometry.specs.declared.Geometry.{Geometry}
 use Rattle.geometry.specs.Geometry.{keyLimitOf, placeStart, blockWidth, sizeReason, within}
 use Rattle.levels.specs.Record.{Rec, Block, Level, firstKey, lastKey}
-use Rattle.levels.specs.Map.{lookUp, next}
+use Rattle.levels.specs.Map.{mapOf, lookUp, next}
 use Rattle.levels.specs.Store.{Store, rows}
 use Rattle.levels.specs.Call.{Compaction, Merge}
 use Rattle.levels.specs.Put.{Change, refused, absent, entered, put, delete}
@@ -55,6 +55,11 @@ formatOf ws g =
       | true ↦ record { answer = record { reason = 0; limit = keyLimitOf g }; words = formatWords g (length ws) }
       | false ↦ record { answer = record { reason = r; limit = 0 }; words = ws }
     ]
+
+-- The finite map of a lent store (demand 2): "Every lookup and every next-key reading answers as a finite map fed with the same accepted puts and deletes."
+-- Its records, in key order.
+abbrev pub mapAt : List ℕ → List Rec
+mapAt ws = mapOf (rows (storeAt (geometryAt ws) ws))
 
 -- "Check: the reason 1 to 4 that a store is turned down for, or 0."
 unfoldable pub checkOf : List ℕ → ℕ

@@ -1,0 +1,178 @@
+-- Demand 2 on words: the map of the words that format, a put and a delete leave, what is looked up in them, and refusal 5.
+use Prim.Native.Nat.{ℕ}
+use mathlib.Core.Path.{_≡_, refl, sym, _∙_, ap}
+use mathlib.Core.Bool.{Bool, true, false, true≢false}
+use mathlib.Core.List.{List, []}
+use mathlib.Core.Option.{Option, none, some}
+use mathlib.Core.Logic.{_≢_}
+use native.Mathlib.Omega.{arith}
+use lib.Dec.{eqb}
+use lib.ListN.{length}
+use borrow.Author.Tests.{eqb-true, eq-eqb}
+use Rattle.geometry.specs.declared.Geometry.{Geometry}
+use Rattle.geometry.specs.Geometry.{Valid, keyLimitOf, sizeReason}
+use Rattle.levels.specs.Basics.{isSome}
+use Rattle.levels.specs.Record.{Rec}
+use Rattle.levels.specs.Map.{find, isLive, mapOf, liveCount}
+use Rattle.levels.specs.Store.{Store, emptyStore, rows}
+use Rattle.levels.specs.Call.{Merge}
+use Rattle.levels.specs.Put.{Change, refused, absent, entered, insert, put, delete}
+use Rattle.levels.proofs.Insert.{without, without-none, find-insert, find-insert-other, find-without, find-without-other}
+use Rattle.levels.proofs.View.{Risings, test-risings, map-rising, look-up-find, is-live-find}
+use Rattle.levels.proofs.Empty.{empty-map, empty-fits}
+use Rattle.levels.proofs.Sound.{Fits}
+use Rattle.levels.proofs.PutDelete.{putRec, EnterFacts, PutSays, DeleteSays, put-says, delete-says, put-map, delete-map, put-full}
+use Rattle.words.specs.Layout.{geometryAt, storeAt, areaOf, storeWords, writeBlocks}
+use Rattle.words.specs.Form.{reasonOf}
+use Rattle.words.specs.Calls.{Outcome, ChangeAnswer, mapAt, lookAnswer, writtenBlocks, leftWords, changeOutcome, formatOf, lookUpOf, putOf, deleteOf}
+use Rattle.words.proofs.Laid.{Laid}
+use Rattle.words.proofs.State.{geometry-back, read-back}
+use Rattle.words.proofs.Reason.{Passed, size-legal, reason-passed, reason-most}
+use Rattle.words.proofs.Steps.{entered-laid, put-of, delete-of, put-passes, delete-passes}
+use Rattle.words.proofs.Formatted.{clearArea, empty-laid, format-leaves}
+
+-- the map of the words of a store is the store's
+map-back : (g : Geometry) (s : Store) (area : List ℕ) → Valid g → Fits g s → Laid g area s → mapAt (storeWords g s area) ≡ mapOf (rows s)
+map-back g s area v f d =
+    ap (λ (x : Geometry). mapOf (rows (storeAt x (storeWords g s area)))) (geometry-back g s area) ∙ ap (λ (x : Store). mapOf (rows x)) (read-back g s area v f d)
+
+-- "Format": the map has no key
+pub format-map : (ws : List ℕ) (g : Geometry) → formatOf ws g .answer .reason ≡ 0 → mapAt (formatOf ws g .words) ≡ []
+unfolding formatOf
+format-map ws g e =
+    let z = go (eqb (sizeReason (length ws) g) 0) refl in
+    ap mapAt (format-leaves ws g z) ∙ map-back g (emptyStore g) (clearArea g) (size-legal (length ws) g z .0) (empty-fits g) (empty-laid g) ∙ empty-map g
+  where
+    go : (t : Bool) → eqb (sizeReason (length ws) g) 0 ≡ t → sizeReason (length ws) g ≡ 0
+    go true q = eqb-true (sizeReason (length ws) g) 0 q
+    go false q = rw (q, formatOf) at e
+
+-- the words that a call leaves which enters a record
+left-map : (g : Geometry) (ws : List ℕ) (r : Rec) (was : Bool) (live : ℕ) (ms : List Merge) (t : Store) → Passed g ws → EnterFacts g (storeAt g ws) r was live ms t → mapAt (leftWords g ws ms t) ≡ mapOf (rows t)
+unfolding leftWords
+left-map g ws r was live ms t p f = map-back g t (writeBlocks g (areaOf g ws) (writtenBlocks ms)) (p .valid) (f .fits) (entered-laid g ws r was live ms t p f)
+
+-- a key that is not live is not in the map
+not-found : (k : ℕ) (ls : List (List Rec)) → Risings ls → isLive k ls ≡ false → find k (mapOf ls) ≡ none
+not-found k ls h e = go (find k (mapOf ls)) (sym (is-live-find k ls h) ∙ e)
+  where
+    go : (o : Option Rec) → isSome o ≡ false → o ≡ none
+    go none q = refl
+    go (some r) q = absurd (true≢false q)
+
+sorted : (ws : List ℕ) → reasonOf ws ≡ 0 → Risings (rows (storeAt (geometryAt ws) ws))
+sorted ws e = test-risings (rows (storeAt (geometryAt ws) ws)) (reason-passed ws e .sound .keys-rise)
+
+-- Look up answers what the map has.
+pub look-up-of : (ws : List ℕ) (k : ℕ) → reasonOf ws ≡ 0 → lookUpOf ws k ≡ lookAnswer (find k (mapAt ws))
+unfolding lookUpOf
+look-up-of ws k e = rw (eq-eqb (reasonOf ws) 0 e, lookUpOf) (ap lookAnswer (look-up-find k (rows (storeAt (geometryAt ws) ws)) (sorted ws e)))
+
+-- "no lent word changes" where a put or delete is turned down, whatever the words are
+kept-words : (g : Geometry) (ws : List ℕ) (c : Change) → changeOutcome g ws c .answer .reason ≢ 0 → changeOutcome g ws c .words ≡ ws
+unfolding changeOutcome
+kept-words g ws (refused n) h = refl
+kept-words g ws absent h = refl
+kept-words g ws (entered was ms t) h = absurd (h refl)
+
+pub put-refused-words : (ws : List ℕ) (k v : ℕ) → putOf ws k v .answer .reason ≢ 0 → putOf ws k v .words ≡ ws
+unfolding putOf
+put-refused-words ws k v h = kept-words (geometryAt ws) ws _ h
+
+pub delete-refused-words : (ws : List ℕ) (k : ℕ) → deleteOf ws k .answer .reason ≢ 0 → deleteOf ws k .words ≡ ws
+unfolding deleteOf
+delete-refused-words ws k h = kept-words (geometryAt ws) ws _ h
+
+-- Words that pass the form check.
+module _ (ws : List ℕ) (e : reasonOf ws ≡ 0) where
+  -- "a finite map fed with the same accepted puts and deletes": after a put the map has its record for its key
+  pub put-enters : (k v : ℕ) → putOf ws k v .answer .reason ≡ 0 → mapAt (putOf ws k v .words) ≡ insert (putRec k v) (mapAt ws)
+  unfolding changeOutcome
+  put-enters k v q =
+      let p = reason-passed ws e in
+      let o = put-of ws k v e in
+      ap (λ (x : Outcome ChangeAnswer). mapAt (x .words)) o
+      ∙ go (put (geometryAt ws) (storeAt (geometryAt ws) ws) k v) refl (put-says (geometryAt ws) (storeAt (geometryAt ws) ws) (p .valid) (p .fits) (p .sound) k v) (sym (ap (λ (x : Outcome ChangeAnswer). x .answer .reason) o) ∙ q)
+    where
+      go : (c : Change) → put (geometryAt ws) (storeAt (geometryAt ws) ws) k v ≡ c → PutSays (geometryAt ws) (storeAt (geometryAt ws) ws) k v c → changeOutcome (geometryAt ws) ws c .answer .reason ≡ 0
+          → mapAt (changeOutcome (geometryAt ws) ws c .words) ≡ insert (putRec k v) (mapAt ws)
+      go (refused n) d h z = absurd (omega (arith, h .0, z))
+      go absent d h z = absurd h
+      go (entered was ms t) d h z =
+          let p = reason-passed ws e in
+          left-map (geometryAt ws) ws _ was _ ms t p h ∙ put-map (geometryAt ws) (storeAt (geometryAt ws) ws) (p .valid) (p .fits) (p .sound) k v was ms t d
+
+  -- and after a delete it is without its key
+  pub delete-takes-out : (k : ℕ) → deleteOf ws k .answer .reason ≡ 0 → mapAt (deleteOf ws k .words) ≡ without k (mapAt ws)
+  unfolding changeOutcome
+  delete-takes-out k q =
+      let p = reason-passed ws e in
+      ap (λ (x : Outcome ChangeAnswer). mapAt (x .words)) (delete-of ws k e)
+      ∙ go (delete (geometryAt ws) (storeAt (geometryAt ws) ws) k) refl (delete-says (geometryAt ws) (storeAt (geometryAt ws) ws) (p .valid) (p .fits) (p .sound) k)
+    where
+      go : (c : Change) → delete (geometryAt ws) (storeAt (geometryAt ws) ws) k ≡ c → DeleteSays (geometryAt ws) (storeAt (geometryAt ws) ws) k c
+          → mapAt (changeOutcome (geometryAt ws) ws c .words) ≡ without k (mapAt ws)
+      go (refused n) d h = absurd h
+      go absent d h = sym (without-none k (mapAt ws) (not-found k (rows (storeAt (geometryAt ws) ws)) (sorted ws e) h))
+      go (entered was ms t) d h =
+          let p = reason-passed ws e in
+          left-map (geometryAt ws) ws _ was _ ms t p (h .1) ∙ delete-map (geometryAt ws) (storeAt (geometryAt ws) ws) (p .valid) (p .fits) (p .sound) k was ms t d
+
+  -- So a key that was put is found with its payload, a key that was deleted is not found, and every other key is looked up as before.
+  pub put-finds : (k v : ℕ) → putOf ws k v .answer .reason ≡ 0 → lookUpOf (putOf ws k v .words) k ≡ record { reason = 0; found = true; pay = v }
+  put-finds k v q =
+      look-up-of (putOf ws k v .words) k (put-passes ws k v e)
+      ∙ ap (λ (m : List Rec). lookAnswer (find k m)) (put-enters k v q) ∙ ap lookAnswer (find-insert (putRec k v) (mapAt ws))
+
+  pub put-others : (k v j : ℕ) → putOf ws k v .answer .reason ≡ 0 → k ≢ j → lookUpOf (putOf ws k v .words) j ≡ lookUpOf ws j
+  put-others k v j q n =
+      look-up-of (putOf ws k v .words) j (put-passes ws k v e)
+      ∙ ap (λ (m : List Rec). lookAnswer (find j m)) (put-enters k v q) ∙ ap lookAnswer (find-insert-other j (putRec k v) (mapAt ws) n)
+      ∙ sym (look-up-of ws j e)
+
+  pub delete-finds : (k : ℕ) → deleteOf ws k .answer .reason ≡ 0 → lookUpOf (deleteOf ws k .words) k ≡ record { reason = 0; found = false; pay = 0 }
+  delete-finds k q =
+      look-up-of (deleteOf ws k .words) k (delete-passes ws k e)
+      ∙ ap (λ (m : List Rec). lookAnswer (find k m)) (delete-takes-out k q)
+      ∙ ap lookAnswer (find-without 0 k (mapAt ws) (map-rising (rows (storeAt (geometryAt ws) ws)) (sorted ws e)))
+
+  pub delete-others : (k j : ℕ) → deleteOf ws k .answer .reason ≡ 0 → k ≢ j → lookUpOf (deleteOf ws k .words) j ≡ lookUpOf ws j
+  delete-others k j q n =
+      look-up-of (deleteOf ws k .words) j (delete-passes ws k e)
+      ∙ ap (λ (m : List Rec). lookAnswer (find j m)) (delete-takes-out k q) ∙ ap lookAnswer (find-without-other j k (mapAt ws) n)
+      ∙ sym (look-up-of ws j e)
+
+  -- "live (number of keys in the map)"
+  map-length : length (mapAt ws) ≡ storeAt (geometryAt ws) ws .live
+  unfolding liveCount
+  map-length = reason-passed ws e .sound .live-exact
+
+  -- Refusal 5 of words that pass: "only for a new key when the map holds its stated limit", and then it is due.
+  full-passes : (k v : ℕ) → putOf ws k v .answer .reason ≡ 5 → (find k (mapAt ws) ≡ none) × (length (mapAt ws) ≡ keyLimitOf (geometryAt ws))
+  unfolding changeOutcome
+  full-passes k v q =
+      let p = reason-passed ws e in
+      go (put (geometryAt ws) (storeAt (geometryAt ws) ws) k v) (put-says (geometryAt ws) (storeAt (geometryAt ws) ws) (p .valid) (p .fits) (p .sound) k v)
+      (sym (ap (λ (x : Outcome ChangeAnswer). x .answer .reason) (put-of ws k v e)) ∙ q)
+    where
+      go : (c : Change) → PutSays (geometryAt ws) (storeAt (geometryAt ws) ws) k v c → changeOutcome (geometryAt ws) ws c .answer .reason ≡ 5
+          → (find k (mapAt ws) ≡ none) × (length (mapAt ws) ≡ keyLimitOf (geometryAt ws))
+      go (refused n) h z = (not-found k (rows (storeAt (geometryAt ws) ws)) (sorted ws e) (h .1), map-length ∙ h .2)
+      go absent h z = absurd h
+      go (entered was ms t) h z = absurd (omega (arith, z))
+
+  pub put-full-then : (k v : ℕ) → find k (mapAt ws) ≡ none → length (mapAt ws) ≡ keyLimitOf (geometryAt ws) → putOf ws k v .answer .reason ≡ 5
+  unfolding changeOutcome
+  put-full-then k v h l =
+      let s : Store = storeAt (geometryAt ws) ws in
+      let n = is-live-find k (rows s) (sorted ws e) ∙ ap isSome h in
+      ap (λ (x : Outcome ChangeAnswer). x .answer .reason) (put-of ws k v e ∙ ap (changeOutcome (geometryAt ws) ws) (put-full (geometryAt ws) s k v n (eq-eqb (s .live) (keyLimitOf (geometryAt ws)) (sym map-length ∙ l))))
+
+-- Demand 2, of all words: "A put is turned down as full only for a new key when the map holds its stated limit."
+pub put-full-only : (ws : List ℕ) (k v : ℕ) → putOf ws k v .answer .reason ≡ 5 → (find k (mapAt ws) ≡ none) × (length (mapAt ws) ≡ keyLimitOf (geometryAt ws))
+unfolding putOf changeOutcome
+put-full-only ws k v q = go (eqb (reasonOf ws) 0) refl
+  where
+    go : (t : Bool) → eqb (reasonOf ws) 0 ≡ t → (find k (mapAt ws) ≡ none) × (length (mapAt ws) ≡ keyLimitOf (geometryAt ws))
+    go true z = full-passes ws (eqb-true (reasonOf ws) 0 z) k v q
+    go false z = let r : reasonOf ws ≡ 5 = rw (z, putOf) at q in absurd (omega (arith, r, reason-most ws))
