@@ -16,10 +16,10 @@ use Rattle.levels.specs.Store.{Store, usedIn}
 use Rattle.levels.specs.Call.{Compaction, Merge, compactLevel, compactIfNeeded, afterCompactions, stepFive, mergeRun, mergeLevel, afterMerge}
 use Rattle.levels.specs.Count.{blocksMerged, blocksCompacted, totalCompacted, countsOf}
 use Rattle.levels.specs.Count as levels
-use Rattle.levels.proofs.Every.{Every}
-use Rattle.levels.proofs.Inside.{Inside}
-use Rattle.levels.proofs.CompactInside.{CompactionFacts, compaction-newly, needed-stepped}
-use Rattle.levels.proofs.InCall.{MergeFacts}
+use Rattle.levels.specs.Every.{Every}
+use Rattle.levels.specs.Inside.{Inside}
+use Rattle.levels.specs.InCall.{CompactionFacts, MergeFacts}
+use Rattle.levels.proofs.CompactInside.{compaction-newly, needed-stepped}
 use Rattle.levels.proofs.MergeBounds.{merge-written}
 use Rattle.words.specs.Layout.{areaOf, writeBlocks}
 use Rattle.words.specs.Calls.{compactedBlocks}

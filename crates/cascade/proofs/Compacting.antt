@@ -19,18 +19,21 @@ use Rattle.levels.specs.Store.{Store, usedIn, allocationOf}
 use Rattle.levels.specs.Call.{Compaction, compactLevel, compactIfNeeded, afterCompactions}
 use Rattle.levels.specs.Count.{blocksCompacted, totalCompacted}
 use Rattle.levels.specs.Count as levels
-use Rattle.levels.proofs.Every.{Every, allBlocks}
+use Rattle.levels.specs.Every.{Every, allBlocks}
+use Rattle.levels.specs.Sound.{BlockFits}
+use Rattle.levels.specs.Inside.{Inside}
+use Rattle.levels.specs.InCall.{CompactionFacts}
 use Rattle.levels.proofs.Entry.{inside-fit, blocks-at}
-use Rattle.levels.proofs.Sound.{BlockFits}
 use Rattle.levels.proofs.StoreRows.{set-at, set-here}
 use Rattle.levels.proofs.Room.{compact-room-numbers}
-use Rattle.levels.proofs.Inside.{Inside, inside-used}
-use Rattle.levels.proofs.CompactInside.{CompactionFacts, compact-facts, compaction-newly}
+use Rattle.levels.proofs.Inside.{inside-used}
+use Rattle.levels.proofs.CompactInside.{compact-facts, compaction-newly}
 use Rattle.words.specs.Layout.{blockAt, placeOf, areaOf, writeBlocks}
 use Rattle.words.specs.Calls.{compactedBlocks}
 use Rattle.words.proofs.Laid.{places-are}
 use Rattle.words.proofs.Steps.{laid-compaction}
-use Rattle.lists.proofs.Laws.{HoldsBut, but-area}
+use Rattle.lists.specs.Holds.{HoldsBut}
+use Rattle.lists.proofs.Laws.{but-area}
 use Rattle.blocks.specs.Blocks.{Marks}
 use Rattle.merging.specs.declared.Merged.{Merged}
 use Rattle.merging.specs.Contract.{ListedBlock, countMarks, Leaves}

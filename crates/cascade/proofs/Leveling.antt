@@ -12,11 +12,11 @@ use Rattle.levels.specs.Record.{Rec, Block, Level}
 use Rattle.levels.specs.Store.{Store, usedIn}
 use Rattle.levels.specs.Call.{Merge, mergeCut, mergeRun, mergeLevel}
 use Rattle.levels.specs.Count as levels
+use Rattle.levels.specs.Inside.{Inside}
+use Rattle.levels.specs.InCall.{MergeFacts}
 use Rattle.levels.proofs.StoreRows.{set-at}
-use Rattle.levels.proofs.Inside.{Inside}
-use Rattle.levels.proofs.InCall.{MergeFacts}
 use Rattle.words.specs.Layout.{topRecs, areaOf, writeBlocks}
-use Rattle.lists.proofs.Laws.{HoldsBut}
+use Rattle.lists.specs.Holds.{HoldsBut}
 use Rattle.blocks.specs.Blocks.{Marks}
 use Rattle.cascade.specs.declared.Tally.{Tally}
 use Rattle.cascade.specs.declared.Run.{Run}

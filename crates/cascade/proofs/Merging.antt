@@ -19,22 +19,23 @@ use Rattle.levels.specs.Store.{Store, blocksOf, usedIn, allocationOf}
 use Rattle.levels.specs.Call.{Merge, mergeCut, mergeRun, mergeLevel}
 use Rattle.levels.specs.Count.{blocksMerged, aboveOf, underOf}
 use Rattle.levels.specs.Count as levels
+use Rattle.levels.specs.InCall.{Due, MergeFacts}
+use Rattle.levels.specs.Every.{Every, allBlocks}
+use Rattle.levels.specs.Sound.{BlockFits}
+use Rattle.levels.specs.Inside.{Inside}
 use Rattle.levels.proofs.Capacity.{window-half, window-capacity-half}
-use Rattle.levels.proofs.Chosen.{Due}
 use Rattle.levels.proofs.Levels.{rising-ordered, sized-filled}
 use Rattle.levels.proofs.Overlap.{window-fits, choose-window}
 use Rattle.levels.proofs.Rising.{rising-test}
 use Rattle.levels.proofs.Room.{merge-room-numbers}
-use Rattle.levels.proofs.Every.{Every, allBlocks}
 use Rattle.levels.proofs.Entry.{inside-fit, blocks-at}
-use Rattle.levels.proofs.Sound.{BlockFits}
 use Rattle.levels.proofs.StoreRows.{set-at, set-here}
-use Rattle.levels.proofs.Inside.{Inside, inside-used}
-use Rattle.levels.proofs.InCall.{MergeFacts}
+use Rattle.levels.proofs.Inside.{inside-used}
 use Rattle.levels.proofs.MergeBounds.{merge-written}
 use Rattle.words.specs.Layout.{blockAt, placeOf, areaOf, writeBlocks}
 use Rattle.words.proofs.Steps.{laid-merge}
-use Rattle.lists.proofs.Laws.{HoldsBut, but-area}
+use Rattle.lists.specs.Holds.{HoldsBut}
+use Rattle.lists.proofs.Laws.{but-area}
 use Rattle.blocks.specs.Blocks.{Marks}
 use Rattle.merging.specs.Contract.{ListedBlock}
 use Rattle.pair.specs.declared.Step.{Step}

@@ -18,28 +18,30 @@ use Rattle.levels.specs.Place.{Settled, settle, placesOf}
 use Rattle.levels.specs.Store.{Store, rows, blocksOf, usedIn, allocationOf}
 use Rattle.levels.specs.Count.{aboveOf, underOf}
 use Rattle.levels.specs.Call.{Merge, mergeCut, mergeRun, mergeLevel}
+use Rattle.levels.specs.Every.{Every, allBlocks}
+use Rattle.levels.specs.Sound.{BlockFits}
+use Rattle.levels.specs.Inside.{Inside}
+use Rattle.levels.specs.InCall.{MergeFacts}
 use Rattle.levels.proofs.Basics.{and-left, and-right, and-both}
 use Rattle.levels.proofs.Compaction.{pages-full}
 use Rattle.levels.proofs.Rising.{rising-test}
 use Rattle.levels.proofs.Rows.{risings-at}
-use Rattle.levels.proofs.Every.{Every, allBlocks}
 use Rattle.levels.proofs.Entry.{inside-fit, blocks-at}
-use Rattle.levels.proofs.Sound.{BlockFits}
 use Rattle.levels.proofs.StoreRows.{set-here}
-use Rattle.levels.proofs.Inside.{Inside}
-use Rattle.levels.proofs.InCall.{MergeFacts}
-use Rattle.words.specs.Layout.{word, topCountAt, topSlots, topRecs, each, blockAt, areaOf, topWords, writeBlocks}
+use Rattle.words.specs.Layout.{word, topCountAt, topSlots, topRecs, each, blockAt, areaOf, topWords, writeBlocks, topLength}
 use Rattle.words.specs.Form.{topUnusedZero, blank}
+use Rattle.words.specs.Passed.{Laid}
 use Rattle.words.proofs.Slots.{padRecs, pad-blank}
-use Rattle.words.proofs.Top.{topLength, top-words-length, top-marks, top-read}
+use Rattle.words.proofs.Top.{top-words-length, top-marks, top-read}
 use Rattle.words.proofs.Form.{all-part, marks-small}
-use Rattle.words.proofs.Laid.{Laid, laid-levels}
+use Rattle.words.proofs.Laid.{laid-levels}
 use Rattle.words.proofs.State.{top-end, top-inside, lists-length, store-length}
 use Rattle.words.proofs.Steps.{laid-merge}
 use Rattle.lists.specs.Lists.{putAt}
+use Rattle.lists.specs.Holds.{HoldsBut}
 use Rattle.lists.proofs.Put.{set-put, put-length}
 use Rattle.lists.proofs.Keeps.{put-drop}
-use Rattle.lists.proofs.Laws.{HoldsBut, but-area, but-top}
+use Rattle.lists.proofs.Laws.{but-area, but-top}
 use Rattle.lists.proofs.Laws as listed
 use Rattle.top.specs.Top.{TopReady}
 use Rattle.top.specs.Top as top

@@ -14,10 +14,11 @@ use Rattle.levels.specs.Store.{Store, rows}
 use Rattle.levels.specs.Call.{Compaction, Merge, mergeLevel, afterMerge, afterMerges, deepestOver, mergesBelow}
 use Rattle.levels.specs.Count.{blocksMerged, blocksCompacted, totalInto, totalCompacted, countsOf}
 use Rattle.levels.specs.Count as levels
-use Rattle.levels.proofs.Every.{Every}
-use Rattle.levels.proofs.StoreRows.{load}
-use Rattle.levels.proofs.CompactInside.{CompactionFacts, compaction-newly}
-use Rattle.levels.proofs.InCall.{MergeFacts, next-facts, merge-start, below-stop, below-next}
+use Rattle.levels.specs.Every.{Every}
+use Rattle.levels.specs.Inside.{load}
+use Rattle.levels.specs.InCall.{CompactionFacts, MergeFacts}
+use Rattle.levels.proofs.CompactInside.{compaction-newly}
+use Rattle.levels.proofs.InCall.{next-facts, merge-start, below-stop, below-next}
 use Rattle.levels.proofs.CallCounts.{merge-short}
 use Rattle.levels.proofs.MergeBounds.{merge-written}
 use Rattle.words.specs.Layout.{areaOf, writeBlocks}

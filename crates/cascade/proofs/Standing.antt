@@ -16,17 +16,20 @@ use Rattle.levels.specs.Basics.{member}
 use Rattle.levels.specs.Record.{Rec, Block, Level, size, records, rising}
 use Rattle.levels.specs.Place.{placesOf, inUse}
 use Rattle.levels.specs.Store.{Store, usedIn}
-use Rattle.levels.proofs.Every.{Every, every-at, every-make, every-turn, every-both, allBlocks}
-use Rattle.levels.proofs.Sound.{BlockFits}
+use Rattle.levels.specs.Every.{Every, allBlocks}
+use Rattle.levels.specs.Sound.{BlockFits}
+use Rattle.levels.specs.Inside.{Inside}
+use Rattle.levels.proofs.Every.{every-at, every-make, every-turn, every-both}
 use Rattle.levels.proofs.Entry.{blocks-at, inside-fit}
-use Rattle.levels.proofs.Inside.{Inside}
-use Rattle.words.specs.Layout.{word, topCountAt, topSlots, topRecs, recordCount, markWordAt, markWord, blockAt, placeOf, blockWords, areaOf}
+use Rattle.words.specs.Layout.{word, topCountAt, topSlots, topRecs, recordCount, markWordAt, markWord, blockAt, placeOf, blockWords, areaOf, placeWords}
+use Rattle.words.specs.Passed.{Laid}
 use Rattle.words.proofs.Slots.{mark-low, padRecs}
-use Rattle.words.proofs.Blocks.{placeWords, place-words, place-of, place-below, count-read, mark-read, block-read}
+use Rattle.words.proofs.Blocks.{place-words, place-of, place-below, count-read, mark-read, block-read}
 use Rattle.words.proofs.Top.{top-read}
-use Rattle.words.proofs.Laid.{Laid, places-are, in-use-are, member-map}
+use Rattle.words.proofs.Laid.{places-are, in-use-are, member-map}
 use Rattle.words.proofs.State.{top-inside}
-use Rattle.lists.proofs.Laws.{HoldsBut, placesIn}
+use Rattle.lists.specs.Holds.{HoldsBut}
+use Rattle.lists.proofs.Laws.{placesIn}
 use Rattle.lists.proofs.Arrays.{three-places}
 use Rattle.blocks.specs.Blocks.{Marks}
 use Rattle.merging.specs.Contract.{ListedBlock}

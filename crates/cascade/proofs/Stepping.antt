@@ -13,13 +13,13 @@ use Rattle.levels.specs.Waste.{needsCompact}
 use Rattle.levels.specs.Store.{Store, usedIn}
 use Rattle.levels.specs.Call.{Compaction, compactLevel, compactIfNeeded, afterCompactions}
 use Rattle.levels.specs.Count as levels
+use Rattle.levels.specs.Inside.{Inside}
 use Rattle.levels.proofs.StoreRows.{set-at}
-use Rattle.levels.proofs.Inside.{Inside}
 use Rattle.levels.proofs.CompactInside.{needed-stepped}
 use Rattle.words.specs.Layout.{topCountAt, topSlots, topRecs, areaOf, writeBlocks}
 use Rattle.words.specs.Calls.{compactedBlocks}
 use Rattle.words.proofs.Top.{top-slots-length}
-use Rattle.lists.proofs.Laws.{HoldsBut}
+use Rattle.lists.specs.Holds.{HoldsBut}
 use Rattle.blocks.specs.Blocks.{Marks}
 use Rattle.cascade.specs.declared.Tally.{Tally}
 use Rattle.cascade.specs.declared.Run.{Run}

@@ -14,20 +14,23 @@ use Rattle.levels.specs.Store.{Store, rows, blocksOf}
 use Rattle.levels.specs.Call.{Merge, mergeLevel, afterMerge, afterMerges, mergesBelow, mergesFrom, enoughSteps}
 use Rattle.levels.specs.Count.{countsOf}
 use Rattle.levels.specs.Count as levels
-use Rattle.levels.proofs.Sound.{Fits, Sound}
+use Rattle.levels.specs.Sound.{Fits, Sound}
+use Rattle.levels.specs.Inside.{load, Inside, Entry, Ruled}
+use Rattle.levels.specs.InCall.{MergeFacts}
 use Rattle.levels.proofs.Entry.{entry-of, entry-inside, inside-fit}
-use Rattle.levels.proofs.StoreRows.{load, load-enough}
-use Rattle.levels.proofs.Inside.{Inside, Entry, Ruled, inside-bottom}
-use Rattle.levels.proofs.InCall.{MergeFacts, ListFacts, deepest-says, merge-start, below-same}
+use Rattle.levels.proofs.StoreRows.{load-enough}
+use Rattle.levels.proofs.Inside.{inside-bottom}
+use Rattle.levels.proofs.InCall.{ListFacts, deepest-says, merge-start, below-same}
 use Rattle.levels.proofs.CallMerges.{from-is, first-facts, from-facts, from-ends}
 use Rattle.levels.proofs.CallCounts.{steps-high}
 use Rattle.words.specs.Layout.{topCountAt, countAt, listedAt, cursorAt, storeAt, areaOf, storeWords, writeBlocks, placeOf}
 use Rattle.words.specs.Calls.{compactedBlocks, writtenBlocks, leftWords}
+use Rattle.words.specs.Passed.{Passed}
 use Rattle.words.proofs.State.{Holds, words-hold, cursor-held, top-count-held}
-use Rattle.words.proofs.Reason.{Passed}
 use Rattle.lists.specs.Lists.{roomOf, withLists}
+use Rattle.lists.specs.Holds.{HoldsBut}
 use Rattle.lists.proofs.Room.{room-level}
-use Rattle.lists.proofs.Laws.{HoldsBut, placesIn, but-held, lists-back}
+use Rattle.lists.proofs.Laws.{placesIn, but-held, lists-back}
 use Rattle.lists.proofs.Arrays.{three-places, count-held, count-room, places-listed}
 use Rattle.cascade.specs.declared.Tally.{Tally}
 use Rattle.cascade.specs.declared.Run.{Run}

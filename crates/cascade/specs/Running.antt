@@ -13,13 +13,12 @@ use Rattle.levels.specs.Store.{Store, rows, usedIn}
 use Rattle.levels.specs.Call.{Compaction, Merge, mergeLevel, mergesFrom, afterMerges}
 use Rattle.levels.specs.Count.{blocksMerged, totalCompacted}
 use Rattle.levels.specs.Count as levels
-use Rattle.levels.proofs.StoreRows.{load}
-use Rattle.levels.proofs.Inside.{Inside, Entry, Ruled}
-use Rattle.levels.proofs.InCall.{MergeFacts}
+use Rattle.levels.specs.Inside.{load, Inside, Entry, Ruled}
+use Rattle.levels.specs.InCall.{MergeFacts}
 use Rattle.words.specs.Calls.{leftWords}
-use Rattle.words.proofs.Reason.{Passed}
+use Rattle.words.specs.Passed.{Passed}
 use Rattle.words.specs.Layout.{geometryAt, topCountAt, storeAt, liveAt, topRecs, blockAt, placeOf, areaOf, writeBlocks}
-use Rattle.lists.proofs.Laws.{HoldsBut}
+use Rattle.lists.specs.Holds.{HoldsBut}
 use Rattle.blocks.specs.Blocks.{Marks}
 use Rattle.cascade.specs.declared.Counts.{Counts}
 use Rattle.cascade.specs.declared.Tally.{Tally}

@@ -8,7 +8,7 @@ use lib.ListN.{length}
 use Rattle.levels.specs.Basics.{if_then_else_}
 use Rattle.levels.specs.Record.{Rec, Level, new, pack}
 use Rattle.levels.specs.Merge.{Out, flush, gather}
-use Rattle.levels.proofs.Levels.{Sized}
+use Rattle.levels.specs.Well.{Sized}
 use Rattle.merging.proofs.Settle.{NewFit}
 
 -- nothing is gathered

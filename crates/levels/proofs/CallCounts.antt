@@ -18,12 +18,14 @@ use Rattle.levels.specs.Store.{Store, blocksOf}
 use Rattle.levels.specs.Call.{Compaction, Merge, compactLevel, compactIfNeeded, afterCompactions, stepFive, mergeRun, mergeLevel, afterMerge, deepestOver, mergesBelow, mergesFrom, enoughSteps}
 use Rattle.levels.specs.Put.{mergesFor}
 use Rattle.levels.specs.Count.{blocksMerged, blocksCompacted, totalInto, totalCompacted, countsOf}
+use Rattle.levels.specs.Every.{Every}
+use Rattle.levels.specs.Sound.{Fits, Sound}
+use Rattle.levels.specs.InCall.{CompactionFacts, MergeFacts}
 use Rattle.levels.proofs.Fits.{within-records}
-use Rattle.levels.proofs.Every.{Every, every-turn}
-use Rattle.levels.proofs.Sound.{Fits, Sound}
+use Rattle.levels.proofs.Every.{every-turn}
 use Rattle.levels.proofs.Entry.{entry-within}
-use Rattle.levels.proofs.CompactInside.{CompactionFacts, compaction-newly}
-use Rattle.levels.proofs.InCall.{MergeFacts, below-stop, below-go, below-none}
+use Rattle.levels.proofs.CompactInside.{compaction-newly}
+use Rattle.levels.proofs.InCall.{below-stop, below-go, below-none}
 use Rattle.levels.proofs.MergeBounds.{merge-written}
 use Rattle.levels.proofs.CallMerges.{for-none, for-full, from-is, call-merges}
 

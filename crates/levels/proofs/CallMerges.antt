@@ -17,19 +17,21 @@ use Rattle.levels.specs.Store.{Store, rows, blocksOf}
 use Rattle.levels.specs.Call.{Merge, mergeRun, mergeLevel, afterMerge, afterMerges, deepestOver, mergesBelow, mergesFrom, enoughSteps}
 use Rattle.levels.specs.Put.{mergesFor}
 use Rattle.levels.specs.Count.{totalInto}
+use Rattle.levels.specs.InCall.{Due, CompactionFacts, MergeFacts}
+use Rattle.levels.specs.Every.{Every}
+use Rattle.levels.specs.Sound.{Fits, Sound}
+use Rattle.levels.specs.Inside.{load, Inside, Entry, Ruled}
 use Rattle.levels.proofs.Basics.{or-false}
 use Rattle.levels.proofs.Compaction.{pages-well, pages-full, pages-records}
 use Rattle.levels.proofs.Merged.{upper-fewer}
-use Rattle.levels.proofs.Chosen.{Due, due-mergeable}
-use Rattle.levels.proofs.Every.{Every, every-turn}
-use Rattle.levels.proofs.Sound.{Fits, Sound}
-use Rattle.levels.proofs.StoreRows.{load, load-enough}
+use Rattle.levels.proofs.Chosen.{due-mergeable}
+use Rattle.levels.proofs.Every.{every-turn}
+use Rattle.levels.proofs.StoreRows.{load-enough}
 use Rattle.levels.proofs.MergeRun.{run-rows}
-use Rattle.levels.proofs.Inside.{Inside, Entry, Ruled, inside-sorted, inside-bottom}
+use Rattle.levels.proofs.Inside.{inside-sorted, inside-bottom}
 use Rattle.levels.proofs.MergeInside.{chosenAt}
 use Rattle.levels.proofs.Entry.{entry-ruled, entry-of, entry-inside}
-use Rattle.levels.proofs.CompactInside.{CompactionFacts}
-use Rattle.levels.proofs.InCall.{MergeFacts, merge-facts, deepest-says, next-facts, ListFacts, merge-start, merge-level, below-stop, below-go, below-none, below-facts, below-ends}
+use Rattle.levels.proofs.InCall.{merge-facts, deepest-says, next-facts, ListFacts, merge-start, merge-level, below-stop, below-go, below-none, below-facts, below-ends}
 
 merge-top : (g : Geometry) (j : ℕ) (s : Store) → mergeLevel g (suc j) s .finish .top ≡ s .top
 unfolding mergeLevel mergeRun

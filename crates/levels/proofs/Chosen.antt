@@ -9,13 +9,15 @@ use Rattle.geometry.specs.Geometry.{Ranged, capacityOf, windowOf}
 use Rattle.geometry.proofs.Laws.{window-low}
 use Rattle.levels.specs.Record.{Level, records}
 use Rattle.levels.specs.Choose.{choose, cutAt}
-use Rattle.levels.proofs.Rising.{Rising}
-use Rattle.levels.proofs.Levels.{Well, Ordered, sized-filled, rising-ordered}
+use Rattle.levels.specs.InCall.{Due, Mergeable}
+use Rattle.levels.specs.Rising.{Rising}
+use Rattle.levels.specs.Well.{Well}
+use Rattle.levels.proofs.Levels.{Ordered, sized-filled, rising-ordered}
 use Rattle.levels.proofs.Capacity.{window-half, window-capacity-half}
 use Rattle.levels.proofs.Choice.{choose-is}
 use Rattle.levels.proofs.Overlap.{window-fits, choose-window}
 use Rattle.levels.proofs.Cut.{over-length}
-use Rattle.levels.proofs.Merged.{Mergeable, lowerOf, lower-double}
+use Rattle.levels.proofs.Merged.{lowerOf, lower-double}
 
 pub chosen-mergeable : (B w : ℕ) (above under : Level) → 1 ≤ B → 1 ≤ w → w ≤ length above → Well B above → Well B under → Rising 0 (records above) → Rising 0 (records under)
     → Mergeable B w (choose w above under .at) above under
@@ -25,15 +27,6 @@ chosen-mergeable B w above under b p f wa wu ra ru =
 -- q, the overlap of the chosen run, is the length of Y
 pub chosen-over : (w k : ℕ) (above under : Level) → 1 ≤ w → w ≤ length above → Ordered k under → length (cutAt w (choose w above under .at) above under .over) ≡ choose w above under .value
 chosen-over w k above under p f o = over-length w (choose w above under .at) k above under o ∙ choose-is w above under p f .overlaps
-
--- what is asked of the two levels when level i is at its capacity or over it, and level i + 1 is not over its own
-pub record Due (g : Geometry) (i : ℕ) (above under : Level) : Type 0 where
-  pub above-well : Well (g .b) above
-  pub under-well : Well (g .b) under
-  pub above-sorted : Rising 0 (records above)
-  pub under-sorted : Rising 0 (records under)
-  pub full : capacityOf g i ≤ length above
-  pub roomy : length under ≤ capacityOf g (suc i)
 
 -- then the chosen run can be merged
 pub due-mergeable : (g : Geometry) (i : ℕ) (above under : Level) → Ranged g → Due g i above under → Mergeable (g .b) (windowOf g i) (choose (windowOf g i) above under .at) above under

@@ -9,50 +9,31 @@ use native.Mathlib.Decide.{ℕ-discrete}
 use lib.ListN.{length, getD, set, length-set}
 use Rattle.geometry.specs.declared.Geometry.{Geometry}
 use Rattle.geometry.specs.Geometry.{Valid, capacityOf}
-use Rattle.levels.specs.Basics.{all, ceilDiv}
+use Rattle.levels.specs.Basics.{all}
 use Rattle.levels.specs.Record.{Rec, Level, records, hasTombstone, cleanTombstones}
 use Rattle.levels.specs.Map.{lookUp}
 use Rattle.levels.specs.Waste.{needsCompact, compact}
 use Rattle.levels.specs.Place.{Settled, settle, placesOf}
-use Rattle.levels.specs.Store.{Store, rows, blocksOf, usedIn, allocationOf}
-use Rattle.levels.specs.Call.{Compaction, compactLevel, compactIfNeeded, afterCompactions, stepFive}
+use Rattle.levels.specs.Store.{Store, rows, usedIn, allocationOf}
+use Rattle.levels.specs.Call.{Compaction, compactLevel, compactIfNeeded, afterCompactions, stepFive, Follows}
 use Rattle.levels.specs.Count.{blocksCompacted}
-use Rattle.levels.proofs.View.{Risings}
-use Rattle.levels.proofs.Levels.{Well}
+use Rattle.levels.specs.InCall.{CompactionFacts, Stepped}
+use Rattle.levels.specs.Rising.{Risings}
+use Rattle.levels.specs.Well.{Well}
+use Rattle.levels.specs.Taking.{fresh, Changed}
+use Rattle.levels.specs.Every.{allBlocks}
+use Rattle.levels.specs.Inside.{recordsAbove, Inside, Ruled}
 use Rattle.levels.proofs.Rows.{set-same}
-use Rattle.levels.proofs.Fresh.{fresh}
 use Rattle.levels.proofs.Compaction.{compact-records, compact-well, compact-length, compact-fresh, compact-rule, compact-shorter}
 use Rattle.levels.proofs.Settling.{settle-records, settle-length, settle-placed, settle-well, settle-rule, settle-cursor, written-length, written-places}
-use Rattle.levels.proofs.Places.{Changed, changed-distinct, changed-inside, changed-newly}
+use Rattle.levels.proofs.Places.{changed-distinct, changed-inside, changed-newly}
 use Rattle.levels.proofs.Written.{replaced-changed, compact-old}
 use Rattle.levels.proofs.Room.{compact-room}
-use Rattle.levels.proofs.Every.{Every, every-make, every-append, allBlocks}
-use Rattle.levels.proofs.Sound.{BlockFits}
+use Rattle.levels.proofs.Every.{every-make, every-append}
 use Rattle.levels.proofs.Stays.{old-fresh, settled-old, every-set, written-sized}
 use Rattle.levels.proofs.Entry.{taken-fit}
-use Rattle.levels.proofs.StoreRows.{set-at, set-here, row-blocks, rows-with, recordsAbove}
-use Rattle.levels.proofs.Inside.{Inside, Ruled, inside-doubled}
-
--- All about one compaction of a call: it was needed, and what holds at its start and at its end.
-pub record CompactionFacts (g : Geometry) (e : Store) (c : Compaction) : Type 0 where
-  pub level-low : 1 ≤ c .level
-  pub level-high : c .level ≤ g .h
-  -- it is the compaction of its level in the store at its start, and was needed
-  pub is : c ≡ compactLevel g (c .level) (c .start)
-  pub needed : needsCompact (g .b) (blocksOf g (c .level) (c .start)) ≡ true
-  pub start-inside : Inside g e (c .start)
-  pub finish-inside : Inside g e (c .finish)
-  -- it changes no row
-  pub same-rows : rows (c .finish) ≡ rows (c .start)
-  -- a free place at each taking, each place taken is the first free one after the cursor, and each block written takes one
-  pub room : length (usedIn (c .start)) + length (c .written) < g .p
-  pub changed : Changed (g .p) (allocationOf (c .start)) (usedIn (c .finish)) (placesOf (c .written))
-  pub takes-each : length (placesOf (c .written)) ≡ length (c .written)
-  -- each block at the end is one that was there, or is written; and those written are fit to be listed
-  pub stays : Every (λ b. List·Memᴰ b (allBlocks (c .start .levels)) ⊎ List·Memᴰ b (c .written)) (allBlocks (c .finish .levels))
-  pub written-fit : Every (BlockFits g) (c .written)
-  -- "all records anew, B to a block, the last with the rest"
-  pub writes : length (c .written) ≡ ceilDiv (length (records (blocksOf g (c .level) (c .start)))) (g .b)
+use Rattle.levels.proofs.StoreRows.{set-at, set-here, row-blocks, rows-with}
+use Rattle.levels.proofs.Inside.{inside-doubled}
 
 -- "Blocks written compacting a level are the places in use at the end of the compaction that were not in use at its start."
 pub compaction-newly : (g : Geometry) (e : Store) (c : Compaction) → CompactionFacts g e c → blocksCompacted c ≡ length (c .written)
@@ -141,18 +122,6 @@ module _ (g : Geometry) (e s : Store) (j : ℕ) (v : Valid g) (low : j < g .h) (
               (written-places (g .p) (allocationOf s) l ∙ sym (written-length (g .p) (allocationOf s) l)) (compact-changed .takes);
           writes = written-length (g .p) (allocationOf s) l ∙ compact-fresh (g .b) o ∙ compact-length (g .b) o (omega arith);
         }
-
--- each compaction finds the store as the one before it left it
-abbrev pub Follows : Store → List Compaction → Type 0
-Follows s [] = Unit {0}
-Follows s (c ∷ cs) = (c .start ≡ s) × Follows (c .finish) cs
-
--- What compactions leave: all about each, and what holds after them. Level 0 is not touched, and no row changes.
-pub record Stepped (g : Geometry) (e s : Store) (cs : List Compaction) : Type 0 where
-  pub facts : Every (CompactionFacts g e) cs
-  pub follows : Follows s cs
-  pub inside : Inside g e (afterCompactions s cs)
-  pub same-rows : rows (afterCompactions s cs) ≡ rows s
 
 compact-start : (g : Geometry) (i : ℕ) (s : Store) → compactLevel g i s .start ≡ s
 unfolding compactLevel

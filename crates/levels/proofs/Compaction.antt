@@ -13,9 +13,10 @@ use borrow.Author.Tests.{leb-true, leb-false, ltb-true, le-ltb, le-leb, lt-leb}
 use Rattle.levels.specs.Basics.{ceilDiv}
 use Rattle.levels.specs.Record.{Rec, Block, Level, size, new, records, pack, pages}
 use Rattle.levels.specs.Waste.{wasteful, needsCompact, compact}
+use Rattle.levels.specs.Well.{Well}
+use Rattle.levels.specs.Taking.{fresh}
 use Rattle.levels.proofs.Basics.{length-snoc, and-left}
-use Rattle.levels.proofs.Levels.{Well, well-nil, sized-most}
-use Rattle.levels.proofs.Fresh.{fresh}
+use Rattle.levels.proofs.Levels.{well-nil, sized-most}
 
 -- every block but the last holds B records, the last 1 to B
 abbrev pub Packed : ℕ → Level → Type 0

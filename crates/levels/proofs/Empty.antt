@@ -13,8 +13,8 @@ use Rattle.levels.specs.Record.{Rec, Level, records, hasTombstone, risin
 use Rattle.levels.specs.Map.{overlay, view, unmarked, mapOf, liveCount}
 use Rattle.levels.specs.Place.{inUse, distinct}
 use Rattle.levels.specs.Store.{Store, emptyStore, rows}
-use Rattle.levels.proofs.Every.{Every, allBlocks}
-use Rattle.levels.proofs.Sound.{Fits, Tight, Sound}
+use Rattle.levels.specs.Every.{Every, allBlocks}
+use Rattle.levels.specs.Sound.{Fits, Tight, Sound}
 
 -- levels without blocks
 empty-view : (n : ℕ) → view (map records (replicate n [])) ≡ []

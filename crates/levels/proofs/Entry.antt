@@ -17,20 +17,21 @@ use Rattle.levels.specs.Record.{Block, Level, records, hasTombstone}
 use Rattle.levels.specs.Waste.{needsCompact}
 use Rattle.levels.specs.Place.{Allocation, placesOf, inUse}
 use Rattle.levels.specs.Store.{Store, rows}
+use Rattle.levels.specs.Well.{Sized, Well}
+use Rattle.levels.specs.Taking.{fresh, Takes}
+use Rattle.levels.specs.Every.{Every, allBlocks}
+use Rattle.levels.specs.Sound.{BlockFits, Fits, Tight, Sound}
+use Rattle.levels.specs.Inside.{recordsAbove, Inside, Entry, Ruled}
 use Rattle.levels.proofs.Basics.{and-left, and-right, and-both}
 use Rattle.levels.proofs.View.{test-risings}
-use Rattle.levels.proofs.Levels.{Sized, Well, sized-most, test-pairs, pairs-test}
-use Rattle.levels.proofs.Fresh.{fresh}
-use Rattle.levels.proofs.Settling.{Takes}
+use Rattle.levels.proofs.Levels.{sized-most, test-pairs, pairs-test}
 use Rattle.levels.proofs.Places.{total-inside, takes-inside}
 use Rattle.levels.proofs.Stays.{all-placed}
 use Rattle.levels.proofs.Fits.{Within}
 use Rattle.levels.proofs.Laid.{all-append, all-left, all-right}
 use Rattle.levels.proofs.Capacity.{capacity-sum-front}
-use Rattle.levels.proofs.Every.{Every, every-split, every-append, allBlocks}
-use Rattle.levels.proofs.Sound.{BlockFits, Fits, Tight, Sound}
-use Rattle.levels.proofs.StoreRows.{row-blocks, recordsAbove}
-use Rattle.levels.proofs.Inside.{Inside, Entry, Ruled}
+use Rattle.levels.proofs.Every.{every-split, every-append}
+use Rattle.levels.proofs.StoreRows.{row-blocks}
 
 -- what is said of every block of all levels is said of each level's
 pub blocks-at : (P : Block → Type 0) (ls : List Level) (j : ℕ) → Every P (allBlocks ls) → Every P (getD ls j [])

@@ -1,14 +1,9 @@
--- A property of every element of a list, and the blocks of all levels as one list.
+-- Laws of a property of every element of a list.
 use mathlib.Core.Path.{_≡_, refl}
 use mathlib.Core.Bool.{Bool, true, and-eq-true-iff}
 use mathlib.Core.List.{List, [], _∷_, _++_, map, List·Memᴰ, List·Memᴰ·head, List·Memᴰ·tail, List·Memᴰ·not-nil}
 use Rattle.levels.specs.Basics.{all}
-use Rattle.levels.specs.Record.{Level}
-
--- P holds of every element
-abbrev pub Every : {A : Type 0} → (A → Type 0) → List A → Type 0
-Every P [] = Unit {0}
-Every P (x ∷ xs) = P x × Every P xs
+use Rattle.levels.specs.Every.{Every}
 
 module _ {A : Type 0} where
   pub every-at : (P : A → Type 0) (xs : List A) → Every P xs → (x : A) → List·Memᴰ x xs → P x
@@ -48,8 +43,3 @@ module _ {A : Type 0} where
 pub every-map : {A B : Type 0} (f : A → B) (P : B → Type 0) (xs : List A) → Every (λ x. P (f x)) xs → Every P (map f xs)
 every-map f P [] h = tt
 every-map f P (x ∷ xs) h = (h .0, every-map f P xs (h .1))
-
--- the blocks of all levels
-abbrev pub allBlocks : List Level → Level
-allBlocks [] = []
-allBlocks (l ∷ ls) = l ++ allBlocks ls

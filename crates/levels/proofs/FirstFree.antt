@@ -12,19 +12,7 @@ use lib.ListN.{length}
 use borrow.Author.Tests.{eqb-true, le-leb, lt-leb, leb-false}
 use Rattle.levels.specs.Basics.{if_then_else_, member}
 use Rattle.levels.specs.Place.{after, freeAfter, Allocation, firstFree}
-
--- the k-th place after p, going round
-abbrev pub round : ℕ → ℕ → ℕ → ℕ
-round P zero p = p
-round P (suc k) p = round P k (after P p)
-
--- r is the first place after the cursor that is not in use
-pub record FirstFree (P : ℕ) (used : List ℕ) (cursor r : ℕ) : Type 0 where
-  pub steps : ℕ
-  pub there : r ≡ round P (suc steps) cursor
-  pub inside : r < P
-  pub free : member r used ≡ false
-  pub first : (i : ℕ) → i < steps → member (round P (suc i) cursor) used ≡ true
+use Rattle.levels.specs.Taking.{round, FirstFree}
 
 -- the clauses of freeAfter, as laws
 pub free-here : (n P : ℕ) (used : List ℕ) (p : ℕ) → member (after P p) used ≡ false → freeAfter (suc n) P used p ≡ after P p

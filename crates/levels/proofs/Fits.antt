@@ -15,9 +15,10 @@ use Rattle.levels.specs.Basics.{if_then_else_, total, ceilDiv}
 use Rattle.levels.specs.Record.{Rec, Level, records, hasTombstone}
 use Rattle.levels.specs.Map.{into, overlay, view, unmarked, mapOf, liveCount}
 use Rattle.levels.specs.Waste.{wasteful}
+use Rattle.levels.specs.Well.{Sized}
 use Rattle.levels.proofs.Overlay.{into-below, into-same, into-above, Way, less, same, more, way}
 use Rattle.levels.proofs.View.{unmarked-drop, unmarked-keep, clean-unmarked}
-use Rattle.levels.proofs.Levels.{Sized, sized-most}
+use Rattle.levels.proofs.Levels.{sized-most}
 use Rattle.levels.proofs.Capacity.{capacity-sum-front}
 
 -- 1 for a tombstone; 1 for a record that is none

@@ -7,19 +7,11 @@ use native.Mathlib.Omega.{arith}
 use lib.ListN.{length}
 use Rattle.levels.specs.Record.{Block, Level}
 use Rattle.levels.specs.Place.{placesOf}
-
--- 1 for a new block
-abbrev pub one : Block → ℕ
-one b = elim (b .place) [ none ↦ 1 | some p ↦ 0 ]
+use Rattle.levels.specs.Taking.{fresh}
 
 -- what the place of an old block weighs
 abbrev pub weight : (ℕ → ℕ) → Block → ℕ
 weight f b = elim (b .place) [ none ↦ 0 | some p ↦ f p ]
-
--- the new blocks of a level. Every block has a place where fresh l ≡ 0.
-abbrev pub fresh : Level → ℕ
-fresh [] = 0
-fresh (b ∷ bs) = one b + fresh bs
 
 -- the places of a level, weighed
 abbrev pub weights : (ℕ → ℕ) → Level → ℕ

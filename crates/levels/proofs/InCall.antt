@@ -1,9 +1,8 @@
 -- The merges of a call: what holds of each of them, and of the store between them. They end, and then every level is within its capacity.
-use Prim.Native.Nat.{ℕ, zero, suc, _+_, _-_, _<_, _≤_}
+use Prim.Native.Nat.{ℕ, zero, suc, _-_, _<_, _≤_}
 use mathlib.Core.Path.{_≡_, refl, sym, _∙_, ap, subst}
 use mathlib.Core.Bool.{Bool, true, false}
-use mathlib.Core.List.{List, [], _∷_, List·Memᴰ}
-use mathlib.Core.Logic.{_⊎_}
+use mathlib.Core.List.{List, [], _∷_}
 use native.Mathlib.Omega.{arith}
 use native.Mathlib.Decide.{ℕ-discrete}
 use lib.Dec.{ltb}
@@ -11,53 +10,18 @@ use lib.ListN.{length}
 use borrow.Author.Tests.{ltb-true, ltb-false}
 use Rattle.geometry.specs.declared.Geometry.{Geometry}
 use Rattle.geometry.specs.Geometry.{Valid, capacityOf, windowOf}
-use Rattle.levels.specs.Choose.{choose}
 use Rattle.levels.specs.Waste.{needsCompact}
-use Rattle.levels.specs.Place.{placesOf}
-use Rattle.levels.specs.Store.{Store, rows, blocksOf, usedIn, allocationOf}
-use Rattle.levels.specs.Call.{Merge, mergeRun, mergeLevel, afterMerge, afterMerges, deepestOver, mergesBelow}
+use Rattle.levels.specs.Store.{Store, rows, blocksOf, allocationOf}
+use Rattle.levels.specs.Call.{Merge, mergeRun, mergeLevel, afterMerge, afterMerges, deepestOver, mergesBelow, Chained}
 use Rattle.levels.specs.Count.{aboveOf, underOf, runOf, overlapOf}
-use Rattle.levels.proofs.Merged.{Mergeable}
-use Rattle.levels.proofs.Chosen.{Due}
-use Rattle.levels.proofs.Places.{Changed}
-use Rattle.levels.proofs.Every.{Every, allBlocks}
-use Rattle.levels.proofs.Sound.{BlockFits}
+use Rattle.levels.specs.InCall.{MergeFacts, Due}
+use Rattle.levels.specs.Every.{Every}
+use Rattle.levels.specs.Inside.{load, Inside, Entry, Ruled}
 use Rattle.levels.proofs.Entry.{taken-fit}
-use Rattle.levels.proofs.StoreRows.{load}
 use Rattle.levels.proofs.MergeRun.{run-level, run-written, run-places, run-stays, run-sized}
-use Rattle.levels.proofs.Inside.{Inside, Entry, Ruled, inside-sorted, inside-bottom}
+use Rattle.levels.proofs.Inside.{inside-sorted, inside-bottom}
 use Rattle.levels.proofs.MergeInside.{chosenAt, chosen-can, chosen-writes, chosen-writes-top, chosen-overlap, chosen-room, chosen-changed, chosen-load, merge-inside}
-use Rattle.levels.proofs.CompactInside.{Stepped, five-stepped}
-
--- All about one merge of a call that began with the store e.
-pub record MergeFacts (g : Geometry) (e : Store) (m : Merge) : Type 0 where
-  pub level-high : m .level < g .h
-  -- it is the merge out of its level of the store at its start, of the chosen run of W(i) blocks
-  pub is : m ≡ mergeLevel g (m .level) (m .start)
-  pub window-is : m .window ≡ windowOf g (m .level)
-  pub first-is : m .first ≡ choose (m .window) (aboveOf g m) (underOf g m) .at
-  -- level i holds K(i) blocks or more, level i + 1 at most K(i + 1), both well filled and sorted; so the run can be merged
-  pub due : Due g (m .level) (aboveOf g m) (underOf g m)
-  pub mergeable : Mergeable (g .b) (m .window) (m .first) (aboveOf g m) (underOf g m)
-  -- "The level below is never over its capacity when a merge starts", nor any deeper one
-  pub below-within : (i : ℕ) → m .level < i → i ≤ g .h → length (blocksOf g i (m .start)) ≤ capacityOf g i
-  pub start-inside : Inside g e (m .start)
-  pub finish-inside : Inside g e (m .finish)
-  -- a free place at each taking, each place taken is the first free one after the cursor, and each block written takes one
-  pub room : length (usedIn (m .start)) + length (m .written) < g .p
-  pub changed : Changed (g .p) (allocationOf (m .start)) (usedIn (m .finish)) (placesOf (m .written))
-  pub takes-each : length (placesOf (m .written)) ≡ length (m .written)
-  -- each block at the end is one that was there, or is written; and those written are fit to be listed
-  pub stays : Every (λ b. List·Memᴰ b (allBlocks (m .start .levels)) ⊎ List·Memᴰ b (m .written)) (allBlocks (m .finish .levels))
-  pub written-fit : Every (BlockFits g) (m .written)
-  -- it writes at most w + q + 1 blocks, and out of level 0 at most w + q
-  pub writes : length (m .written) ≤ m .window + overlapOf g m + 1
-  pub writes-top : m .level ≡ 0 → length (m .written) ≤ m .window + overlapOf g m
-  -- step 5: all about its compactions; afterwards no level needs compacting
-  pub five : Stepped g e (m .finish) (m .compactions)
-  pub after-ruled : Ruled g (afterMerge m)
-  -- the sum over all records of the levels below theirs falls
-  pub falls : load (rows (afterMerge m)) < load (rows (m .start))
+use Rattle.levels.proofs.CompactInside.{five-stepped}
 
 -- one merge of the chosen run, where every level keeps the level rule and the levels below are within their capacities
 pub merge-facts : (g : Geometry) (e s : Store) (i : ℕ) → Valid g → i < g .h → Inside g e s → Ruled g s → Due g i (blocksOf g i s) (blocksOf g (suc i) s)
@@ -137,11 +101,6 @@ next-facts g e s j v t n r q =
         go : Dec (i ≡ g .h) → length (blocksOf g i s) ≤ capacityOf g i
         go (yes z) = subst (λ (k : ℕ). length (blocksOf g k s) ≤ capacityOf g k) (sym z) (inside-bottom g e s n v t r)
         go (no z) = deepest-says g s (g .h - 1) (suc j) q .0 i a (omega arith)
-
--- each merge finds the store as the one before it and its step 5 left it
-abbrev pub Chained : Store → List Merge → Type 0
-Chained s [] = Unit {0}
-Chained s (m ∷ ms) = (m .start ≡ s) × Chained (afterMerge m) ms
 
 -- All about a list of merges from the store s on.
 pub record ListFacts (g : Geometry) (e s : Store) (ms : List Merge) : Type 0 where

@@ -1,21 +1,21 @@
 -- A record entered into a sorted list, and one taken out: what is found, the order, the length. So put and delete change the map.
 use Prim.Native.Nat.{ℕ, suc, _<_, _≤_}
 use mathlib.Core.Path.{_≡_, refl, sym, _∙_, ap}
-use mathlib.Core.Bool.{Bool, true, false}
+use mathlib.Core.Bool.{Bool, true}
 use mathlib.Core.List.{List, [], _∷_}
 use mathlib.Core.Option.{none, some, Option·none-ne-some}
 use mathlib.Core.Logic.{_≢_}
 use native.Mathlib.Omega.{arith}
 use native.Mathlib.Decide.{ℕ-discrete}
-use lib.Dec.{eqb}
 use lib.ListN.{length}
 use borrow.Author.Tests.{lt-ltb, le-ltb, eq-eqb, ne-eqb}
 use Rattle.levels.specs.Basics.{all}
 use Rattle.levels.specs.Record.{Rec}
 use Rattle.levels.specs.Map.{find}
-use Rattle.levels.specs.Put.{insert}
+use Rattle.levels.specs.Put.{insert, without}
+use Rattle.levels.specs.Rising.{Rising}
 use Rattle.levels.proofs.Basics.{and-left, and-right, and-both}
-use Rattle.levels.proofs.Rising.{Rising, rising-from}
+use Rattle.levels.proofs.Rising.{rising-from}
 use Rattle.levels.proofs.Overlay.{find-here, find-past, find-below, Way, less, same, more, way}
 
 -- the clauses of insert, as laws
@@ -113,11 +113,6 @@ insert-all p r (s ∷ ss) e h = go (way (r .key) (s .key)) (insert-all p r ss e 
     go (less k) ih = ap (all p) (insert-before r s ss k) ∙ and-both _ _ e h
     go (same k) ih = ap (all p) (insert-over r s ss k) ∙ and-both _ _ e (and-right (p s) _ h)
     go (more k) ih = ap (all p) (insert-past r s ss k) ∙ and-both _ _ (and-left (p s) _ h) ih
-
--- A list without the record with key k.
-abbrev pub without : ℕ → List Rec → List Rec
-without k [] = []
-without k (r ∷ rs) = elim (eqb (r .key) k) [ true ↦ rs | false ↦ r ∷ without k rs ]
 
 without-here : (k : ℕ) (r : Rec) (rs : List Rec) → r .key ≡ k → without k (r ∷ rs) ≡ rs
 without-here k r rs e = rw (eq-eqb (r .key) k e, without)

@@ -1,5 +1,5 @@
 -- What is said of the blocks of a level: their sizes, the pair rule, their key ranges; and the records of levels end to end.
-use Prim.Native.Nat.{ℕ, zero, suc, _+_, _*_, _<_, _≤_}
+use Prim.Native.Nat.{ℕ, zero, suc, _+_, _*_, _≤_}
 use mathlib.Core.Path.{_≡_, refl, sym, _∙_, ap}
 use mathlib.Core.Bool.{true}
 use mathlib.Core.List.{List, [], _∷_, _++_, append-assoc}
@@ -8,33 +8,15 @@ use lib.ListN.{length, length-append, take, drop}
 use borrow.Author.Tests.{ltb-true, lt-ltb}
 use Rattle.levels.specs.Record.{Rec, Block, Level, size, records, firstKey, lastKey}
 use Rattle.levels.specs.Waste.{pairRule}
+use Rattle.levels.specs.Well.{Sized, Apart, Pairs, Well}
+use Rattle.levels.specs.Rising.{Rising}
 use Rattle.levels.proofs.Basics.{and-left, and-right, and-both}
-use Rattle.levels.proofs.Rising.{Rising, Below, rising-right}
+use Rattle.levels.proofs.Rising.{Below, rising-right}
 
 -- every block holds a record
 abbrev pub Filled : Level → Type 0
 Filled [] = Unit {0}
 Filled (b ∷ bs) = (1 ≤ size b) × Filled bs
-
--- "a listed block has 1 to B records"
-abbrev pub Sized : ℕ → Level → Type 0
-Sized B [] = Unit {0}
-Sized B (b ∷ bs) = (1 ≤ size b) × (size b ≤ B) × Sized B bs
-
--- n records beside the first block of a level hold more than B with it
-abbrev pub Apart : ℕ → ℕ → Level → Type 0
-Apart B n [] = Unit {0}
-Apart B n (e ∷ es) = B < size e + n
-
--- "Pair: two neighbouring blocks of a level hold more than B records together."
-abbrev pub Pairs : ℕ → Level → Type 0
-Pairs B [] = Unit {0}
-Pairs B (b ∷ bs) = Apart B (size b) bs × Pairs B bs
-
--- a level that is well filled: the pair rule and the sizes
-pub record Well (B : ℕ) (l : Level) : Type 0 where
-  pub pairs : Pairs B l
-  pub sized : Sized B l
 
 -- the key ranges of the blocks rise and share no key, the first not below `low`
 abbrev pub Ordered : ℕ → Level → Type 0

@@ -24,7 +24,6 @@ pub mod Chosen
 pub mod Room
 pub mod Every
 pub mod Pages
-pub mod Sound
 pub mod StoreRows
 pub mod MergeRun
 pub mod Inside

@@ -15,15 +15,17 @@ use Rattle.levels.specs.Place.{placesOf}
 use Rattle.levels.specs.Store.{Store, rows, blocksOf, usedIn, allocationOf}
 use Rattle.levels.specs.Call.{Compaction, Merge, afterMerge, afterMerges}
 use Rattle.levels.specs.Count.{aboveOf, underOf, aboveCount, underCount, runOf, overlapOf, blocksMerged, blocksCompacted}
+use Rattle.levels.specs.Taking.{Takes}
+use Rattle.levels.specs.Inside.{Entry}
+use Rattle.levels.specs.InCall.{CompactionFacts, MergeFacts}
 use Rattle.levels.proofs.View.{same-map}
 use Rattle.levels.proofs.Levels.{sized-filled, rising-ordered}
 use Rattle.levels.proofs.Choice.{IsChoice, choose-is}
 use Rattle.levels.proofs.Overlap.{window-fits, choose-bound, choose-window}
-use Rattle.levels.proofs.Settling.{Takes}
 use Rattle.levels.proofs.Places.{changed-newly}
-use Rattle.levels.proofs.Inside.{Entry, inside-bottom, inside-map}
-use Rattle.levels.proofs.CompactInside.{CompactionFacts, compaction-newly}
-use Rattle.levels.proofs.InCall.{MergeFacts, ListFacts}
+use Rattle.levels.proofs.Inside.{inside-bottom, inside-map}
+use Rattle.levels.proofs.CompactInside.{compaction-newly}
+use Rattle.levels.proofs.InCall.{ListFacts}
 
 module _ (g : Geometry) (e : Store) (m : Merge) (v : Valid g) (f : MergeFacts g e m) where
   window-some : 1 ≤ m .window

@@ -16,19 +16,22 @@ use Rattle.levels.specs.Choose.{overlap, choose}
 use Rattle.levels.specs.Place.{placesOf}
 use Rattle.levels.specs.Store.{Store, rows, blocksOf, usedIn, allocationOf}
 use Rattle.levels.specs.Call.{mergeLevel}
-use Rattle.levels.proofs.Levels.{Well, sized-filled, rising-ordered}
+use Rattle.levels.specs.Well.{Well}
+use Rattle.levels.specs.Rising.{Risings}
+use Rattle.levels.specs.Taking.{fresh, Changed}
+use Rattle.levels.specs.InCall.{Mergeable, Due}
+use Rattle.levels.specs.Inside.{recordsAbove, load, Inside}
+use Rattle.levels.proofs.Levels.{sized-filled, rising-ordered}
 use Rattle.levels.proofs.Cut.{over-length}
-use Rattle.levels.proofs.View.{Risings}
 use Rattle.levels.proofs.Rows.{risings-set, look-up-pair, look-up-last}
-use Rattle.levels.proofs.Fresh.{fresh}
-use Rattle.levels.proofs.Merged.{Mergeable, lowerOf, lower-well, upper-rising, lower-rising, upper-all, lower-all, lower-clean, pair-find, pair-present, upper-count, upper-fewer, lower-count, upper-writes, lower-writes}
+use Rattle.levels.proofs.Merged.{lowerOf, lower-well, upper-rising, lower-rising, upper-all, lower-all, lower-clean, pair-find, pair-present, upper-count, upper-fewer, lower-count, upper-writes, lower-writes}
 use Rattle.levels.proofs.Settling.{settle-length, settle-placed, settle-well}
-use Rattle.levels.proofs.Places.{Changed, changed-distinct, changed-inside}
-use Rattle.levels.proofs.Chosen.{Due, due-mergeable, due-over, due-double}
+use Rattle.levels.proofs.Places.{changed-distinct, changed-inside}
+use Rattle.levels.proofs.Chosen.{due-mergeable, due-over, due-double}
 use Rattle.levels.proofs.Room.{merge-room-numbers}
-use Rattle.levels.proofs.StoreRows.{set-at, row-blocks, rows-count, all-row, all-set, recordsAbove, above-pair, load, load-pair}
+use Rattle.levels.proofs.StoreRows.{set-at, row-blocks, rows-count, all-row, all-set, above-pair, load-pair}
 use Rattle.levels.proofs.MergeRun.{upper-well-at, upper-length-at, cutOf, upperLeft, lowerMade, newAbove, newBlocks, run-rows, run-many, run-level, run-live, run-changed, run-cursor}
-use Rattle.levels.proofs.Inside.{Inside, inside-used}
+use Rattle.levels.proofs.Inside.{inside-used}
 
 -- the number of the chosen run's first block
 abbrev pub chosenAt : Geometry → ℕ → Store → ℕ

@@ -11,8 +11,9 @@ use Rattle.levels.specs.Basics.{if_then_else_, iterate}
 use Rattle.levels.specs.Record.{Rec, Block, Level, size, new, placed, records, firstKey, lastKey, hasTombstone}
 use Rattle.levels.specs.Map.{into, overlay, unmarked}
 use Rattle.levels.specs.Merge.{Out, State, endsBelow, mayFollow, reusable, flush, rest, headRec, reuse, keep, gather, fromUpper, fromLower, fromBoth, stepOn, step, joinLeft, join, stream, merge, close}
+use Rattle.levels.specs.Rising.{Rising}
 use Rattle.levels.proofs.Basics.{and-left, and-right, if-either}
-use Rattle.levels.proofs.Rising.{Rising, rising-from, rising-left, rising-right}
+use Rattle.levels.proofs.Rising.{rising-from, rising-left, rising-right}
 use Rattle.levels.proofs.Overlay.{into-below, into-same, into-above}
 use Rattle.levels.proofs.View.{unmarked-keep}
 use Rattle.levels.proofs.Levels.{Filled, records-append}

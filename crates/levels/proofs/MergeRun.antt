@@ -13,14 +13,16 @@ use Rattle.levels.specs.Place.{Allocation, Settled, settle, placesOf}
 use Rattle.levels.specs.Store.{Store, rows, blocksOf, withBlocks, usedIn, allocationOf}
 use Rattle.levels.specs.Call.{settleUpper, mergeCut, mergeRun}
 use Rattle.levels.specs.Count.{blocksMerged}
-use Rattle.levels.proofs.Levels.{Well, Sized}
-use Rattle.levels.proofs.Fresh.{fresh}
-use Rattle.levels.proofs.Merged.{Mergeable, upperOf, lowerOf, upper-length, upper-well, lower-well}
+use Rattle.levels.specs.Well.{Well, Sized}
+use Rattle.levels.specs.Taking.{fresh, Changed}
+use Rattle.levels.specs.InCall.{Mergeable}
+use Rattle.levels.specs.Every.{Every, allBlocks}
+use Rattle.levels.proofs.Merged.{upperOf, lowerOf, upper-length, upper-well, lower-well}
 use Rattle.levels.proofs.Compaction.{pages-fresh}
 use Rattle.levels.proofs.Settling.{settle-records, written-length, written-places, settle-cursor, settle-used}
-use Rattle.levels.proofs.Places.{places-append, Changed, changed-newly}
+use Rattle.levels.proofs.Places.{places-append, changed-newly}
 use Rattle.levels.proofs.Written.{merge-changed, top-changed}
-use Rattle.levels.proofs.Every.{Every, every-make, every-turn, allBlocks}
+use Rattle.levels.proofs.Every.{every-make, every-turn}
 use Rattle.levels.proofs.Stays.{Old, old-of-every, old-fresh, upper-old, lower-old, settled-old, mem-left, mem-right, level-mem, every-set, written-sized}
 use Rattle.levels.proofs.StoreRows.{rows-with, levels-with, level-with}
 

@@ -14,9 +14,11 @@ use borrow.Author.Tests.{leb-true}
 use Rattle.levels.specs.Basics.{if_then_else_, iterate}
 use Rattle.levels.specs.Record.{Rec, Block, Level, size, new, placed, records, firstKey}
 use Rattle.levels.specs.Merge.{Out, State, reusable, flush, rest, headRec, reuse, gather, fromUpper, fromLower, fromBoth, stepOn, step, joinLeft, join, stream, merge, close}
+use Rattle.levels.specs.Well.{Sized, Well}
+use Rattle.levels.specs.Taking.{fresh}
 use Rattle.levels.proofs.Basics.{if-either, length-snoc}
-use Rattle.levels.proofs.Levels.{Sized, Well, well-nil}
-use Rattle.levels.proofs.Fresh.{weight, weights, fresh, olds, count-all, reverse-fresh, reverse-weights, reverse-length}
+use Rattle.levels.proofs.Levels.{well-nil}
+use Rattle.levels.proofs.Fresh.{weight, weights, olds, count-all, reverse-fresh, reverse-weights, reverse-length}
 use Rattle.levels.proofs.MergeRecords.{reusable-says}
 use Rattle.levels.proofs.MergeWell.{Keeps, step-keeps, reverse-before}
 

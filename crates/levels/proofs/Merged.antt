@@ -1,6 +1,6 @@
 -- A merge of any run of w blocks, steps 2 to 4: what holds of the two levels it leaves. Nothing here knows how the run was chosen.
 use Prim.Native.Nat.{ℕ, suc, _+_, _*_, _<_, _≤_}
-use mathlib.Core.Path.{_≡_, refl, sym, _∙_, ap}
+use mathlib.Core.Path.{_≡_, sym, _∙_, ap}
 use mathlib.Core.Bool.{Bool, true, false, _||_}
 use mathlib.Core.List.{List, _++_}
 use native.Mathlib.Omega.{arith}
@@ -10,13 +10,17 @@ use Rattle.levels.specs.Record.{Rec, Level, records, hasTombstone}
 use Rattle.levels.specs.Map.{find, overlay, unmarked, present}
 use Rattle.levels.specs.Choose.{loOf, hiOf, Cut, cutAt}
 use Rattle.levels.specs.Merge.{merge, close}
+use Rattle.levels.specs.InCall.{Mergeable}
+use Rattle.levels.specs.Rising.{Rising}
+use Rattle.levels.specs.Well.{Well}
+use Rattle.levels.specs.Taking.{fresh}
 use Rattle.levels.proofs.Basics.{or-false}
-use Rattle.levels.proofs.Rising.{Rising, rising-from, rising-left, rising-right, rising-swap}
+use Rattle.levels.proofs.Rising.{rising-from, rising-left, rising-right, rising-swap}
 use Rattle.levels.proofs.Overlay.{find-append, find-overlay, overlay-rising, same-find}
 use Rattle.levels.proofs.View.{unmarked-rising, unmarked-clean, find-unmarked, present-or, present-clean}
-use Rattle.levels.proofs.Levels.{Well, records-three, records-three-length, sized-filled, sized-least}
+use Rattle.levels.proofs.Levels.{records-three, records-three-length, sized-filled, sized-least}
 use Rattle.levels.proofs.Cut.{cut-above, cut-under, cut-lengths, run-length, WellCut, cut-well, Lies, cut-lies}
-use Rattle.levels.proofs.Fresh.{fresh, weights, fresh-append, weights-append, olds-most}
+use Rattle.levels.proofs.Fresh.{weights, fresh-append, weights-append, olds-most}
 use Rattle.levels.proofs.MergeRecords.{kept, merge-records, close-records}
 use Rattle.levels.proofs.MergeWell.{merge-well, close-well}
 use Rattle.levels.proofs.MergeWrites.{merge-writes, merge-places, merge-length, close-writes, close-places, close-length}
@@ -28,16 +32,6 @@ upperOf B i c = close B i (c .left) (c .right)
 
 abbrev pub lowerOf : ℕ → Bool → Cut → Level
 lowerOf B bottom c = merge B bottom (c .before) (c .run) (c .over) (c .behind)
-
--- what is asked of the two levels and of the run: they are well filled and sorted, and the run is w blocks of the upper one
-pub record Mergeable (B w first : ℕ) (above under : Level) : Type 0 where
-  pub block : 1 ≤ B
-  pub some-run : 1 ≤ w
-  pub whole : first + w ≤ length above
-  pub above-well : Well B above
-  pub under-well : Well B under
-  pub above-sorted : Rising 0 (records above)
-  pub under-sorted : Rising 0 (records under)
 
 module _ (B w first : ℕ) (above under : Level) (h : Mergeable B w first above under) where
   wells : WellCut B (cutAt w first above under)

@@ -12,9 +12,9 @@ use borrow.Author.Tests.{eqb-true, eq-eqb, lt-ltb, not-true}
 use Rattle.levels.specs.Basics.{if_then_else_, all, total, member}
 use Rattle.levels.specs.Record.{Level}
 use Rattle.levels.specs.Place.{Allocation, placesOf, inUse, newlyUsed, distinct}
+use Rattle.levels.specs.Taking.{Changed, Takes}
 use Rattle.levels.proofs.Basics.{and-left, and-right, and-both}
 use Rattle.levels.proofs.Fresh.{weights}
-use Rattle.levels.proofs.Settling.{Takes}
 
 -- weights of a place: is it p; is it not in a list; is it not below P
 abbrev pub hit : ℕ → ℕ → ℕ
@@ -191,12 +191,6 @@ takes-once P a (q ∷ ps) t p = go (eqb p q) refl (takes-once P (record { used =
         let m : member p (q ∷ a .used) ≡ true = rw (eqb-true p q d) (member-head q (a .used)) in
         omega (arith, takes-apart P (record { used = q ∷ a .used; cursor = q }) ps (t .1) p m)
     go false d ih = omega arith
-
--- A change of the places in use: `written` were taken one after the other, and what is in use afterwards is part of what was and all of these.
-pub record Changed (P : ℕ) (a : Allocation) (finish written : List ℕ) : Type 0 where
-  pub takes : Takes P a written
-  pub most : (f : ℕ → ℕ) → total f finish ≤ total f (a .used) + total f written
-  pub least : (f : ℕ → ℕ) → total f written ≤ total f finish
 
 -- "none twice over all levels" stays
 pub changed-distinct : (P : ℕ) (a : Allocation) (finish written : List ℕ) → Changed P a finish written → distinct (a .used) ≡ true → distinct finish ≡ true

@@ -17,23 +17,17 @@ use Rattle.levels.specs.Record.{Rec, records, cleanTombstones}
 use Rattle.levels.specs.Map.{find, decides, present, lookUp, isLive, mapOf, liveCount, firstFrom, next}
 use Rattle.levels.specs.Store.{Store, rows}
 use Rattle.levels.specs.Call.{Merge, afterMerges}
-use Rattle.levels.specs.Put.{Change, refused, absent, entered, insert, mergesFor, withRecord, enter, put, delete}
+use Rattle.levels.specs.Put.{Change, refused, absent, entered, insert, mergesFor, withRecord, enter, put, delete, putRec, deleteRec, without}
+use Rattle.levels.specs.Rising.{Risings}
+use Rattle.levels.specs.Sound.{Fits, Sound}
+use Rattle.levels.specs.Inside.{Inside}
 use Rattle.levels.proofs.Basics.{and-left, and-right, and-both}
 use Rattle.levels.proofs.Overlay.{same-find}
-use Rattle.levels.proofs.View.{Risings, test-risings, risings-test, map-rising, look-up-find}
-use Rattle.levels.proofs.Sound.{Fits, Sound}
-use Rattle.levels.proofs.Inside.{Inside}
+use Rattle.levels.proofs.View.{test-risings, risings-test, map-rising, look-up-find}
 use Rattle.levels.proofs.Entry.{entry-of, inside-fit, inside-tight, inside-unmarked}
 use Rattle.levels.proofs.MergeBounds.{list-map}
 use Rattle.levels.proofs.CallMerges.{for-none, call-facts, call-within, call-top}
-use Rattle.levels.proofs.Insert.{insert-rising, find-insert, find-insert-other, insert-most, insert-new, insert-old, insert-all, without, without-rising, find-without, find-without-other, without-length}
-
--- the record that a put and a delete enter
-abbrev pub putRec : ℕ → ℕ → Rec
-putRec k v = record { key = k; tombstone = false; pay = v }
-
-abbrev pub deleteRec : ℕ → Rec
-deleteRec k = record { key = k; tombstone = true; pay = 0 }
+use Rattle.levels.proofs.Insert.{insert-rising, find-insert, find-insert-other, insert-most, insert-new, insert-old, insert-all, without-rising, find-without, find-without-other, without-length}
 
 -- live afterwards
 abbrev pub livePut : Bool → ℕ → ℕ

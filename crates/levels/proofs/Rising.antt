@@ -6,12 +6,8 @@ use mathlib.Core.List.{List, [], _∷_, _++_}
 use native.Mathlib.Omega.{arith}
 use borrow.Author.Tests.{leb-true, le-leb}
 use Rattle.levels.specs.Record.{Rec, rising}
+use Rattle.levels.specs.Rising.{Rising}
 use Rattle.levels.proofs.Basics.{and-left, and-right, and-both}
-
--- each key is at least `low`, and above the key before it
-abbrev pub Rising : ℕ → List Rec → Type 0
-Rising low [] = Unit {0}
-Rising low (r ∷ rs) = (low ≤ r .key) × Rising (suc (r .key)) rs
 
 -- every key is below `high`
 abbrev pub Below : ℕ → List Rec → Type 0

@@ -13,11 +13,13 @@ use Rattle.levels.specs.Record.{Level}
 use Rattle.levels.specs.Waste.{needsCompact, compact}
 use Rattle.levels.specs.Choose.{choose, cutAt}
 use Rattle.levels.specs.Place.{placesOf, inUse}
-use Rattle.levels.proofs.Fresh.{fresh, olds-most, places-olds}
+use Rattle.levels.specs.Taking.{fresh}
+use Rattle.levels.specs.InCall.{Due}
+use Rattle.levels.proofs.Fresh.{olds-most, places-olds}
 use Rattle.levels.proofs.Merged.{upperOf, lowerOf, upper-writes, lower-writes}
 use Rattle.levels.proofs.Compaction.{compact-fresh, compact-shorter}
 use Rattle.levels.proofs.Capacity.{window-half, window-capacity-half, capacity-sum-front, level-in-flash}
-use Rattle.levels.proofs.Chosen.{Due, due-mergeable, due-over}
+use Rattle.levels.proofs.Chosen.{due-mergeable, due-over}
 
 -- the level at index j, which is level i + j + 1, has at most twice its capacity
 abbrev pub Doubled : Geometry → ℕ → List Level → Type 0

@@ -8,9 +8,9 @@ use lib.ListN.{length, getD, set}
 use Rattle.levels.specs.Basics.{orElse}
 use Rattle.levels.specs.Record.{Rec}
 use Rattle.levels.specs.Map.{find, decides, present, lookUp}
+use Rattle.levels.specs.Rising.{Rising, Risings}
 use Rattle.levels.proofs.Basics.{or-assoc, or-none}
-use Rattle.levels.proofs.Rising.{Rising}
-use Rattle.levels.proofs.View.{Risings, present-or}
+use Rattle.levels.proofs.View.{present-or}
 
 -- a row of sorted rows is sorted, and a sorted row may replace it
 pub risings-at : (ls : List (List Rec)) (j : ℕ) → Risings ls → Rising 0 (getD ls j [])

@@ -9,9 +9,10 @@ use Rattle.levels.specs.Basics.{total}
 use Rattle.levels.specs.Record.{Rec, Block, Level, size, new, records}
 use Rattle.levels.specs.Waste.{needsCompact}
 use Rattle.levels.specs.Place.{Allocation, firstFree, Settled, settle, placesOf}
-use Rattle.levels.proofs.Levels.{Apart, Well, well-nil, well-tail}
-use Rattle.levels.proofs.Fresh.{fresh}
-use Rattle.levels.proofs.FirstFree.{FirstFree, first-free}
+use Rattle.levels.specs.Taking.{Takes, fresh}
+use Rattle.levels.specs.Well.{Apart, Well}
+use Rattle.levels.proofs.Levels.{well-nil, well-tail}
+use Rattle.levels.proofs.FirstFree.{first-free}
 
 -- the allocation after places were taken, one after the other
 abbrev pub afterTaking : Allocation → List ℕ → Allocation
@@ -193,11 +194,6 @@ settle-places f P a (b ∷ bs) = go (b .place) (λ c. settle-places f P c bs)
         ≡ total f (placesOf (record { place = p; recs = b .recs } ∷ bs)) + total f (placesOf (settle P a (record { place = p; recs = b .recs } ∷ bs) .written))
     go none ih = omega (arith, ih (taking P a))
     go (some p) ih = omega (arith, ih a)
-
--- each place is the first free one after the cursor when it is taken
-abbrev pub Takes : ℕ → Allocation → List ℕ → Type 0
-Takes P a [] = Unit {0}
-Takes P a (p ∷ ps) = FirstFree P (a .used) (a .cursor) p × Takes P (record { used = p ∷ a .used; cursor = p }) ps
 
 -- some places, and then some more
 pub takes-append : (P : ℕ) (a : Allocation) (ps qs : List ℕ) → Takes P a ps → Takes P (afterTaking a ps) qs → Takes P a (ps ++ qs)

@@ -13,13 +13,15 @@ use Rattle.levels.specs.Record.{Rec, Block, Level, size, new, placed, re
 use Rattle.levels.specs.Choose.{cutAt}
 use Rattle.levels.specs.Merge.{Out, State, reusable, flush, rest, headRec, gather, fromUpper, fromLower, stepOn, step, joinLeft, join, stream, merge, close}
 use Rattle.levels.specs.Place.{Allocation, firstFree, settle, placesOf, distinct}
+use Rattle.levels.specs.Well.{Sized}
+use Rattle.levels.specs.Taking.{fresh, Takes}
+use Rattle.levels.specs.Every.{Every, allBlocks}
 use Rattle.levels.proofs.Basics.{if-either, or-false}
-use Rattle.levels.proofs.Levels.{Sized}
-use Rattle.levels.proofs.Fresh.{fresh, olds, count-all, places-olds}
+use Rattle.levels.proofs.Fresh.{olds, count-all, places-olds}
 use Rattle.levels.proofs.Cut.{cut-above, cut-under}
-use Rattle.levels.proofs.Settling.{taking, Takes}
+use Rattle.levels.proofs.Settling.{taking}
 use Rattle.levels.proofs.Places.{times-distinct, takes-once}
-use Rattle.levels.proofs.Every.{Every, every-make, every-turn, every-append, every-split, allBlocks}
+use Rattle.levels.proofs.Every.{every-make, every-turn, every-append, every-split}
 
 -- P holds of every block that has a place
 abbrev pub Old : (Block → Type 0) → Level → Type 0

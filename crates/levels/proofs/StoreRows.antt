@@ -5,12 +5,13 @@ use mathlib.Core.Bool.{Bool, true}
 use mathlib.Core.List.{List, [], _∷_, map}
 use native.Mathlib.Omega.{arith}
 use native.Mathlib.Nat.{mul-le-mul-left, mul-le-mul-right}
-use lib.ListN.{length, getD, set, take, length-set, List·getD-map}
+use lib.ListN.{length, getD, set, length-set, List·getD-map}
 use Rattle.geometry.specs.declared.Geometry.{Geometry}
 use Rattle.levels.specs.Basics.{all, total}
 use Rattle.levels.specs.Record.{Rec, Level, records}
 use Rattle.levels.specs.Store.{Store, rows, blocksOf, withBlocks}
 use Rattle.levels.specs.Call.{enoughSteps}
+use Rattle.levels.specs.Inside.{recordsAbove, load}
 use Rattle.levels.proofs.Basics.{and-left, and-right, and-both}
 use Rattle.levels.proofs.Compaction.{pages-records}
 
@@ -71,10 +72,6 @@ all-set p [] i l e h = h
 all-set p (a ∷ ls) zero l e h = and-both _ _ e (and-right (p a) _ h)
 all-set p (a ∷ ls) (suc i) l e h = and-both _ _ (and-left (p a) _ h) (all-set p ls i l e (and-right (p a) _ h))
 
--- the records of the first n rows
-abbrev pub recordsAbove : ℕ → List (List Rec) → ℕ
-recordsAbove n ls = total (λ (l : List Rec). length l) (take n ls)
-
 -- x records leave a row, and at most so many come to the one below it: the first n rows do not get more
 pub above-pair : (n : ℕ) (ls : List (List Rec)) (i x : ℕ) (u l : List Rec) → length u + x ≡ length (getD ls i []) → length l ≤ length (getD ls (suc i) []) + x
     → recordsAbove n (set (set ls i u) (suc i) l) ≤ recordsAbove n ls
@@ -84,11 +81,6 @@ above-pair (suc n) (c ∷ []) zero x u l a b = omega arith
 above-pair (suc zero) (c ∷ d ∷ ls) zero x u l a b = omega arith
 above-pair (suc (suc n)) (c ∷ d ∷ ls) zero x u l a b = omega arith
 above-pair (suc n) (c ∷ ls) (suc i) x u l a b = omega (arith, above-pair n ls i x u l a b)
-
--- the sum over all records of the number of rows below theirs
-abbrev pub load : List (List Rec) → ℕ
-load [] = 0
-load (l ∷ ls) = length ls * length l + load ls
 
 -- so it falls by x
 pub load-pair : (ls : List (List Rec)) (i x : ℕ) (u l : List Rec) → suc i < length ls → length u + x ≡ length (getD ls i []) → length l ≤ length (getD ls (suc i) []) + x

@@ -1,10 +1,9 @@
 -- Laws of the view and of the map (document 01, "Calls"): the levels from 0 down, one laid over the other, and the map without tombstones.
 use Prim.Native.Nat.{ℕ, suc, _<_, _≤_}
 use mathlib.Core.Path.{_≡_, refl, sym, _∙_, ap}
-use mathlib.Core.Bool.{Bool, true, false, _||_, true≢false}
+use mathlib.Core.Bool.{Bool, true, false, _||_}
 use mathlib.Core.List.{List, [], _∷_}
 use mathlib.Core.Option.{Option, none, some}
-use mathlib.Core.Logic.{_≢_}
 use native.Mathlib.Omega.{arith}
 use native.Mathlib.Decide.{ℕ-discrete}
 use lib.Dec.{leb}
@@ -13,8 +12,9 @@ use borrow.Author.Tests.{leb-true, leb-false}
 use Rattle.levels.specs.Basics.{orElse, isSome, all}
 use Rattle.levels.specs.Record.{Rec, hasTombstone, rising}
 use Rattle.levels.specs.Map.{find, view, unmarked, mapOf, liveCount, decides, present, lookUp, isLive, firstFrom, next}
+use Rattle.levels.specs.Rising.{Risings, Rising}
 use Rattle.levels.proofs.Basics.{and-left, and-right, and-both, or-false}
-use Rattle.levels.proofs.Rising.{Rising, rising-from, test-rising, rising-test}
+use Rattle.levels.proofs.Rising.{rising-from, test-rising, rising-test}
 use Rattle.levels.proofs.Overlay.{find-here, find-past, find-below, find-overlay, overlay-rising, same-find}
 
 -- the clauses of unmarked, as laws
@@ -25,11 +25,6 @@ unmarked-drop r rs e = ap (λ (t : Bool). elim t [ true ↦ unmarked rs | false 
 pub unmarked-keep : (r : Rec) (rs : List Rec) → r .tombstone ≡ false → unmarked (r ∷ rs) ≡ r ∷ unmarked rs
 unfolding unmarked
 unmarked-keep r rs e = ap (λ (t : Bool). elim t [ true ↦ unmarked rs | false ↦ r ∷ unmarked rs ]) e
-
--- every row is sorted
-abbrev pub Risings : List (List Rec) → Type 0
-Risings [] = Unit {0}
-Risings (l ∷ ls) = Rising 0 l × Risings ls
 
 -- "keys rise strictly in each level": the test says it
 pub test-risings : (ls : List (List Rec)) → all (rising 0) ls ≡ true → Risings ls

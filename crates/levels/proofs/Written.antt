@@ -12,11 +12,13 @@ use Rattle.levels.specs.Record.{Level}
 use Rattle.levels.specs.Waste.{compact}
 use Rattle.levels.specs.Choose.{Cut, cutAt}
 use Rattle.levels.specs.Place.{Allocation, Settled, settle, placesOf, inUse, newlyUsed}
-use Rattle.levels.proofs.Fresh.{fresh, weights, count-all}
-use Rattle.levels.proofs.Merged.{Mergeable, upperOf, lowerOf, pair-places, lower-places, upper-writes, lower-writes}
+use Rattle.levels.specs.Taking.{fresh, Takes, Changed}
+use Rattle.levels.specs.InCall.{Mergeable}
+use Rattle.levels.proofs.Fresh.{weights, count-all}
+use Rattle.levels.proofs.Merged.{upperOf, lowerOf, pair-places, lower-places, upper-writes, lower-writes}
 use Rattle.levels.proofs.Compaction.{compact-fresh}
-use Rattle.levels.proofs.Settling.{afterTaking, Takes, takes-append, settle-takes, settle-cursor, settle-allocation, settle-used, settle-places, written-places}
-use Rattle.levels.proofs.Places.{total-append, weights-places, in-use-set, in-use-at, Changed, changed-newly}
+use Rattle.levels.proofs.Settling.{afterTaking, takes-append, settle-takes, settle-cursor, settle-allocation, settle-used, settle-places, written-places}
+use Rattle.levels.proofs.Places.{total-append, weights-places, in-use-set, in-use-at, changed-newly}
 
 -- a level of new blocks lists no place
 pub fresh-weights : (f : ℕ → ℕ) (l : Level) → fresh l ≡ length l → weights f l ≡ 0

@@ -1,5 +1,6 @@
 -- Document 01, "A merge from level i to i + 1" and "The merges of a call".
 use Prim.Native.Nat.{ℕ, zero, suc, _+_, _-_, _*_}
+use mathlib.Core.Path.{_≡_}
 use mathlib.Core.Bool.{true, false}
 use mathlib.Core.List.{List, [], _∷_, _++_}
 use lib.Dec.{ltb, eqb}
@@ -63,6 +64,11 @@ abbrev pub afterCompactions : Store → List Compaction → Store
 afterCompactions s [] = s
 afterCompactions s (c ∷ cs) = afterCompactions (c .finish) cs
 
+-- each compaction finds the store as the one before it left it
+abbrev pub Follows : Store → List Compaction → Type 0
+Follows s [] = Unit {0}
+Follows s (c ∷ cs) = (c .start ≡ s) × Follows (c .finish) cs
+
 -- Step 5: "Level i (if i ≥ 1), then i + 1, is compacted if needed"
 unfoldable pub stepFive : Geometry → ℕ → Store → List Compaction
 stepFive g zero s = compactIfNeeded g 1 s
@@ -86,6 +92,11 @@ afterMerge m = afterCompactions (m .finish) (m .compactions)
 abbrev pub afterMerges : Store → List Merge → Store
 afterMerges s [] = s
 afterMerges s (m ∷ ms) = afterMerges (afterMerge m) ms
+
+-- each merge finds the store as the one before it and its step 5 left it
+abbrev pub Chained : Store → List Merge → Type 0
+Chained s [] = Unit {0}
+Chained s (m ∷ ms) = (m .start ≡ s) × Chained (afterMerge m) ms
 
 -- Step 6: "While a level holds more than K blocks, the deepest such merges next." Of the levels n, n − 1 .. 1 the deepest; 0 if there is none.
 unfoldable pub deepestOver : Geometry → ℕ → Store → ℕ

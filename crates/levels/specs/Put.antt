@@ -29,6 +29,18 @@ insert r (s ∷ ss) = elim (ltb (r .key) (s .key)) [
   | false ↦ elim (eqb (r .key) (s .key)) [ true ↦ r ∷ ss | false ↦ s ∷ insert r ss ]
 ]
 
+-- A list without the record with key k.
+abbrev pub without : ℕ → List Rec → List Rec
+without k [] = []
+without k (r ∷ rs) = elim (eqb (r .key) k) [ true ↦ rs | false ↦ r ∷ without k rs ]
+
+-- the record that a put and a delete enter
+abbrev pub putRec : ℕ → ℕ → Rec
+putRec k v = record { key = k; tombstone = false; pay = v }
+
+abbrev pub deleteRec : ℕ → Rec
+deleteRec k = record { key = k; tombstone = true; pay = 0 }
+
 -- "a key found in level 0 is overwritten there; otherwise, if c = K(0)×B, level 0 is merged first, then the record goes in."
 -- The merges that this makes.
 unfoldable pub mergesFor : Geometry → Store → ℕ → List Merge

@@ -12,7 +12,7 @@ use Rattle.geometry.specs.declared.Geometry.{Geometry}
 use Rattle.geometry.specs.Geometry.{Valid}
 use Rattle.levels.specs.Record.{Level}
 use Rattle.levels.specs.Store.{Store}
-use Rattle.levels.proofs.Sound.{Fits}
+use Rattle.levels.specs.Sound.{Fits}
 use Rattle.words.specs.Layout.{word, countAt, listedAt, levelAt, each, placeOf}
 use Rattle.words.proofs.Parts.{part-word, pad-word}
 use Rattle.words.proofs.Lists.{level-places}

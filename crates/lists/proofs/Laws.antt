@@ -11,25 +11,18 @@ use Rattle.geometry.specs.Geometry.{Valid, flashCapacityOf, topCapacityOf, mark
 use Rattle.geometry.proofs.Laws.{store-length-low}
 use Rattle.levels.specs.Record.{Rec, Level}
 use Rattle.levels.specs.Store.{Store}
-use Rattle.levels.proofs.Sound.{Fits}
-use Rattle.words.specs.Layout.{word, geometryAt, liveAt, topCountAt, pad, placeOf, headerWords, topWords, listWords, areaOf, storeWords}
-use Rattle.words.proofs.Parts.{part, part-word, part-left, part-front-part, part-split, part-cons, pad-length}
-use Rattle.words.proofs.Top.{topLength, top-words-length}
+use Rattle.levels.specs.Sound.{Fits}
+use Rattle.words.specs.Layout.{word, geometryAt, pad, placeOf, headerWords, topWords, listWords, areaOf, storeWords, part, topLength}
+use Rattle.words.specs.Passed.{Laid}
+use Rattle.words.proofs.Parts.{part-word, part-left, part-front-part, part-split, part-cons, pad-length}
+use Rattle.words.proofs.Top.{top-words-length}
 use Rattle.words.proofs.Lists.{list-words-length}
-use Rattle.words.proofs.Laid.{Laid, laid-levels}
+use Rattle.words.proofs.Laid.{laid-levels}
 use Rattle.words.proofs.State.{Holds, top-end, lists-length, store-length, room-fits, geometry-held, live-held, top-count-held, words-hold, held-words}
 use Rattle.lists.specs.Lists.{putAt, placeLists, withLists}
+use Rattle.lists.specs.Holds.{HoldsBut}
 use Rattle.lists.proofs.Put.{put-length}
 use Rattle.lists.proofs.Keeps.{put-here, put-before, put-drop, put-behind}
-
--- The words hold the store, but for the cursor, the block counts and the place lists.
-pub record HoldsBut (g : Geometry) (ws : List ℕ) (t : Store) : Type 0 where
-  pub long : length ws ≡ storeLength g
-  pub six : geometryAt ws ≡ g
-  pub live : liveAt ws ≡ t .live
-  pub count : topCountAt ws ≡ length (t .top)
-  pub top : part ws (marksStart g) (topLength g) ≡ topWords g (t .top)
-  pub laid : Laid g (areaOf g ws) t
 
 -- the places of the blocks of every level
 abbrev pub placesIn : List Level → List (List ℕ)

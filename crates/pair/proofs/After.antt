@@ -11,11 +11,11 @@ use Rattle.geometry.specs.Geometry.{storeLength}
 use Rattle.levels.specs.Record.{Rec, Level}
 use Rattle.levels.specs.Merge.{close}
 use Rattle.levels.specs.Place.{Allocation, settle}
-use Rattle.levels.proofs.Fresh.{fresh, reverse-fresh}
+use Rattle.levels.specs.Taking.{fresh}
+use Rattle.levels.proofs.Fresh.{reverse-fresh}
 use Rattle.levels.proofs.MergeWrites.{close-writes}
 use Rattle.levels.proofs.Settling.{settle-used}
-use Rattle.words.specs.Layout.{blockAt, areaOf, writeBlocks}
-use Rattle.words.proofs.Blocks.{placeWords}
+use Rattle.words.specs.Layout.{blockAt, areaOf, writeBlocks, placeWords}
 use Rattle.blocks.specs.Blocks.{Marks}
 use Rattle.merging.specs.declared.Merged.{Merged}
 use Rattle.merging.specs.Contract.{ListedBlock, Leaves}

@@ -14,13 +14,13 @@ use Rattle.geometry.specs.Geometry.{placesStart, placeStart, blockWidth, storeL
 use Rattle.levels.specs.Basics.{member}
 use Rattle.levels.specs.Record.{Rec, Block, Level, placed}
 use Rattle.levels.specs.Place.{firstFree, Allocation, Settled, settle}
+use Rattle.levels.specs.Taking.{fresh}
 use Rattle.levels.proofs.FirstFree.{first-free}
-use Rattle.levels.proofs.Fresh.{fresh}
 use Rattle.levels.proofs.Settling.{taking}
-use Rattle.words.specs.Layout.{word, recordCount, markWordAt, blockSlots, blockAt, areaOf, writeBlock, writeBlocks}
+use Rattle.words.specs.Layout.{word, recordCount, markWordAt, blockSlots, blockAt, areaOf, writeBlock, writeBlocks, placeWords}
 use Rattle.words.proofs.Parts.{part-word}
 use Rattle.words.proofs.Slots.{slots-agree}
-use Rattle.words.proofs.Blocks.{placeWords, place-words, write-length, write-other}
+use Rattle.words.proofs.Blocks.{place-words, write-length, write-other}
 use Rattle.merging.proofs.Settle.{NewFit}
 
 -- what the places of a level keep of those in use before

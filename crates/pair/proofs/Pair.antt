@@ -15,7 +15,8 @@ use Rattle.levels.specs.Choose.{choose, cutAt}
 use Rattle.levels.specs.Choose as choosing
 use Rattle.levels.specs.Merge.{merge, close}
 use Rattle.levels.specs.Place.{Allocation, settle}
-use Rattle.levels.proofs.Fresh.{fresh, count-all}
+use Rattle.levels.specs.Taking.{fresh}
+use Rattle.levels.proofs.Fresh.{count-all}
 use Rattle.levels.proofs.Settling.{written-length, settle-length}
 use Rattle.words.specs.Layout.{recordCount, blockSlots, blockAt, areaOf, writeBlocks}
 use Rattle.words.proofs.Slots.{slots-length}

@@ -14,14 +14,15 @@ use Rattle.levels.specs.Basics.{if_then_else_, isSome}
 use Rattle.levels.specs.Record.{Rec}
 use Rattle.levels.specs.Map.{decides, present, lookUp, isLive}
 use Rattle.levels.specs.Store.{Store, rows}
-use Rattle.levels.specs.Put.{refused, absent, enter, put, delete, mergesOf}
+use Rattle.levels.specs.Put.{refused, absent, enter, put, delete, mergesOf, putRec, deleteRec}
 use Rattle.levels.specs.Count.{Counts, countsOf}
-use Rattle.levels.proofs.PutDelete.{putRec, deleteRec, enter-is, put-live, put-full, put-new, delete-live, delete-absent}
+use Rattle.levels.proofs.PutDelete.{enter-is, put-live, put-full, put-new, delete-live, delete-absent}
 use Rattle.words.specs.Layout.{geometryAt, liveAt, storeAt}
 use Rattle.words.specs.Form.{reasonOf}
 use Rattle.words.specs.Calls.{Outcome, ChangeAnswer, mapAt, changeOutcome, putOf, deleteOf}
+use Rattle.words.specs.Demand.{Demand, ownPut, ownDelete}
 use Rattle.words.proofs.Steps.{put-of, delete-of}
-use Rattle.words.proofs.Demand.{Demand, ownPut, ownDelete, put-demand, delete-demand}
+use Rattle.words.proofs.Demand.{put-demand, delete-demand}
 use Rattle.words.proofs.MapAfter.{put-enters, delete-takes-out, put-refused-words, delete-refused-words, put-full-only}
 use Rattle.search.specs.declared.Found.{Found}
 use Rattle.search.specs.Search.{foundOf}

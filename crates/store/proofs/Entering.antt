@@ -16,16 +16,17 @@ use Rattle.levels.specs.Record.{Rec, rising}
 use Rattle.levels.specs.Map.{find, isLive}
 use Rattle.levels.specs.Store.{Store, rows}
 use Rattle.levels.specs.Call.{Merge, mergesFrom, afterMerges}
-use Rattle.levels.specs.Put.{insert, mergesFor, withRecord}
+use Rattle.levels.specs.Put.{insert, mergesFor, withRecord, deleteRec}
+use Rattle.levels.specs.Sound.{Fits}
 use Rattle.levels.proofs.Rising.{rising-test, test-rising}
-use Rattle.levels.proofs.Sound.{Fits}
 use Rattle.levels.proofs.InCall.{ListFacts}
 use Rattle.levels.proofs.Entry.{inside-fit}
 use Rattle.levels.proofs.CallMerges.{for-none, for-full, full-top, call-facts, call-within, call-top}
-use Rattle.levels.proofs.PutDelete.{deleteRec, enter-is, delete-live, delete-count}
+use Rattle.levels.proofs.PutDelete.{enter-is, delete-live, delete-count}
 use Rattle.words.specs.Layout.{liveAt, topCountAt, topRecs, storeAt, areaOf, writeBlocks, storeWords}
 use Rattle.words.specs.Calls.{writtenBlocks, leftWords}
-use Rattle.words.proofs.Reason.{Passed, reason-passed}
+use Rattle.words.specs.Passed.{Passed}
+use Rattle.words.proofs.Reason.{reason-passed}
 use Rattle.words.proofs.Steps.{laid-merges}
 use Rattle.form.specs.declared.Checked.the-variants.{Ready}
 use Rattle.form.specs.Checked.{checkedOf}

@@ -15,16 +15,17 @@ use Rattle.levels.specs.Store.{Store}
 use Rattle.levels.specs.Call.{Compaction, Merge}
 use Rattle.levels.specs.Put.{Change, refused, absent, entered, mergesFor, put, delete}
 use Rattle.levels.specs.Count.{blocksCompacted, totalCompacted, countsOf}
-use Rattle.levels.proofs.Every.{Every}
-use Rattle.levels.proofs.CompactInside.{CompactionFacts, compaction-newly}
-use Rattle.levels.proofs.InCall.{MergeFacts}
+use Rattle.levels.specs.Every.{Every}
+use Rattle.levels.specs.InCall.{CompactionFacts, MergeFacts}
+use Rattle.levels.proofs.CompactInside.{compaction-newly}
 use Rattle.levels.proofs.CallMerges.{call-merges}
 use Rattle.levels.proofs.CallCounts.{merge-short, merges-high, counts-high}
 use Rattle.levels.proofs.PutDelete.{PutSays, DeleteSays, put-says, delete-says}
 use Rattle.words.specs.Layout.{geometryAt, storeAt}
 use Rattle.words.specs.Form.{reasonOf}
 use Rattle.words.specs.Calls.{Outcome, ChangeAnswer, changeAnswer, changeOutcome, putOf, deleteOf}
-use Rattle.words.proofs.Reason.{Passed, reason-passed}
+use Rattle.words.specs.Passed.{Passed}
+use Rattle.words.proofs.Reason.{reason-passed}
 use Rattle.words.proofs.Steps.{put-of, delete-of}
 use Rattle.store.specs.declared.Changed.{Changed}
 use Rattle.store.specs.Answers.{changedAnswer}

@@ -13,14 +13,12 @@ use Rattle.levels.specs.Basics.{isSome}
 use Rattle.levels.specs.Record.{Rec}
 use Rattle.levels.specs.Map.{find}
 use Rattle.levels.specs.Call.{Merge, afterMerges}
-use Rattle.levels.specs.Put.{insert, mergesFor, withRecord, put, delete, mergesOf}
+use Rattle.levels.specs.Put.{insert, mergesFor, withRecord, put, delete, mergesOf, without, putRec}
 use Rattle.levels.specs.Count.{countsOf}
-use Rattle.levels.proofs.Insert.{without}
-use Rattle.levels.proofs.PutDelete.{putRec}
 use Rattle.words.specs.Layout.{geometryAt, topCountAt, topRecs, storeAt}
 use Rattle.words.specs.Form.{reasonOf}
 use Rattle.words.specs.Calls.{Outcome, ChangeAnswer, mapAt, leftWords, putOf, deleteOf}
-use Rattle.words.proofs.Demand.{Demand, ownPut, ownDelete}
+use Rattle.words.specs.Demand.{Demand, ownPut, ownDelete}
 use Rattle.search.specs.declared.Found.{Found}
 use Rattle.search.specs.declared.Found.the-variants as found
 use Rattle.top.specs.Top.{withTop}

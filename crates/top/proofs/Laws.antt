@@ -14,16 +14,16 @@ use Rattle.geometry.specs.Geometry.{Valid, capacityOf, topCapacityOf, marksStar
 use Rattle.levels.specs.Basics.{all}
 use Rattle.levels.specs.Record.{Rec, Level, records, rising, pages}
 use Rattle.levels.specs.Store.{Store}
+use Rattle.levels.specs.Sound.{Fits, Sound}
 use Rattle.levels.proofs.Basics.{and-left}
 use Rattle.levels.proofs.Compaction.{pages-records}
 use Rattle.levels.proofs.Levels.{records-append}
 use Rattle.levels.proofs.Pages.{pages-cons}
-use Rattle.levels.proofs.Sound.{Fits, Sound}
-use Rattle.words.specs.Layout.{word, topCountAt, topSlots, topRecs, each, storeAt, headerWords, topWords, listWords, storeWords}
+use Rattle.words.specs.Layout.{word, topCountAt, topSlots, topRecs, each, storeAt, headerWords, topWords, listWords, storeWords, part, topLength}
 use Rattle.words.specs.Form.{topFits, keysRise, topUnusedZero, formed}
-use Rattle.words.proofs.Parts.{part, part-mid}
+use Rattle.words.proofs.Parts.{part-mid}
 use Rattle.words.proofs.Slots.{padRecs, pad-blank}
-use Rattle.words.proofs.Top.{topLength, top-words-length, top-marks, top-read, top-slots-length}
+use Rattle.words.proofs.Top.{top-words-length, top-marks, top-read, top-slots-length}
 use Rattle.words.proofs.State.{top-end, top-inside, header-length, words-length}
 use Rattle.words.proofs.Form.{formed-clauses, all-part, marks-small}
 use Rattle.top.specs.declared.Slot.{Slot}

@@ -12,7 +12,7 @@ use Rattle.levels.specs.Record.{Rec}
 use Rattle.levels.specs.Basics.{isSome}
 use Rattle.levels.specs.Map.{find}
 use Rattle.levels.specs.Put.{insert}
-use Rattle.levels.proofs.Rising.{Rising}
+use Rattle.levels.specs.Rising.{Rising}
 use Rattle.words.proofs.Slots.{blankRec}
 use Rattle.top.specs.declared.Spot.{Spot}
 use Rattle.top.specs.declared.Spot.the-variants.{Found, Gap}

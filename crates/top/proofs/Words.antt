@@ -15,12 +15,13 @@ use Rattle.geometry.specs.Geometry.{Ranged, capacityOf, topCapacityOf, marksSta
 use Rattle.geometry.proofs.Laws.{pays-end, store-length-high}
 use Rattle.levels.specs.Record.{Rec}
 use Rattle.levels.specs.Basics.{all}
-use Rattle.levels.proofs.Every.{Every, every-turn, every-of-all}
-use Rattle.words.specs.Layout.{word, topCountAt, topSlots, topRecs, keysOf, paysOf, topWords, each}
+use Rattle.levels.specs.Every.{Every}
+use Rattle.levels.proofs.Every.{every-turn, every-of-all}
+use Rattle.words.specs.Layout.{word, topCountAt, topSlots, topRecs, keysOf, paysOf, topWords, each, part, topLength}
 use Rattle.words.specs.Form.{blank, topUnusedZero}
-use Rattle.words.proofs.Parts.{part, part-mid, part-rest}
+use Rattle.words.proofs.Parts.{part-mid, part-rest}
 use Rattle.words.proofs.Slots.{padRecs, pad-recs-length, blankRec, unpad}
-use Rattle.words.proofs.Top.{marksOf, marks-length, topLength, top-words-pad, top-words-length, top-slots-length, top-read, top-written}
+use Rattle.words.proofs.Top.{marksOf, marks-length, top-words-pad, top-words-length, top-slots-length, top-read, top-written}
 use Rattle.words.proofs.State.{top-end, top-inside, lists-inside}
 use Rattle.words.proofs.Form.{all-part}
 use Rattle.top.specs.declared.Slot.{Slot}

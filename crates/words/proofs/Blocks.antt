@@ -14,16 +14,12 @@ use Rattle.geometry.specs.declared.Geometry.{Geometry}
 use Rattle.geometry.specs.Geometry.{placesStart, placeStart, blockWidth}
 use Rattle.levels.specs.Basics.{all}
 use Rattle.levels.specs.Record.{Rec, Block, size}
-use Rattle.levels.proofs.Every.{Every}
-use Rattle.levels.proofs.Sound.{BlockFits}
-use Rattle.words.specs.Layout.{word, recordCount, markWordAt, blockSlots, blockAt, pad, markWord, keysOf, paysOf, placeOf, blockWords, areaOf, writeBlock, writeBlocks}
+use Rattle.levels.specs.Every.{Every}
+use Rattle.levels.specs.Sound.{BlockFits}
+use Rattle.words.specs.Layout.{word, recordCount, markWordAt, blockSlots, blockAt, pad, markWord, keysOf, paysOf, placeOf, blockWords, areaOf, writeBlock, writeBlocks, placeWords, part}
 use Rattle.words.specs.Form.{blank}
-use Rattle.words.proofs.Parts.{part, part-word, part-mid, part-last, part-left, part-right, part-drop, part-part, part-split, part-cons, part-front-part, pad-length}
+use Rattle.words.proofs.Parts.{part-word, part-mid, part-last, part-left, part-right, part-drop, part-part, part-split, part-cons, part-front-part, pad-length}
 use Rattle.words.proofs.Slots.{slots-back, padRecs, used-length, used-mark, used-keys, used-pays}
-
--- the words of place q, in the words of all places
-unfoldable pub placeWords : Geometry → List ℕ → ℕ → List ℕ
-placeWords g area q = part area (q * blockWidth g) (blockWidth g)
 
 -- they stand in the store from the start of the place on
 pub place-words : (g : Geometry) (ws : List ℕ) (q : ℕ) → placeWords g (areaOf g ws) q ≡ part ws (placeStart g q) (blockWidth g)

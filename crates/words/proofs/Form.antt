@@ -18,16 +18,18 @@ use Rattle.levels.specs.Record.{Rec, Block, Level}
 use Rattle.levels.specs.Waste.{pairRule, needsCompact}
 use Rattle.levels.specs.Place.{placesOf}
 use Rattle.levels.specs.Store.{Store}
-use Rattle.levels.proofs.Every.{Every, every-turn, every-both, every-map, every-of-all, all-of-every, allBlocks}
-use Rattle.levels.proofs.Sound.{BlockFits, Fits, Tight, Sound}
-use Rattle.words.specs.Layout.{word, geometryAt, topCountAt, countAt, topSlots, topRecs, listedAt, recordCount, markWordAt, blockSlots, blockAt, levelAt, each, storeAt, pad, placeOf, headerWords, listWords, blockWords, areaOf, storeWords}
+use Rattle.levels.specs.Every.{Every, allBlocks}
+use Rattle.levels.specs.Sound.{BlockFits, Fits, Tight, Sound}
+use Rattle.levels.proofs.Every.{every-turn, every-both, every-map, every-of-all, all-of-every}
+use Rattle.words.specs.Layout.{word, geometryAt, topCountAt, countAt, topSlots, topRecs, listedAt, recordCount, markWordAt, blockSlots, blockAt, levelAt, each, storeAt, pad, placeOf, headerWords, listWords, blockWords, areaOf, storeWords, part, placeWords}
 use Rattle.words.specs.Form.{allListed, listedPlaces, blank, liveExact, liveFits, cursorInside, topFits, countsFit, placesInside, placesOnce, blocksFilled, keysRise, bottomUnmarked, topUnusedZero, listsUnusedZero, blocksUnusedZero, tombstonesClean, pairsKept, levelsKept, clauses, formed}
-use Rattle.words.proofs.Parts.{part, part-word, pad-word, part-cons}
+use Rattle.words.specs.Passed.{Laid}
+use Rattle.words.proofs.Parts.{part-word, pad-word, part-cons}
 use Rattle.words.proofs.Slots.{slots-length, mark-low, padRecs, pad-blank}
-use Rattle.words.proofs.Blocks.{placeWords, place-words, place-below, count-read, mark-read, slots-read, block-written}
+use Rattle.words.proofs.Blocks.{place-words, place-below, count-read, mark-read, slots-read, block-written}
 use Rattle.words.proofs.Top.{marksOf, top-slots-length, top-marks, top-written}
 use Rattle.words.proofs.Lists.{Listed, listed-places, listed-zeros, listed-self, listed-words, listed-counts-pad, level-length}
-use Rattle.words.proofs.Laid.{Laid, places-are, in-use-are}
+use Rattle.words.proofs.Laid.{places-are, in-use-are}
 use Rattle.words.proofs.State.{Holds, store-length, lists-inside, top-inside, live-held, cursor-held, top-count-held, counts-held, listed-held, top-inside, top-held, levels-held, store-held, words-hold, held-words}
 
 -- the clauses of the form check, each by its name

@@ -16,8 +16,8 @@ use Rattle.levels.proofs.Empty.{empty-blocks, empty-fits, empty-sound}
 use Rattle.words.specs.Layout.{pad, headerWords, topWords, listWords, storeWords}
 use Rattle.words.specs.Form.{isZero, reasonOf}
 use Rattle.words.specs.Calls.{formatWords, formatOf}
+use Rattle.words.specs.Passed.{Laid}
 use Rattle.words.proofs.Parts.{zeros-are, zeros-pass}
-use Rattle.words.proofs.Laid.{Laid}
 use Rattle.words.proofs.State.{words-length}
 use Rattle.words.proofs.Reason.{size-legal, reason-back}
 

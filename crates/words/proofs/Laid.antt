@@ -1,28 +1,23 @@
 -- A store whose blocks stand in their places, and how writing new blocks keeps that so.
-use Prim.Native.Nat.{ℕ, _*_}
+use Prim.Native.Nat.{ℕ}
 use mathlib.Core.Path.{_≡_, refl, sym, ap, _∙_}
 use mathlib.Core.Bool.{Bool, true, false, not, _||_, or-true, true≢false, and-eq-true-iff}
 use mathlib.Core.List.{List, [], _∷_, _++_, map, List·Memᴰ, List·Memᴰ·head, List·Memᴰ·tail, List·Memᴰ·not-nil}
 use mathlib.Core.Logic.{_≢_, _⊎_, inl, inr}
 use mathlib.Core.Option.{Option, none, some}
 use lib.Dec.{eqb}
-use lib.ListN.{length}
 use borrow.Author.Tests.{eq-eqb, eqb-false, not-true}
 use Rattle.geometry.specs.declared.Geometry.{Geometry}
-use Rattle.geometry.specs.Geometry.{blockWidth}
 use Rattle.levels.specs.Basics.{member}
 use Rattle.levels.specs.Record.{Block, Level}
 use Rattle.levels.specs.Place.{placesOf, inUse, distinct}
 use Rattle.levels.specs.Store.{Store}
-use Rattle.levels.proofs.Every.{Every, allBlocks, every-at, every-turn}
-use Rattle.levels.proofs.Sound.{BlockFits}
-use Rattle.words.specs.Layout.{placeOf, blockWords, writeBlocks}
-use Rattle.words.proofs.Blocks.{placeWords, Apart, writes-length, writes-other, writes-here}
-
--- the blocks of all levels stand in their places
-pub record Laid (g : Geometry) (area : List ℕ) (s : Store) : Type 0 where
-  pub full : length area ≡ g .p * blockWidth g
-  pub standing : Every (λ b. placeWords g area (placeOf b) ≡ blockWords g (b .recs)) (allBlocks (s .levels))
+use Rattle.levels.specs.Every.{Every, allBlocks}
+use Rattle.levels.specs.Sound.{BlockFits}
+use Rattle.levels.proofs.Every.{every-at, every-turn}
+use Rattle.words.specs.Layout.{placeOf, blockWords, writeBlocks, placeWords}
+use Rattle.words.specs.Passed.{Laid}
+use Rattle.words.proofs.Blocks.{Apart, writes-length, writes-other, writes-here}
 
 -- level 0, live and the cursor have no part in it
 pub laid-levels : (g : Geometry) (area : List ℕ) (s t : Store) → t .levels ≡ s .levels → Laid g area s → Laid g area t

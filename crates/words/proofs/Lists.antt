@@ -12,10 +12,11 @@ use Rattle.geometry.specs.Geometry.{capacityOf, capacitySum, listStart}
 use Rattle.geometry.proofs.Laws.{list-next}
 use Rattle.levels.specs.Basics.{all}
 use Rattle.levels.specs.Record.{Level}
-use Rattle.levels.proofs.Every.{Every, every-split, allBlocks}
-use Rattle.words.specs.Layout.{countAt, listAt, listedAt, blockAt, levelAt, each, pad, placeOf, listWords}
+use Rattle.levels.specs.Every.{Every, allBlocks}
+use Rattle.levels.proofs.Every.{every-split}
+use Rattle.words.specs.Layout.{countAt, listAt, listedAt, blockAt, levelAt, each, pad, placeOf, listWords, part}
 use Rattle.words.specs.Form.{isZero, listedPlaces}
-use Rattle.words.proofs.Parts.{part, part-length, part-two, part-split, part-cons, part-zeros, pad-length, pad-cons, pad-zeros, unpad-zeros}
+use Rattle.words.proofs.Parts.{part-length, part-two, part-split, part-cons, part-zeros, pad-length, pad-cons, pad-zeros, unpad-zeros}
 
 -- the levels from i on have room in their lists
 abbrev pub Room : Geometry → ℕ → List Level → Type 0

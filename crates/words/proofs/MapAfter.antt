@@ -16,18 +16,19 @@ use Rattle.levels.specs.Record.{Rec}
 use Rattle.levels.specs.Map.{find, isLive, mapOf, liveCount}
 use Rattle.levels.specs.Store.{Store, emptyStore, rows}
 use Rattle.levels.specs.Call.{Merge}
-use Rattle.levels.specs.Put.{Change, refused, absent, entered, insert, put, delete}
-use Rattle.levels.proofs.Insert.{without, without-none, find-insert, find-insert-other, find-without, find-without-other}
-use Rattle.levels.proofs.View.{Risings, test-risings, map-rising, look-up-find, is-live-find}
+use Rattle.levels.specs.Put.{Change, refused, absent, entered, insert, put, delete, without, putRec}
+use Rattle.levels.specs.Rising.{Risings}
+use Rattle.levels.specs.Sound.{Fits}
+use Rattle.levels.proofs.Insert.{without-none, find-insert, find-insert-other, find-without, find-without-other}
+use Rattle.levels.proofs.View.{test-risings, map-rising, look-up-find, is-live-find}
 use Rattle.levels.proofs.Empty.{empty-map, empty-fits}
-use Rattle.levels.proofs.Sound.{Fits}
-use Rattle.levels.proofs.PutDelete.{putRec, EnterFacts, PutSays, DeleteSays, put-says, delete-says, put-map, delete-map, put-full}
+use Rattle.levels.proofs.PutDelete.{EnterFacts, PutSays, DeleteSays, put-says, delete-says, put-map, delete-map, put-full}
 use Rattle.words.specs.Layout.{geometryAt, storeAt, areaOf, storeWords, writeBlocks}
 use Rattle.words.specs.Form.{reasonOf}
 use Rattle.words.specs.Calls.{Outcome, ChangeAnswer, mapAt, lookAnswer, writtenBlocks, leftWords, changeOutcome, formatOf, lookUpOf, putOf, deleteOf}
-use Rattle.words.proofs.Laid.{Laid}
+use Rattle.words.specs.Passed.{Laid, Passed}
 use Rattle.words.proofs.State.{geometry-back, read-back}
-use Rattle.words.proofs.Reason.{Passed, size-legal, reason-passed, reason-most}
+use Rattle.words.proofs.Reason.{size-legal, reason-passed, reason-most}
 use Rattle.words.proofs.Steps.{entered-laid, put-of, delete-of, put-passes, delete-passes}
 use Rattle.words.proofs.Formatted.{clearArea, empty-laid, format-leaves}
 

@@ -9,12 +9,8 @@ use lib.ListN.{length, take, drop, getD, replicate, length-append, length-drop, 
 use lib.Seq.{take-at, drop-at, drop-append-add, drop-append-le, take-append-le, getD-take, getD-drop, take-nil, take-take, drop-drop, take-add, drop-cons, length-take-le, take-all, drop-append-seam}
 use borrow.Author.Tests.{eqb-true}
 use Rattle.levels.specs.Basics.{all}
-use Rattle.words.specs.Layout.{pad}
+use Rattle.words.specs.Layout.{pad, part}
 use Rattle.words.specs.Form.{isZero}
-
--- the n words from word a on
-unfoldable pub part : List ℕ → ℕ → ℕ → List ℕ
-part ws a n = take n (drop a ws)
 
 pub part-length : (ws : List ℕ) (a n : ℕ) → a + n ≤ length ws → length (part ws a n) ≡ n
 unfolding part

@@ -11,10 +11,10 @@ use Rattle.geometry.specs.declared.Geometry.{Geometry}
 use Rattle.geometry.specs.Geometry.{Valid, isLegal, storeLength, sizeReason}
 use Rattle.geometry.proofs.Laws.{store-length-low, legal-valid, valid-legal}
 use Rattle.levels.specs.Store.{Store}
-use Rattle.levels.proofs.Sound.{Fits, Sound}
-use Rattle.words.specs.Layout.{geometryAt, storeAt, areaOf, storeWords}
+use Rattle.levels.specs.Sound.{Fits, Sound}
+use Rattle.words.specs.Layout.{geometryAt, storeWords}
 use Rattle.words.specs.Form.{formed, reasonOf}
-use Rattle.words.proofs.Laid.{Laid}
+use Rattle.words.specs.Passed.{Passed, Laid}
 use Rattle.words.proofs.State.{geometry-back, words-length}
 use Rattle.words.proofs.Form.{formed-sound, formed-back, write-back}
 
@@ -68,15 +68,6 @@ reason-most ws = go (eqb (sizeReason (length ws) (geometryAt ws)) 0) (formed (ge
     go true true = omega arith
     go true false = omega arith
     go false t = omega (arith, size-most (length ws) (geometryAt ws))
-
--- Everything about words that are not turned down.
-pub record Passed (g : Geometry) (ws : List ℕ) : Type 0 where
-  pub valid : Valid g
-  pub long : length ws ≡ storeLength g
-  pub fits : Fits g (storeAt g ws)
-  pub laid : Laid g (areaOf g ws) (storeAt g ws)
-  pub sound : Sound g (storeAt g ws)
-  pub written : storeWords g (storeAt g ws) (areaOf g ws) ≡ ws
 
 pub reason-passed : (ws : List ℕ) → reasonOf ws ≡ 0 → Passed (geometryAt ws) ws
 reason-passed ws e =

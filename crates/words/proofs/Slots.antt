@@ -12,9 +12,9 @@ use lib.Seq.{drop-append-seam, length-take-le}
 use borrow.Author.Tests.{eqb-true, eqb-false, eq-eqb, ne-eqb, not-true, ltb-true, lt-ltb}
 use Rattle.levels.specs.Basics.{all}
 use Rattle.levels.specs.Record.{Rec}
-use Rattle.words.specs.Layout.{word, slotsAt, pad, bit, markWord, keysOf, paysOf}
+use Rattle.words.specs.Layout.{word, slotsAt, pad, bit, markWord, keysOf, paysOf, part}
 use Rattle.words.specs.Form.{blank, isZero}
-use Rattle.words.proofs.Parts.{part, part-length, part-cons, zeros-are, zeros-pass}
+use Rattle.words.proofs.Parts.{part-length, part-cons, zeros-are, zeros-pass}
 
 -- the first n of B slots are n slots
 pub slots-take : (ws : List ℕ) (m k v : ℕ) (n B : ℕ) → n ≤ B → take n (slotsAt ws m k v B) ≡ slotsAt ws m k v n

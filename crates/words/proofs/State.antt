@@ -13,15 +13,16 @@ use Rattle.geometry.specs.Geometry.{Valid, capacitySum, flashCapacityOf, topCap
 use Rattle.geometry.proofs.Laws.{pays-end, place-inside, store-length-low}
 use Rattle.levels.specs.Record.{Block, Level}
 use Rattle.levels.specs.Store.{Store}
-use Rattle.levels.proofs.Every.{Every, every-both, allBlocks}
-use Rattle.levels.proofs.Sound.{BlockFits, Fits}
-use Rattle.words.specs.Layout.{word, geometryAt, liveAt, cursorAt, topCountAt, topSlots, topRecs, blockAt, levelAt, each, storeAt, pad, placeOf, headerWords, topWords, listWords, blockWords, areaOf, storeWords}
-use Rattle.words.proofs.Parts.{part, part-word, part-mid, part-two, part-front, part-rest, pad-length}
+use Rattle.levels.specs.Every.{Every, allBlocks}
+use Rattle.levels.specs.Sound.{BlockFits, Fits}
+use Rattle.levels.proofs.Every.{every-both}
+use Rattle.words.specs.Layout.{word, geometryAt, liveAt, cursorAt, topCountAt, topSlots, topRecs, blockAt, levelAt, each, storeAt, pad, placeOf, headerWords, topWords, listWords, blockWords, areaOf, storeWords, part, placeWords, topLength}
+use Rattle.words.specs.Passed.{Laid}
+use Rattle.words.proofs.Parts.{part-word, part-mid, part-two, part-front, part-rest, pad-length}
 use Rattle.words.proofs.Slots.{padRecs}
-use Rattle.words.proofs.Blocks.{placeWords, place-words, place-of, place-below, block-read}
-use Rattle.words.proofs.Top.{topLength, top-words-length, top-read}
+use Rattle.words.proofs.Blocks.{place-words, place-of, place-below, block-read}
+use Rattle.words.proofs.Top.{top-words-length, top-read}
 use Rattle.words.proofs.Lists.{Room, room-of, list-words-length, Listed, listed-of, levels-back}
-use Rattle.words.proofs.Laid.{Laid}
 
 -- The words hold the store, part by part.
 pub record Holds (g : Geometry) (ws : List ℕ) (s : Store) : Type 0 where

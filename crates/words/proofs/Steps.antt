@@ -9,20 +9,21 @@ use Rattle.geometry.specs.declared.Geometry.{Geometry}
 use Rattle.levels.specs.Record.{Rec, Block}
 use Rattle.levels.specs.Place.{placesOf}
 use Rattle.levels.specs.Store.{Store, usedIn, allocationOf}
-use Rattle.levels.specs.Call.{Compaction, Merge, afterCompactions, afterMerge, afterMerges}
+use Rattle.levels.specs.Call.{Compaction, Merge, afterCompactions, afterMerge, afterMerges, Follows, Chained}
 use Rattle.levels.specs.Put.{Change, refused, absent, entered, put, delete}
-use Rattle.levels.proofs.Every.{Every}
+use Rattle.levels.specs.Every.{Every}
+use Rattle.levels.specs.InCall.{CompactionFacts, MergeFacts}
 use Rattle.levels.proofs.Stays.{takes-free, takes-distinct}
 use Rattle.levels.proofs.Entry.{inside-fit}
-use Rattle.levels.proofs.CompactInside.{CompactionFacts, Follows}
-use Rattle.levels.proofs.InCall.{MergeFacts, Chained, ListFacts}
+use Rattle.levels.proofs.InCall.{ListFacts}
 use Rattle.levels.proofs.CallMerges.{call-facts}
 use Rattle.levels.proofs.PutDelete.{EnterFacts, PutSays, DeleteSays, put-says, delete-says}
 use Rattle.words.specs.Layout.{geometryAt, storeAt, areaOf, writeBlocks}
 use Rattle.words.specs.Form.{reasonOf}
 use Rattle.words.specs.Calls.{Outcome, ChangeAnswer, compactedBlocks, writtenBlocks, leftWords, changeOutcome, putOf, deleteOf}
-use Rattle.words.proofs.Laid.{Laid, laid-levels, laid-step}
-use Rattle.words.proofs.Reason.{Passed, reason-passed, reason-back}
+use Rattle.words.specs.Passed.{Laid, Passed}
+use Rattle.words.proofs.Laid.{laid-levels, laid-step}
+use Rattle.words.proofs.Reason.{reason-passed, reason-back}
 
 -- blocks written one after the other
 pub writes-append : (g : Geometry) (bs cs : List Block) (area : List ℕ) → writeBlocks g area (bs ++ cs) ≡ writeBlocks g (writeBlocks g area bs) cs

@@ -11,11 +11,11 @@ use Rattle.geometry.specs.declared.Geometry.{Geometry}
 use Rattle.geometry.specs.Geometry.{capacityOf, topCapacityOf, marksStart, keysStart, paysStart}
 use Rattle.levels.specs.Basics.{all}
 use Rattle.levels.specs.Record.{Rec, Block, pages}
-use Rattle.levels.proofs.Every.{Every}
+use Rattle.levels.specs.Every.{Every}
 use Rattle.levels.proofs.Pages.{pages-cons}
-use Rattle.words.specs.Layout.{word, slotsAt, pageSlots, topSlots, pad, markWord, keysOf, paysOf, topWords}
+use Rattle.words.specs.Layout.{word, slotsAt, pageSlots, topSlots, pad, markWord, keysOf, paysOf, topWords, topLength, part}
 use Rattle.words.specs.Form.{blank}
-use Rattle.words.proofs.Parts.{part, part-length, part-split, part-split-three, part-three, part-cons, pad-cons}
+use Rattle.words.proofs.Parts.{part-length, part-split, part-split-three, part-three, part-cons, pad-cons}
 use Rattle.words.proofs.Slots.{slots-part, slotsOf, slots-of, keys-of, pays-of, mark-of, keys-pad, pays-pad, mark-pad, slots-length, pad-recs-length, blankRec, padRecs, unpad}
 
 pub map-take : {A B : Type 0} (f : A → B) (n : ℕ) (xs : List A) → take n (map f xs) ≡ map f (take n xs)
@@ -142,10 +142,6 @@ pub marks-length : (B n : ℕ) (rs : List Rec) → length (marksOf B n rs) ≡ n
 unfolding marksOf
 marks-length B zero rs = refl
 marks-length B (suc n) rs = ap suc (marks-length B n (drop B rs))
-
--- the words of level 0
-abbrev pub topLength : Geometry → ℕ
-topLength g = capacityOf g 0 + (topCapacityOf g + topCapacityOf g)
 
 -- the words of level 0 are those of the records and blank slots up to K(0)×B
 pub top-words-pad : (g : Geometry) (rs : List Rec) → 1 ≤ g .b → length rs ≤ topCapacityOf g

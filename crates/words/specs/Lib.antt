@@ -1,5 +1,7 @@
 pub mod Layout
 pub mod Form
 pub mod Calls
+pub mod Passed
+pub mod Demand
 pub mod Bench
 pub mod Figures

@@ -2,7 +2,7 @@ use Prim.Native.Nat.{ℕ, suc, _-_}
 use mathlib.Core.Path.{_≡_, refl, sym, _∙_}
 use native.Mathlib.Omega.{arith}
 use Rattle.levels.specs.Store.{rows}
-use Rattle.levels.proofs.StoreRows.{load}
+use Rattle.levels.specs.Inside.{load}
 use Rattle.cascade.specs.Running.{storeOf}
 use Rattle.cascade.proofs.Rolling.{Goes, goes-first, goes-last, goes-asks, goes-less, goes-on}
 use Rattle.cascade.proofs.merge_below.Statement.{statement}

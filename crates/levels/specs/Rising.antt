@@ -1,0 +1,14 @@
+-- "keys rise strictly in each level", as a fact.
+use Prim.Native.Nat.{ℕ, suc, _≤_}
+use mathlib.Core.List.{List, [], _∷_}
+use Rattle.levels.specs.Record.{Rec}
+
+-- each key is at least `low`, and above the key before it
+abbrev pub Rising : ℕ → List Rec → Type 0
+Rising low [] = Unit {0}
+Rising low (r ∷ rs) = (low ≤ r .key) × Rising (suc (r .key)) rs
+
+-- every row is sorted
+abbrev pub Risings : List (List Rec) → Type 0
+Risings [] = Unit {0}
+Risings (l ∷ ls) = Rising 0 l × Risings ls

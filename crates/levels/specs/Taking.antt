@@ -1,0 +1,43 @@
+-- What holds of places taken: "A new block goes to the first free place after hand, going round, and hand moves there";
+-- "Places in use when a merge or a compaction starts are not free until it ends".
+use Prim.Native.Nat.{ℕ, suc, _+_, _≤_, zero, _<_}
+use mathlib.Core.Path.{_≡_}
+use mathlib.Core.List.{[], _∷_, List}
+use mathlib.Core.Option.{none, some}
+use mathlib.Core.Bool.{true, false}
+use Rattle.levels.specs.Record.{Block, Level}
+use Rattle.levels.specs.Basics.{member, total}
+use Rattle.levels.specs.Place.{after, Allocation}
+
+-- 1 for a new block
+abbrev pub one : Block → ℕ
+one b = elim (b .place) [ none ↦ 1 | some p ↦ 0 ]
+
+-- the new blocks of a level. Every block has a place where fresh l ≡ 0.
+abbrev pub fresh : Level → ℕ
+fresh [] = 0
+fresh (b ∷ bs) = one b + fresh bs
+
+-- the k-th place after p, going round
+abbrev pub round : ℕ → ℕ → ℕ → ℕ
+round P zero p = p
+round P (suc k) p = round P k (after P p)
+
+-- r is the first place after the cursor that is not in use
+pub record FirstFree (P : ℕ) (used : List ℕ) (cursor r : ℕ) : Type 0 where
+  pub steps : ℕ
+  pub there : r ≡ round P (suc steps) cursor
+  pub inside : r < P
+  pub free : member r used ≡ false
+  pub first : (i : ℕ) → i < steps → member (round P (suc i) cursor) used ≡ true
+
+-- each place is the first free one after the cursor when it is taken
+abbrev pub Takes : ℕ → Allocation → List ℕ → Type 0
+Takes P a [] = Unit {0}
+Takes P a (p ∷ ps) = FirstFree P (a .used) (a .cursor) p × Takes P (record { used = p ∷ a .used; cursor = p }) ps
+
+-- A change of the places in use: `written` were taken one after the other, and what is in use afterwards is part of what was and all of these.
+pub record Changed (P : ℕ) (a : Allocation) (finish written : List ℕ) : Type 0 where
+  pub takes : Takes P a written
+  pub most : (f : ℕ → ℕ) → total f finish ≤ total f (a .used) + total f written
+  pub least : (f : ℕ → ℕ) → total f written ≤ total f finish
