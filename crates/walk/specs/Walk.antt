@@ -7,7 +7,8 @@ use lib.Dec.{eqb}
 use lib.ListN.{length}
 use Rattle.levels.specs.Basics.{if_then_else_}
 use Rattle.levels.specs.Record.{Rec}
-use Rattle.levels.specs.Map.{overlay}
+use Rattle.levels.specs.Map.{overlay, unmarked}
+use Rattle.levels.proofs.Rising.{Below}
 use Rattle.words.specs.Layout.{word}
 use Rattle.chunks.specs.declared.Chunk.{Chunk}
 use Rattle.chunks.specs.Chunks.{chunkRecs}
@@ -29,6 +30,14 @@ pub record Good (ws : List ℕ) (d : Directory) (c : Cursor) : Type 0 where
   pub pays-in : c .chunk .pays + c .chunk .count ≤ length ws
   pub alive : 1 ≤ c .chunk .count → (c .key ≡ word ws (c .chunk .keys)) × (c .key < 4294967296)
   pub ended : c .chunk .count ≡ 0 → (c .key ≡ 4294967296) × (c .next ≡ d .chunks)
+
+-- From one cursor to another of the same level: the records between them have keys below the bound, and `live` of them are no tombstones.
+pub record Skims (ws : List ℕ) (d : Directory) (c : Cursor) (bound : ℕ) (after : Cursor) (live : ℕ) : Type 0 where
+  pub good : Good ws d after
+  pub between : List Rec
+  pub joined : rest ws d c ≡ between ++ rest ws d after
+  pub below : Below bound between
+  pub counted : live ≡ length (unmarked between)
 
 -- four lists of records laid over each other, the upper ones first
 abbrev pub four : List Rec → List Rec → List Rec → List Rec → List Rec
