@@ -36,6 +36,10 @@ module _ (ws : List ℕ) (start n i : ℕ) where
 pub zeros-start : (ws : List ℕ) (start n : ℕ) → zerosAt ws (start + 0) (n - 0) ≡ zerosAt ws start n
 zeros-start ws start n = let p : start + 0 ≡ start = omega arith in let q : n - 0 ≡ n = omega arith in rw (p, q)
 
+-- an answer for mark word 0 is one for a mark word that is 0
+pub rise-zero : (ws : List ℕ) (m k v n low : ℕ) (r : Rise) → m ≡ 0 → r ≡ riseOf ws 0 k v n low → r ≡ riseOf ws m k v n low
+rise-zero ws m k v n low r e q = rw e q
+
 -- one record of `rise_over`
 module _ (ws : List ℕ) (m k v n j low : ℕ) (l : j < n) where
   pub rise-low : word ws (k + j) < low → riseOf ws m (k + j) (v + j) (n - j) low ≡ Broken

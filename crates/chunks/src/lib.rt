@@ -34,6 +34,24 @@ pub fn zeros(s: &[u32], start: usize, n: usize) -> bool
     true
 }
 
+// The same as `rise_over`, for a chunk with no mark bit set, as most are: it leaves the payloads alone.
+fn rise_plain(s: &[u32], chunk: Chunk, low: usize) -> Rise
+    requires { ⌜ Inside chunk (now s) ⌝ }
+    ensures { λ t. ⌜ t ≡ riseOf (now (s .entry)) 0 (chunk .keys) (chunk .pays) (chunk .count) low ⌝ }
+{
+    let k = chunk.keys;
+    let n = chunk.count;
+    let mut least = low;
+    for j in 0..n {
+        let key = s[k + j] as usize;
+        if key < least {
+            return Rise::Broken;
+        }
+        least = key + 1;
+    }
+    Rise::To(least)
+}
+
 // The keys of a chunk rise strictly from `low` on, the payload of a tombstone is 0, and no mark bit is
 // set past the count. The mark word is halved with each record, so that what is left of it at the end
 // is the bits past the count.
@@ -41,6 +59,9 @@ pub fn rise_over(s: &[u32], chunk: Chunk, low: usize) -> Rise
     requires { ⌜ Inside chunk (now s) ⌝ }
     ensures { λ t. ⌜ t ≡ riseOf (now (s .entry)) (chunk .marks) (chunk .keys) (chunk .pays) (chunk .count) low ⌝ }
 {
+    if chunk.marks == 0 {
+        return rise_plain(s, chunk, low);
+    }
     let k = chunk.keys;
     let v = chunk.pays;
     let n = chunk.count;

@@ -12,7 +12,7 @@ use Rattle.geometry.specs.declared.Geometry.{Geometry}
 use Rattle.geometry.specs.Geometry.{within}
 use Rattle.levels.specs.Basics.{all, orElse}
 use Rattle.levels.specs.Record.{Rec, records, rising, hasTombstone, cleanTombstones}
-use Rattle.levels.specs.Map.{find, into, overlay, view, unmarked, mapOf, liveCount, decides}
+use Rattle.levels.specs.Map.{find, overlay, view, unmarked, mapOf, liveCount, decides}
 use Rattle.levels.specs.Store.{rows}
 use Rattle.words.specs.Layout.{liveAt, topRecs, recordCount, levelAt, each, storeAt}
 use Rattle.words.specs.Form.{liveExact, blocksFilled, keysRise, bottomUnmarked, topUnusedZero, blocksUnusedZero, tombstonesClean, pairsKept, levelsKept, clauses, formed}
@@ -20,6 +20,7 @@ use Rattle.entry.specs.Entry.{Sized}
 use Rattle.directory.specs.Directory.{Formed, recordsOf, levelFormed}
 use Rattle.directory.proofs.Laws.{formed-all}
 use Rattle.walk.specs.Walk.{four, layered}
+use Rattle.walk.proofs.Between.{overlay-nil}
 use Rattle.form.specs.Form.{topOf, levelOf, headerOk, listsOk, spareOk, passed, Headed}
 use Rattle.form.proofs.Tests.{test-same, range, range-split, all-append, all-and, all-same, all-at, all-true, all-three}
 use Rattle.form.proofs.Parts.{listed-each}
@@ -63,11 +64,6 @@ unmarked-each g ws h =
     let above : all (unmarkedAt g ws) (range 1 n) ≡ true = all-true (unmarkedAt g ws) 1 n (λ j a b. rw (ne-eqb j (g .h) (λ q. omega arith))) in
     sym (ap (λ (m : ℕ). all (unmarkedAt g ws) (range 1 m)) (sym e)
     ∙ rw (range-split 1 n 1, all-append (unmarkedAt g ws) (range 1 n) (range (1 + n) 1), above, l, eq-eqb (g .h) (g .h) refl, and-true (not (hasTombstone (records (levelAt g ws (g .h)))))))
-
-overlay-nil : (xs : List Rec) → overlay xs [] ≡ xs
-unfolding overlay into
-overlay-nil [] = refl
-overlay-nil (x ∷ xs) = rw (overlay-nil xs)
 
 -- empty levels below the others change nothing
 view-empties : (ls : List (List Rec)) (n : ℕ) → view (ls ++ replicate n []) ≡ view ls

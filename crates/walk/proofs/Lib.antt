@@ -1,3 +1,4 @@
 pub mod Rest
 pub mod Four
 pub mod From
+pub mod Between

@@ -7,13 +7,13 @@ use lib.Dec.{eqb}
 use lib.ListN.{length}
 use Rattle.levels.specs.Basics.{if_then_else_}
 use Rattle.levels.specs.Record.{Rec}
-use Rattle.levels.specs.Map.{overlay}
+use Rattle.levels.specs.Map.{overlay, unmarked}
+use Rattle.levels.proofs.Rising.{Below}
 use Rattle.words.specs.Layout.{word}
 use Rattle.chunks.specs.declared.Chunk.{Chunk}
 use Rattle.chunks.specs.Chunks.{chunkRecs}
 use Rattle.directory.specs.declared.Directory.{Directory}
 use Rattle.directory.specs.Directory.{Formed, recordsFrom, recordsOf}
-use Rattle.search.proofs.Between.{Below}
 use Rattle.walk.specs.declared.Cursor.{Cursor}
 use Rattle.walk.specs.declared.Following.{Following}
 use Rattle.walk.specs.declared.Following.the-variants.{At, Nothing}
@@ -37,6 +37,14 @@ pub record FromKey (ws : List ℕ) (d : Directory) (q : ℕ) (c : Cursor) : Type
   pub passed : List Rec
   pub cut : recordsOf ws d ≡ passed ++ rest ws d c
   pub below : Below q passed
+
+-- From one cursor to another of the same level: the records between them have keys below the bound, and `live` of them are no tombstones.
+pub record Skims (ws : List ℕ) (d : Directory) (c : Cursor) (bound : ℕ) (after : Cursor) (live : ℕ) : Type 0 where
+  pub good : Good ws d after
+  pub between : List Rec
+  pub joined : rest ws d c ≡ between ++ rest ws d after
+  pub below : Below bound between
+  pub counted : live ≡ length (unmarked between)
 
 -- four lists of records laid over each other, the upper ones first
 abbrev pub four : List Rec → List Rec → List Rec → List Rec → List Rec

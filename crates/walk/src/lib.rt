@@ -9,7 +9,7 @@ ghost use lib.Dec.{eqb};
 ghost use Rattle.levels.specs.Map.{unmarked, firstFrom};
 ghost use Rattle.chunks.specs.Peel.{past, liveBit};
 ghost use Rattle.directory.specs.Directory.{Formed, recordsFrom};
-ghost use Rattle.walk.specs.Walk.{Good, rest, FromKey, upperOf, LeastOf, Smaller, layered, followingOf, KeyFits};
+ghost use Rattle.walk.specs.Walk.{Good, rest, FromKey, upperOf, LeastOf, Smaller, Skims, layered, followingOf, KeyFits};
 use chunks::Chunk;
 use directory::Directory;
 
@@ -21,6 +21,12 @@ struct Cursor {
     next: usize,
     chunk: Chunk,
     key: usize,
+}
+
+// A level past some of its records: where it goes on, and how many of the records were no tombstones.
+struct Passed {
+    cursor: Cursor,
+    live: usize,
 }
 
 // A live key with its payload, or that there is none.
@@ -138,8 +144,55 @@ fn live_bit(m: u32) -> usize
     if m % 2 == 1 { 0 } else { 1 }
 }
 
-// The number of live keys of four levels, the upper ones first.
-pub fn live(s: &[u32], d0: Directory, d1: Directory, d2: Directory, d3: Directory) -> usize
+// Past the records of a cursor's chunk whose keys are below the bound. Its loop is the whole cost of most
+// records of a store, and so works on numbers and builds no cursor.
+fn skim(s: &[u32], dir: Directory, c: Cursor, bound: usize) -> Passed
+    requires { ⌜ Good (now s) dir c × (bound ≤ 4294967296) ⌝ }
+    ensures { λ r. ⌜ Skims (now (s .entry)) dir c bound (r .cursor) (r .live) ⌝ }
+{
+    let next = c.next;
+    let chunk = c.chunk;
+    let mut marks = chunk.marks;
+    let mut keys = chunk.keys;
+    let mut pays = chunk.pays;
+    let mut count = chunk.count;
+    let mut key = c.key;
+    let mut live: usize = 0;
+    while key < bound {
+        live += live_bit(marks);
+        if count <= 1 {
+            let cursor = refill(s, dir, next);
+            return Passed {
+                cursor: cursor,
+                live: live,
+            };
+        }
+        marks = marks / 2;
+        keys += 1;
+        pays += 1;
+        count -= 1;
+        key = s[keys] as usize;
+    }
+    let left = Chunk {
+        marks: marks,
+        keys: keys,
+        pays: pays,
+        count: count,
+    };
+    let cursor = Cursor {
+        next: next,
+        chunk: left,
+        key: key,
+    };
+    Passed {
+        cursor: cursor,
+        live: live,
+    }
+}
+
+// The number of live keys of four levels, the upper ones first. The last one, which has most of the records,
+// is skimmed up to the least key of the others.
+fn count_live(s: &[u32], d0: Directory, d1: Directory, d2: Directory, d3: Directory) -> usize
     requires { ⌜ Formed d0 (now s) × (Formed d1 (now s) × (Formed d2 (now s) × Formed d3 (now s))) ⌝ }
     ensures { λ r. ⌜ r ≡ length (unmarked (layered (now (s .entry)) d0 d1 d2 d3)) ⌝ }
 {
@@ -149,7 +202,11 @@ pub fn live(s: &[u32], d0: Directory, d1: Directory, d2: Directory, d3: Director
     let mut c3 = refill(s, d3, 0);
     let mut n: usize = 0;
     loop {
-        let k = least(c0.key, c1.key, c2.key, c3.key);
+        let bound = smaller(smaller(c0.key, c1.key), c2.key);
+        let passed = skim(s, d3, c3, bound);
+        c3 = passed.cursor;
+        n += passed.live;
+        let k = smaller(bound, c3.key);
         if END <= k {
             return n;
         }
@@ -160,6 +217,21 @@ pub fn live(s: &[u32], d0: Directory, d1: Directory, d2: Directory, d3: Director
         c2 = step(s, d2, c2, k);
         c3 = step(s, d3, c3, k);
     }
+}
+
+// The number of live keys of four levels, the upper ones first. A level with no chunk counts nothing wherever
+// it stands: the last one that has some is put last.
+pub fn live(s: &[u32], d0: Directory, d1: Directory, d2: Directory, d3: Directory) -> usize
+    requires { ⌜ Formed d0 (now s) × (Formed d1 (now s) × (Formed d2 (now s) × Formed d3 (now s))) ⌝ }
+    ensures { λ r. ⌜ r ≡ length (unmarked (layered (now (s .entry)) d0 d1 d2 d3)) ⌝ }
+{
+    if d3.chunks != 0 {
+        return count_live(s, d0, d1, d2, d3);
+    }
+    if d2.chunks != 0 {
+        return count_live(s, d3, d0, d1, d2);
+    }
+    count_live(s, d2, d3, d0, d1)
 }
 
 // The smallest live key of four levels, the upper ones first, at or above q, with its payload.
