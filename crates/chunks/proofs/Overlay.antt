@@ -13,8 +13,8 @@ use Rattle.levels.specs.Basics.{if_then_else_}
 use Rattle.levels.specs.Record.{Rec}
 use Rattle.levels.specs.Map.{overlay, into, unmarked, firstFrom}
 use Rattle.chunks.specs.Peel.{taken, past, orList, Least, Peeled, liveBit}
-use Rattle.chunks.proofs.Find.{into-below, into-same, into-above, Way, way}
-use Rattle.chunks.proofs.Find.Way.{less, same, more}
+use Rattle.levels.proofs.Overlay.Way.{less, same, more}
+use Rattle.levels.proofs.Overlay.{into-below, into-same, into-above, Way, way}
 
 -- the clauses of `taken` and `past`, as laws
 pub taken-nil : (k : ℕ) → taken k [] ≡ []

@@ -1,12 +1,12 @@
 -- Steps of the passes over a chunk, and what they say of its records.
 use Prim.Native.Nat.{ℕ, zero, suc, _+_, _-_, _/_, _%_, _^_, _≤_, _<_}
 use mathlib.Core.Path.{_≡_, sym, ap, _∙_, refl}
-use mathlib.Core.Bool.{Bool, true, false, not, _&&_, _||_, and-assoc, and-eq-true-iff}
+use mathlib.Core.Bool.{Bool, true, false, not, _&&_, _||_, and-assoc}
 use mathlib.Core.List.{List, [], _∷_, _++_}
 use native.Mathlib.Nat.{pow-succ', div-div-eq-div-mul}
 use native.Mathlib.Numerals.{add-one}
 use native.Mathlib.Omega.{arith}
-use borrow.Author.Tests.{le-leb, lt-leb, eq-eqb, ne-eqb, leb-true}
+use borrow.Author.Tests.{le-leb, lt-leb, eq-eqb, ne-eqb}
 use lib.Dec.{leb, eqb}
 use lib.ListN.{length}
 use Rattle.levels.specs.Basics.{if_then_else_}
@@ -14,7 +14,7 @@ use Rattle.levels.specs.Record.{Rec, rising, cleanTombstones}
 use Rattle.words.specs.Layout.{word, slotsAt}
 use Rattle.chunks.specs.declared.Rise.{Rise}
 use Rattle.chunks.specs.declared.Rise.the-variants.{To, Broken}
-use Rattle.chunks.specs.Chunks.{Rising, zerosAt, nextLow, riseOf}
+use Rattle.chunks.specs.Chunks.{zerosAt, nextLow, riseOf}
 
 -- one word of `zeros`
 module _ (ws : List ℕ) (start n i : ℕ) where
@@ -104,11 +104,6 @@ pub rising-append : (low : ℕ) (rs ss : List Rec) → rising low (rs ++ ss) ≡
 unfolding nextLow
 rising-append low [] ss = refl
 rising-append low (r ∷ rs) ss = rw (rising-append (suc (r .key)) rs ss) (sym (and-assoc (leb low (r .key)) (rising (suc (r .key)) rs) (rising (nextLow (suc (r .key)) rs) ss)))
-
--- the test gives the facts
-pub rising-is : (low : ℕ) (rs : List Rec) → rising low rs ≡ true → Rising low rs
-rising-is low [] e = tt
-rising-is low (r ∷ rs) e = let k = simp and-eq-true-iff at e in (leb-true _ _ (k .0), rising-is (suc (r .key)) rs (k .1))
 
 -- a row of slots in two parts
 pub slots-split : (ws : List ℕ) (m k v j n : ℕ) → slotsAt ws m k v (j + n) ≡ slotsAt ws m k v j ++ slotsAt ws (m / 2 ^ j) (k + j) (v + j) n

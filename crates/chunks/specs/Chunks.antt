@@ -20,11 +20,6 @@ pub record Inside (c : Chunk) (ws : List ℕ) : Type 0 where
   pub keys-end : c .keys + c .count ≤ length ws
   pub pays-end : c .pays + c .count ≤ length ws
 
--- what `rising` says, as facts: keys rise strictly, the first not below `low`
-abbrev pub Rising : ℕ → List Rec → Type 0
-Rising low [] = Unit {0}
-Rising low (r ∷ rs) = (low ≤ r .key) × Rising (suc (r .key)) rs
-
 -- the least key that may follow records that rise from `low` on
 unfoldable pub nextLow : ℕ → List Rec → ℕ
 nextLow low [] = low

@@ -19,7 +19,8 @@ use Rattle.chunks.specs.declared.Chunk.{Chunk}
 use Rattle.chunks.specs.declared.Rise.{Rise}
 use Rattle.chunks.specs.declared.Rise.the-variants.{To, Broken}
 use Rattle.chunks.specs.Chunks.{chunkRecs, riseOf, nextLow}
-use Rattle.chunks.proofs.Slots.{rise-is, slots-length, rising-append, rising-is}
+use Rattle.levels.proofs.Rising.{test-rising}
+use Rattle.chunks.proofs.Slots.{rise-is, slots-length, rising-append}
 use Rattle.directory.specs.declared.Directory.{Directory}
 use Rattle.directory.specs.Directory.{pageOf, blockOf, startOf, chunkAt, recordsFrom, recordsOf, Within, keptOf, leanLevel, onRise, passOf, levelFormed, tidyChunk, tidyFrom, levelRules, Formed}
 
@@ -136,5 +137,5 @@ formed-all ws d w e =
     record {
       within = w;
       counts = λ i h. tidy-counts ws d 0 (d .chunks) (d .width) (k .0) i (omega arith) (omega arith);
-      rises = rising-is 0 (recordsOf ws d) (k .1 .0);
+      rises = test-rising 0 (recordsOf ws d) (k .1 .0);
     }

@@ -8,11 +8,12 @@ use lib.ListN.{length}
 use Rattle.levels.specs.Basics.{if_then_else_}
 use Rattle.levels.specs.Record.{Rec, rising, cleanTombstones}
 use Rattle.levels.specs.Waste.{wasteful}
+use Rattle.levels.specs.Rising.{Rising}
 use Rattle.words.specs.Layout.{word}
 use Rattle.chunks.specs.declared.Chunk.{Chunk}
 use Rattle.chunks.specs.declared.Rise.{Rise}
 use Rattle.chunks.specs.declared.Rise.the-variants.{To, Broken}
-use Rattle.chunks.specs.Chunks.{Rising, chunkRecs, zerosAt, riseOf}
+use Rattle.chunks.specs.Chunks.{chunkRecs, zerosAt, riseOf}
 use Rattle.directory.specs.declared.Directory.{Directory}
 
 -- page i of level 0, with mark word m

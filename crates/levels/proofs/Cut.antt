@@ -11,9 +11,9 @@ use borrow.Author.Tests.{leb-false, ltb-true, ltb-false, le-leb, lt-leb}
 use Rattle.levels.specs.Basics.{if_then_else_}
 use Rattle.levels.specs.Record.{Rec, Block, Level, records, firstKey, lastKey}
 use Rattle.levels.specs.Choose.{loOf, hiOf, meets, countMeets, overlap, Cut, below, notAbove, cutAt}
-use Rattle.levels.specs.Rising.{Rising}
+use Rattle.levels.specs.Rising.{Rising, Below}
 use Rattle.levels.specs.Well.{Sized, Well}
-use Rattle.levels.proofs.Rising.{Below, rising-from, rising-left, rising-right, below-more, below-append}
+use Rattle.levels.proofs.Rising.{rising-from, rising-left, rising-right, below-more, below-append}
 use Rattle.levels.proofs.Levels.{Ordered, records-three, well-drop, well-prefix, take-prefix, Prefix, empty, more, drop-rising, block-ends, first-rising}
 
 -- X and what is left and right of it make up the upper level

@@ -9,9 +9,9 @@ use lib.ListN.{length}
 use Rattle.levels.specs.Basics.{orElse, all}
 use Rattle.levels.specs.Record.{Rec, hasTombstone}
 use Rattle.levels.specs.Map.{find, into, overlay, unmarked, present}
-use Rattle.levels.specs.Rising.{Rising}
+use Rattle.levels.specs.Rising.{Rising, Below}
 use Rattle.levels.proofs.Basics.{or-assoc, and-left, and-right, and-both}
-use Rattle.levels.proofs.Rising.{Below, rising-from}
+use Rattle.levels.proofs.Rising.{rising-from}
 use Rattle.levels.proofs.Overlay.{find-here, find-past, find-below, find-append, find-swap, find-overlay, into-below, into-same, into-above, Way, less, same, more, way}
 use Rattle.levels.proofs.View.{unmarked-drop, unmarked-keep, present-tombstone}
 use Rattle.levels.proofs.MergeRecords.{kept}

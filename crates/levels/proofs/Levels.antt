@@ -9,9 +9,9 @@ use borrow.Author.Tests.{ltb-true, lt-ltb}
 use Rattle.levels.specs.Record.{Rec, Block, Level, size, records, firstKey, lastKey}
 use Rattle.levels.specs.Waste.{pairRule}
 use Rattle.levels.specs.Well.{Sized, Apart, Pairs, Well}
-use Rattle.levels.specs.Rising.{Rising}
+use Rattle.levels.specs.Rising.{Rising, Below}
 use Rattle.levels.proofs.Basics.{and-left, and-right, and-both}
-use Rattle.levels.proofs.Rising.{Below, rising-right}
+use Rattle.levels.proofs.Rising.{rising-right}
 
 -- every block holds a record
 abbrev pub Filled : Level → Type 0

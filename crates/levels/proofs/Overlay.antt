@@ -12,8 +12,8 @@ use borrow.Author.Tests.{ltb-true, ltb-false, eqb-true, eqb-false, lt-ltb, le-lt
 use Rattle.levels.specs.Basics.{orElse}
 use Rattle.levels.specs.Record.{Rec}
 use Rattle.levels.specs.Map.{find, into, overlay}
-use Rattle.levels.specs.Rising.{Rising}
-use Rattle.levels.proofs.Rising.{Below, rising-from}
+use Rattle.levels.specs.Rising.{Rising, Below}
+use Rattle.levels.proofs.Rising.{rising-from}
 
 -- the clauses of find, as laws
 pub find-here : (k : ℕ) (r : Rec) (rs : List Rec) → r .key ≡ k → find k (r ∷ rs) ≡ some r

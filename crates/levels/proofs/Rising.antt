@@ -1,18 +1,13 @@
 -- "keys rise strictly": the test as a fact, and what it says of the parts of a list.
-use Prim.Native.Nat.{ℕ, suc, _<_, _≤_}
+use Prim.Native.Nat.{ℕ, suc, _≤_}
 use mathlib.Core.Path.{_≡_, refl}
 use mathlib.Core.Bool.{true}
 use mathlib.Core.List.{List, [], _∷_, _++_}
 use native.Mathlib.Omega.{arith}
 use borrow.Author.Tests.{leb-true, le-leb}
 use Rattle.levels.specs.Record.{Rec, rising}
-use Rattle.levels.specs.Rising.{Rising}
+use Rattle.levels.specs.Rising.{Rising, Below}
 use Rattle.levels.proofs.Basics.{and-left, and-right, and-both}
-
--- every key is below `high`
-abbrev pub Below : ℕ → List Rec → Type 0
-Below high [] = Unit {0}
-Below high (r ∷ rs) = (r .key < high) × Below high rs
 
 -- the test says it
 pub test-rising : (low : ℕ) (rs : List Rec) → rising low rs ≡ true → Rising low rs

@@ -9,16 +9,18 @@ use borrow.Author.Tests.{lt-leb}
 use lib.Dec.{leb}
 use Rattle.levels.specs.Basics.{if_then_else_}
 use Rattle.levels.specs.Record.{Rec, firstKey, lastKey}
+use Rattle.levels.specs.Rising.{Rising, Below}
+use Rattle.levels.proofs.Rising.{rising-right}
 use Rattle.words.specs.Layout.{word, slotsAt}
 use Rattle.chunks.specs.declared.Chunk.{Chunk}
-use Rattle.chunks.specs.Chunks.{Rising, chunkRecs}
+use Rattle.chunks.specs.Chunks.{chunkRecs}
 use Rattle.chunks.proofs.Slots.{slots-first}
 use Rattle.directory.specs.declared.Directory.{Directory}
 use Rattle.directory.specs.Directory.{Formed, recordsFrom, chunkAt}
 use Rattle.search.specs.declared.Enclosed.{Enclosed}
 use Rattle.search.specs.declared.Enclosed.the-variants.{At, Nowhere}
 use Rattle.search.specs.Search.{Sought, encloses, enclosedFrom, enclosedOf}
-use Rattle.search.proofs.Between.{Below, rising-right, below-left, below-right}
+use Rattle.search.proofs.Between.{below-left, below-right}
 use Rattle.search.proofs.Laws.{chunk-first, firstOf, othersOf, span-before, span-after}
 
 -- the first and the last key of a chunk

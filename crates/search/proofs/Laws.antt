@@ -12,16 +12,18 @@ use lib.Pow.{pow-add}
 use lib.Dec.{eqb}
 use Rattle.levels.specs.Record.{Rec}
 use Rattle.levels.specs.Map.{find}
+use Rattle.levels.specs.Rising.{Rising, Below}
+use Rattle.levels.proofs.Overlay.{find-here, find-past}
+use Rattle.levels.proofs.Rising.{rising-left, rising-right}
 use Rattle.words.specs.Layout.{word, slotsAt}
 use Rattle.chunks.specs.declared.Chunk.{Chunk}
-use Rattle.chunks.specs.Chunks.{Rising, Inside, chunkRecs}
-use Rattle.chunks.proofs.Find.{find-here, find-past}
+use Rattle.chunks.specs.Chunks.{Inside, chunkRecs}
 use Rattle.chunks.proofs.Slots.{slots-first, slots-split}
 use Rattle.directory.specs.declared.Directory.{Directory}
 use Rattle.directory.specs.Directory.{Formed, recordsFrom, recordsOf, chunkAt}
 use Rattle.directory.proofs.Laws.{chunk-room}
 use Rattle.search.specs.Search.{firstAt, Sought}
-use Rattle.search.proofs.Between.{Below, find-between, rising-left, rising-right, rising-before, rising-after}
+use Rattle.search.proofs.Between.{find-between, rising-before, rising-after}
 
 -- an interval of one: what was known of its end is known of what comes next
 pub interval-end : (n k : ℕ) (key : ℕ → ℕ) (lo hi : ℕ) → lo < hi → hi ≤ lo + 1 → (hi < n → k < key hi) → lo + 1 < n → k < key (lo + 1)

@@ -3,7 +3,8 @@
 ghost use mathlib.Core.Path.{_≡_};
 ghost use Prim.Native.Nat.{_+_, _-_, _≤_, _<_};
 ghost use Rattle.levels.specs.Map.{find};
-ghost use Rattle.chunks.specs.Chunks.{Inside, Rising, chunkRecs};
+ghost use Rattle.levels.specs.Rising.{Rising};
+ghost use Rattle.chunks.specs.Chunks.{Inside, chunkRecs};
 ghost use Rattle.directory.specs.Directory.{Formed, recordsOf};
 ghost use Rattle.search.specs.Search.{Sought, foundOf, enclosedOf};
 use chunks::Chunk;

@@ -14,20 +14,20 @@ use Rattle.levels.specs.Basics.{if_then_else_}
 use Rattle.levels.specs.Record.{Rec, Block, Level, firstKey, lastKey}
 use Rattle.levels.specs.Map.{find, view, mapOf, liveCount, firstFrom, next}
 use Rattle.levels.specs.Store.{rows}
+use Rattle.levels.specs.Rising.{Rising, Risings}
+use Rattle.levels.proofs.View.{test-risings, view-rising, unmarked-rising}
+use Rattle.levels.proofs.Overlay.{find-here, find-past, find-below}
 use Rattle.words.specs.Layout.{geometryAt, liveAt, storeAt, levelAt, placeOf}
 use Rattle.words.specs.Form.{keysRise, liveExact, formed, reasonOf}
 use Rattle.words.specs.Calls.{mapAt, nextAnswer, checkOf, lookUpOf, nextOf, enclosing, partOf, showIn, showOf}
-use Rattle.chunks.specs.Chunks.{Rising}
-use Rattle.chunks.proofs.Find.{find-here, find-past, find-below}
 use Rattle.entry.proofs.Laws.{size-short, size-broken, size-other, sized-opened, ready-reason}
 use Rattle.form.proofs.Ready.{checked-none, ready-live, ready-rises}
-use Rattle.store.proofs.Maps.{RowsRise, rows-rise, view-rises, unmarked-rises}
 use Rattle.store.proofs.Answering.{show-low, show-high, show-inside}
 
 module _ (ws : List ℕ) (e : reasonOf ws ≡ 0) where
-  rise : RowsRise (rows (storeAt (geometryAt ws) ws))
+  rise : Risings (rows (storeAt (geometryAt ws) ws))
   unfolding keysRise
-  rise = rows-rise (rows (storeAt (geometryAt ws) ws)) (ready-rises ws (geometryAt ws) (checked-none ws e))
+  rise = test-risings (rows (storeAt (geometryAt ws) ws)) (ready-rises ws (geometryAt ws) (checked-none ws e))
 
   none-test : eqb (reasonOf ws) 0 ≡ true
   none-test = eq-eqb (reasonOf ws) 0 e
@@ -35,7 +35,7 @@ module _ (ws : List ℕ) (e : reasonOf ws ≡ 0) where
   -- the map has each key once
   pub map-rises : Rising 0 (mapAt ws)
   unfolding mapOf
-  map-rises = unmarked-rises 0 (view (rows (storeAt (geometryAt ws) ws))) (view-rises (rows (storeAt (geometryAt ws) ws)) rise)
+  map-rises = unmarked-rising 0 (view (rows (storeAt (geometryAt ws) ws))) (view-rising (rows (storeAt (geometryAt ws) ws)) rise)
 
   -- Check answers 0.
   pub check-passes : checkOf ws ≡ 0

@@ -10,10 +10,11 @@ use lib.Dec.{eqb}
 use lib.ListN.{length, length-append}
 use Rattle.levels.specs.Record.{Rec}
 use Rattle.levels.specs.Map.{overlay, into, unmarked}
-use Rattle.levels.proofs.Rising.{Below, below-append}
+use Rattle.levels.proofs.Rising.{below-append}
+use Rattle.levels.specs.Rising.{Below}
+use Rattle.levels.proofs.Overlay.{into-below}
 use Rattle.words.specs.Layout.{word}
 use Rattle.chunks.specs.Peel.{Least, liveBit}
-use Rattle.chunks.proofs.Find.{into-below}
 use Rattle.chunks.proofs.Overlay.{live-cons}
 use Rattle.directory.specs.declared.Directory.{Directory}
 use Rattle.directory.specs.Directory.{Formed, recordsFrom, recordsOf}

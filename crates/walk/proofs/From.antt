@@ -6,28 +6,18 @@ use mathlib.Core.Option.{Option, none, some, Option·none-ne-some}
 use native.Mathlib.Omega.{arith}
 use Rattle.levels.specs.Record.{Rec}
 use Rattle.levels.specs.Map.{find, overlay, unmarked, present, firstFrom}
-use Rattle.levels.proofs.Rising.{Rising, rising-right, Below}
+use Rattle.levels.proofs.Rising.{rising-right}
 use Rattle.levels.proofs.Overlay.{find-append, find-above, find-overlay, overlay-rising, Way, way}
 use Rattle.levels.proofs.Overlay.Way.{less, same, more}
 use Rattle.levels.proofs.View.{unmarked-rising, find-unmarked, Smallest, first-from-smallest}
-use Rattle.chunks.specs.Chunks as chunks
+use Rattle.levels.specs.Rising.{Rising, Below}
 use Rattle.directory.specs.declared.Directory.{Directory}
 use Rattle.directory.specs.Directory.{Formed, recordsFrom, recordsOf}
 use Rattle.search.specs.Search.{Sought}
-use Rattle.search.proofs.Between as between
 use Rattle.search.proofs.Laws.{span, span-split, span-before}
 use Rattle.walk.specs.declared.Cursor.{Cursor}
 use Rattle.walk.specs.Walk.{rest, Good, FromKey, layered}
 use Rattle.walk.proofs.Four.{rests}
-
--- the facts of a level in the form of the laws of `levels`
-rising-in : (low : ℕ) (rs : List Rec) → chunks.Rising low rs → Rising low rs
-rising-in low [] h = tt
-rising-in low (r ∷ rs) h = (h .0, rising-in (suc (r .key)) rs (h .1))
-
-below-in : (high : ℕ) (rs : List Rec) → between.Below high rs → Below high rs
-below-in high [] h = tt
-below-in high (r ∷ rs) h = (h .0, below-in high rs (h .1))
 
 -- the smallest record from q on is settled by what is found from q on
 smallest-one : (q : ℕ) (f g : ℕ → Option Rec) (o p : Option Rec) → ((j : ℕ) → q ≤ j → f j ≡ g j) → Smallest q f o → Smallest q g p → o ≡ p
@@ -72,8 +62,8 @@ module _ (q : ℕ) where
 
   alike-level : (ws : List ℕ) (d : Directory) (c : Cursor) → FromKey ws d q c → Alike q (recordsOf ws d) (rest ws d c)
   alike-level ws d c f =
-      let h : Rising 0 (f .passed ++ rest ws d c) = rw (f .cut) at (rising-in 0 (recordsOf ws d) (f .good .formed .rises)) in
-      rw (f .cut) (alike-cut (f .passed) (rest ws d c) h (below-in q (f .passed) (f .below)))
+      let h : Rising 0 (f .passed ++ rest ws d c) = rw (f .cut) at (f .good .formed .rises) in
+      rw (f .cut) (alike-cut (f .passed) (rest ws d c) h (f .below))
 
   -- the walk finds the first live record from q on in what its cursors have before them
   pub next-start : (ws : List ℕ) (d0 d1 d2 d3 : Directory) (c0 c1 c2 c3 : Cursor) → FromKey ws d0 q c0 → FromKey ws d1 q c1 → FromKey ws d2 q c2 → FromKey ws d3 q c3

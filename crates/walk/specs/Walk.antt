@@ -8,7 +8,7 @@ use lib.ListN.{length}
 use Rattle.levels.specs.Basics.{if_then_else_}
 use Rattle.levels.specs.Record.{Rec}
 use Rattle.levels.specs.Map.{overlay, unmarked}
-use Rattle.levels.proofs.Rising.{Below}
+use Rattle.levels.specs.Rising.{Below}
 use Rattle.words.specs.Layout.{word}
 use Rattle.chunks.specs.declared.Chunk.{Chunk}
 use Rattle.chunks.specs.Chunks.{chunkRecs}
