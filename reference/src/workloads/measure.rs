@@ -1,11 +1,16 @@
 //! Running a workload on a store and counting the blocks that its calls write.
 
+use super::chosen::case;
 use super::requests::{Keys, Mix, Request, Requests};
 use crate::block::Record;
 use crate::calls::{self, Changed};
 use crate::geometry::Geometry;
 use crate::layout::{LIVE, MOST_LEVELS};
+use std::sync::atomic::{AtomicUsize, Ordering};
+use std::thread;
 
+/// The seed of every run.
+const SEED: u64 = 1;
 /// Batches of calls whose means are compared to see how far the mean is settled.
 const BATCHES: usize = 32;
 /// Student's t for 31 degrees of freedom: 95 % of all means are within this many
@@ -61,7 +66,7 @@ impl Figures {
     }
 
     /// Enters a call's answer.
-    fn add(&mut self, answer: &Changed) {
+    pub fn add(&mut self, answer: &Changed) {
         self.calls += 1;
         let (mut merging, mut compacting) = (0, 0);
         for (level, counts) in self.levels.iter_mut().zip(&answer.levels) {
@@ -108,7 +113,7 @@ impl Run {
 
     /// The next call of the workload.
     pub fn step(&mut self) -> Changed {
-        let request = self.requests.next();
+        let request = self.requests.next_request();
         perform(&mut self.words, request)
     }
 
@@ -187,11 +192,44 @@ fn batch(run: &mut Run, figures: &mut Figures, length: usize) -> u64 {
 }
 
 /// The 95 % margin of the mean of these batches, as a part of it.
-fn margin(batches: &[u64]) -> f64 {
+pub fn margin(batches: &[u64]) -> f64 {
     let count = batches.len() as f64;
     let mean = batches.iter().sum::<u64>() as f64 / count;
     let off = |batch: &u64| *batch as f64 - mean;
     let squares = batches.iter().map(|batch| off(batch) * off(batch));
     let variance = squares.sum::<f64>() / (count - 1.0);
     STUDENT * (variance / count).sqrt() / mean
+}
+
+/// Cases with their figures.
+pub struct Results(pub Vec<(Case, Figures)>);
+
+impl Results {
+    /// Measures the cases on two threads. Each case has its own random numbers, so
+    /// the threads change nothing.
+    pub fn of_cases(cases: &[Case]) -> Results {
+        let next = AtomicUsize::new(0);
+        let work = || -> Vec<(usize, Figures)> {
+            let numbers = std::iter::repeat_with(|| next.fetch_add(1, Ordering::Relaxed));
+            let mine = numbers.take_while(|&number| number < cases.len());
+            mine.map(|number| (number, measure(cases[number], SEED)))
+                .collect()
+        };
+        let mut all = thread::scope(|scope| {
+            let (one, two) = (scope.spawn(work), scope.spawn(work));
+            [one, two]
+                .map(|thread| thread.join().expect("a run ends"))
+                .concat()
+        });
+        all.sort_by_key(|&(number, _)| number);
+        let figures = all.into_iter().map(|(_, figures)| figures);
+        Results(cases.iter().copied().zip(figures).collect())
+    }
+
+    /// The figures of a case that was measured.
+    pub fn of(&self, geometry: Geometry, keys: Keys, mix: Mix) -> &Figures {
+        let wanted = case(geometry, keys, mix);
+        let found = self.0.iter().find(|(case, _)| *case == wanted);
+        &found.expect("the case was measured").1
+    }
 }

@@ -1,8 +1,8 @@
 //! The plot of the five numbers, as plain SVG text.
 
-use super::measure::Figures;
+use super::chosen::{Knob, KNOBS, MIDDLE, STEADY};
+use super::measure::{Figures, Results};
 use super::requests::Keys;
-use super::tables::{Knob, Results, KNOBS, MIDDLE, STEADY};
 use std::fmt::Write;
 
 /// A panel's width and height, and the distances from panel to panel.

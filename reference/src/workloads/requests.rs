@@ -107,7 +107,7 @@ impl Requests {
     }
 
     /// The next call once the store is filled.
-    pub fn next(&mut self) -> Request {
+    pub fn next_request(&mut self) -> Request {
         if self.mix == Mix::Overwrites {
             let at = self.random.below(self.live.len());
             return Request::Overwrite(self.live[at]);

@@ -1,202 +1,38 @@
-//! Which geometries are measured, and the Markdown tables of the figures.
+//! The Markdown tables of the figures.
 
-use super::measure::{measure, Case, Figures};
-use super::requests::{Keys, Mix};
-use crate::generate::with_fewest_slots;
+use super::chosen::{editions, fewest, Knob, FILLS, KNOBS, SAME_BOTTOM, STEADY, WORKLOADS};
+use super::measure::{Figures, Results};
+use super::requests::Keys;
 use crate::geometry::Geometry;
 use crate::layout::MOST_LEVELS;
-use std::sync::atomic::{AtomicUsize, Ordering};
-use std::thread;
 
-/// The seed of every run.
-const SEED: u64 = 1;
-/// The state that most tables measure: 90 % of N.
-pub const STEADY: Mix = Mix::Steady(90);
-/// The geometry round which one number at a time is varied: B, w, d, G, h.
-pub const MIDDLE: [usize; 5] = [8, 2, 4, 4, 2];
-
-/// One of the five numbers, by its place in `MIDDLE`, and the values that it takes.
-pub struct Knob {
-    pub name: &'static str,
-    pub meaning: &'static str,
-    pub at: usize,
-    pub values: &'static [usize],
+/// A table for each of the five numbers.
+pub fn number_tables(results: &Results) -> String {
+    let of = |knob: &Knob| {
+        let rows = knob.geometries().into_iter().map(|g| (String::new(), g));
+        let title = format!("### {}: {}\n\n", knob.name, knob.meaning);
+        title + &summary(results, rows)
+    };
+    let tables: Vec<String> = KNOBS.iter().map(of).collect();
+    tables.join("\n")
 }
 
-/// The five numbers that a buyer chooses.
-pub const KNOBS: [Knob; 5] = [
-    knob("B", "records a block", 0, &[2, 4, 8, 12, 16]),
-    knob("w", "blocks in the window of level 0", 1, &[1, 2, 4, 8, 16]),
-    knob("d", "windows a level", 2, &[2, 4, 8, 12, 16]),
-    knob("G", "growth from level to level", 3, &[3, 4, 6, 8, 10]),
-    knob("h", "levels on flash", 4, &[1, 2, 3]),
-];
-
-/// A knob.
-const fn knob(
-    name: &'static str,
-    meaning: &'static str,
-    at: usize,
-    values: &'static [usize],
-) -> Knob {
-    Knob {
-        name,
-        meaning,
-        at,
-        values,
-    }
-}
-
-impl Knob {
-    /// The middle geometry with this number changed, and the fewest places.
-    pub fn geometry(&self, value: usize) -> Geometry {
-        let mut five = MIDDLE;
-        five[self.at] = value;
-        fewest(five)
-    }
-
-    /// All its geometries.
-    fn geometries(&self) -> Vec<Geometry> {
-        let values = self.values.iter();
-        values.map(|&value| self.geometry(value)).collect()
-    }
-}
-
-/// B = 16 and a last level of 1,000 or 1,024 blocks, by several ways.
-const SAME_BOTTOM: [[usize; 5]; 10] = [
-    [16, 16, 16, 4, 1],
-    [16, 8, 16, 8, 1],
-    [16, 10, 10, 10, 1],
-    [16, 4, 16, 4, 2],
-    [16, 16, 4, 4, 2],
-    [16, 1, 16, 8, 2],
-    [16, 1, 10, 10, 2],
-    [16, 1, 16, 4, 3],
-    [16, 4, 4, 4, 3],
-    [16, 1, 2, 8, 3],
-];
-
-/// Geometries as they would be sold, with their places.
-const EDITIONS: [(&str, [u32; 6]); 6] = [
-    ("Basic, the bench's geometry A", [4, 1, 2, 4, 1, 40]),
-    ("Basic", [16, 2, 4, 8, 1, 264]),
-    ("Workshop, two levels", [16, 2, 4, 8, 2, 2312]),
-    ("Workshop, three levels", [16, 2, 4, 4, 3, 2696]),
-    ("Fleet, two levels", [16, 1, 10, 10, 2, 8192]),
-    ("Fleet, three levels", [16, 2, 8, 4, 3, 8192]),
-];
-
-/// The states that the table of fills compares.
-const FILLS: [(&str, Mix); 4] = [
-    ("50 % of N, mean", Mix::Steady(50)),
-    ("90 % of N, mean", STEADY),
-    ("N, delete then insert, mean", Mix::Renewal),
-    ("N, overwrites, mean", Mix::Overwrites),
-];
-
-/// Both workloads, in the order of the columns.
-const WORKLOADS: [Keys; 2] = [Keys::Uniform, Keys::Normal];
-
-/// A geometry with the fewest places.
-fn fewest(five: [usize; 5]) -> Geometry {
-    with_fewest_slots(five).expect("the listed geometries are legal")
-}
-
-/// The geometries of the table of editions.
-fn editions() -> Vec<(&'static str, Geometry)> {
-    let legal = |numbers| Geometry::new(numbers).expect("the listed geometries are legal");
-    EDITIONS
-        .map(|(name, numbers)| (name, legal(numbers)))
-        .to_vec()
-}
-
-/// All figures.
-pub struct Results(Vec<(Case, Figures)>);
-
-impl Results {
-    /// Measures every case of the tables, each once, on two threads. Each case has
-    /// its own random numbers, so the threads change nothing.
-    pub fn new() -> Results {
-        let cases = cases();
-        let next = AtomicUsize::new(0);
-        let work = || -> Vec<(usize, Figures)> {
-            let numbers = std::iter::repeat_with(|| next.fetch_add(1, Ordering::Relaxed));
-            let mine = numbers.take_while(|&number| number < cases.len());
-            mine.map(|number| (number, measure(cases[number], SEED)))
-                .collect()
-        };
-        let mut all = thread::scope(|scope| {
-            let (one, two) = (scope.spawn(work), scope.spawn(work));
-            [one, two]
-                .map(|thread| thread.join().expect("a run ends"))
-                .concat()
-        });
-        all.sort_by_key(|&(number, _)| number);
-        let figures = all.into_iter().map(|(_, figures)| figures);
-        Results(cases.iter().copied().zip(figures).collect())
-    }
-
-    /// The figures of a case of the tables.
-    pub fn of(&self, geometry: Geometry, keys: Keys, mix: Mix) -> &Figures {
-        let wanted = case(geometry, keys, mix);
-        let found = self.0.iter().find(|(case, _)| *case == wanted);
-        &found.expect("every case is measured").1
-    }
-}
-
-/// Every case of the tables, each once.
-pub fn cases() -> Vec<Case> {
-    let mut geometries: Vec<Geometry> = KNOBS.iter().flat_map(Knob::geometries).collect();
-    geometries.extend(SAME_BOTTOM.map(fewest));
-    geometries.extend(editions().iter().map(|&(_, geometry)| geometry));
-    let both = |geometry| WORKLOADS.map(|keys| case(geometry, keys, STEADY));
-    let filled = |geometry| FILLS.map(|(_, mix)| case(geometry, Keys::Uniform, mix));
-    let steady = geometries.into_iter().flat_map(both);
-    let all = steady.chain(
-        editions()
-            .into_iter()
-            .flat_map(|(_, geometry)| filled(geometry)),
-    );
-    all.fold(Vec::new(), |mut cases, case| {
-        if !cases.contains(&case) {
-            cases.push(case);
-        }
-        cases
-    })
-}
-
-/// A case.
-fn case(geometry: Geometry, keys: Keys, mix: Mix) -> Case {
-    Case {
-        geometry,
-        keys,
-        mix,
-    }
-}
-
-/// All tables.
-pub fn markdown(results: &Results) -> String {
-    let mut out = String::new();
-    for knob in &KNOBS {
-        out += &format!("### {}: {}\n\n", knob.name, knob.meaning);
-        let rows = knob.geometries();
-        out += &summary(results, rows.into_iter().map(|g| (String::new(), g)));
-    }
-    out += "### The same last level, reached in several ways\n\n";
-    out += &summary(
-        results,
-        SAME_BOTTOM
-            .map(|five| (String::new(), fewest(five)))
-            .into_iter(),
-    );
-    out += "### The editions\n\n";
-    let named = editions().into_iter();
-    out += &summary(results, named.map(|(name, g)| (format!("{name}: "), g)));
-    out += "### How full\n\n";
-    out += &fills(results);
-    out += "### By level\n\n";
-    out += &by_level(results);
-    out
+/// The other tables.
+pub fn store_tables(results: &Results) -> String {
+    let ways = SAME_BOTTOM.map(|five| (String::new(), fewest(five)));
+    let sold = editions().into_iter();
+    let sold = sold.map(|(name, geometry)| (format!("{name}: "), geometry));
+    let tables = [
+        "### The same last level, reached in several ways\n\n".to_string(),
+        summary(results, ways.into_iter()),
+        "\n### The editions\n\n".to_string(),
+        summary(results, sold),
+        "\n### How full, under Uniform\n\n".to_string(),
+        fills(results),
+        "\n### By level\n\n".to_string(),
+        by_level(results),
+    ];
+    tables.concat()
 }
 
 /// A table with a row for each geometry and both workloads beside each other.
@@ -227,7 +63,7 @@ fn summary(results: &Results, rows: impl Iterator<Item = (String, Geometry)>) ->
         cells.extend(WORKLOADS.into_iter().flat_map(of));
         out += &row(&cells);
     }
-    out + "\n"
+    out
 }
 
 /// Mean, worst and amplification: records written a record put.
@@ -253,7 +89,7 @@ fn fills(results: &Results) -> String {
         cells.extend(FILLS.into_iter().flat_map(of));
         out += &row(&cells);
     }
-    out + "\n"
+    out
 }
 
 /// Every case at 90 % of N, level by level.
