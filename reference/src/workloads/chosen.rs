@@ -21,7 +21,7 @@ pub struct Knob {
 /// The five numbers that a buyer chooses.
 pub const KNOBS: [Knob; 5] = [
     knob("B", "records a block", 0, &[2, 4, 8, 12, 16]),
-    knob("w", "blocks in the window of level 0", 1, &[1, 2, 4, 8, 16]),
+    knob("w", "blocks a window", 1, &[1, 2, 4, 8, 16]),
     knob("d", "windows a level", 2, &[2, 4, 8, 12, 16]),
     knob("G", "growth from level to level", 3, &[3, 4, 6, 8, 10]),
     knob("h", "levels on flash", 4, &[1, 2, 3]),

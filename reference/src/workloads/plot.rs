@@ -47,9 +47,9 @@ const LINES: [(Keys, &str, &str); 2] = [
 /// The whole plot.
 pub fn svg(results: &Results) -> String {
     let mut out = String::from(
-        "<svg xmlns=\"http://www.w3.org/2000/svg\" viewBox=\"0 0 980 520\" width=\"980\" \
-         height=\"520\" font-family=\"sans-serif\" font-size=\"12\" fill=\"#222\">\n\
-         <rect width=\"980\" height=\"520\" fill=\"#fff\"/>\n",
+        "<svg xmlns=\"http://www.w3.org/2000/svg\" viewBox=\"0 0 980 485\" width=\"980\" \
+         height=\"485\" font-family=\"sans-serif\" font-size=\"12\" fill=\"#222\">\n\
+         <rect width=\"980\" height=\"485\" fill=\"#fff\"/>\n",
     );
     text(&mut out, LEFT, 26.0, "start", 16, &title());
     for (at, (keys, colour, dashes)) in LINES.iter().enumerate() {
