@@ -6,8 +6,8 @@ use crate::calls::{self, Changed, Counts};
 use crate::generate::with_fewest_slots;
 use crate::geometry::Geometry;
 use crate::random::Random;
-use crate::workloads::chosen::{all_cases, case, editions, number_cases};
-use crate::workloads::measure::{margin, perform, Figures, Run};
+use crate::workloads::chosen::{all_cases, editions, number_cases};
+use crate::workloads::measure::{margin, perform, Case, Figures, Run};
 use crate::workloads::requests::{normal, Keys, Mix, Request, Requests};
 use std::collections::BTreeSet;
 
@@ -83,7 +83,7 @@ fn places_change_no_count() {
         let mut numbers = geometry.numbers();
         numbers[5] = 8192;
         let largest = Geometry::new(numbers).expect("a legal geometry");
-        let of = |geometry| Run::filled(case(geometry, Keys::Normal, Mix::Steady(90)), seed);
+        let of = |geometry| Run::filled(Case::new(geometry, Keys::Normal, Mix::Steady(90)), seed);
         let (mut few, mut many) = (of(geometry), of(largest));
         assert_ne!(few.words().len(), many.words().len());
         assert!((0..2000).all(|_| few.step() == many.step()));
@@ -227,7 +227,7 @@ fn margins_by_hand() {
 #[test]
 fn full_stores_take_no_new_key() {
     for geometry in small() {
-        let case = case(geometry, Keys::Uniform, Mix::Overwrites);
+        let case = Case::new(geometry, Keys::Uniform, Mix::Overwrites);
         let mut words = Run::filled(case, seed()).words().to_vec();
         let live = calls::next(&words, 0).key;
         let new = (0..).find(|&key| !calls::look_up(&words, key).found);

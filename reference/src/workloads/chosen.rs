@@ -115,14 +115,14 @@ pub fn number_cases() -> Vec<Case> {
 pub fn all_cases() -> Vec<Case> {
     let sold = || editions().into_iter().map(|(_, geometry)| geometry);
     let others = SAME_BOTTOM.map(fewest).into_iter().chain(sold());
-    let filled = |geometry| FILLS.map(|(_, mix)| case(geometry, Keys::Uniform, mix));
+    let filled = |geometry| FILLS.map(|(_, mix)| Case::new(geometry, Keys::Uniform, mix));
     let others = others.flat_map(in_both).chain(sold().flat_map(filled));
     once(number_cases().into_iter().chain(others))
 }
 
 /// A geometry at 90 % of N, under both workloads.
 fn in_both(geometry: Geometry) -> [Case; 2] {
-    WORKLOADS.map(|keys| case(geometry, keys, STEADY))
+    WORKLOADS.map(|keys| Case::new(geometry, keys, STEADY))
 }
 
 /// The cases in their order, without those that come again.
@@ -134,13 +134,4 @@ fn once(cases: impl Iterator<Item = Case>) -> Vec<Case> {
         }
     }
     all
-}
-
-/// A case.
-pub fn case(geometry: Geometry, keys: Keys, mix: Mix) -> Case {
-    Case {
-        geometry,
-        keys,
-        mix,
-    }
 }

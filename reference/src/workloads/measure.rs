@@ -1,6 +1,5 @@
 //! Running a workload on a store and counting the blocks that its calls write.
 
-use super::chosen::case;
 use super::requests::{Keys, Mix, Request, Requests};
 use crate::block::Record;
 use crate::calls::{self, Changed};
@@ -29,6 +28,17 @@ pub struct Case {
     pub geometry: Geometry,
     pub keys: Keys,
     pub mix: Mix,
+}
+
+impl Case {
+    /// The case of these three.
+    pub fn new(geometry: Geometry, keys: Keys, mix: Mix) -> Case {
+        Case {
+            geometry,
+            keys,
+            mix,
+        }
+    }
 }
 
 /// What the calls wrote in one level.
@@ -228,7 +238,7 @@ impl Results {
 
     /// The figures of a case that was measured.
     pub fn of(&self, geometry: Geometry, keys: Keys, mix: Mix) -> &Figures {
-        let wanted = case(geometry, keys, mix);
+        let wanted = Case::new(geometry, keys, mix);
         let found = self.0.iter().find(|(case, _)| *case == wanted);
         &found.expect("the case was measured").1
     }
