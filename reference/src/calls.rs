@@ -210,7 +210,7 @@ fn refused(refusal: u32) -> (Changed, Vec<Merge>) {
 }
 
 /// The answer to an accepted put or delete, with the counts of its merges.
-fn answer(live_before: bool, merges: &[Merge]) -> Changed {
+pub(crate) fn answer(live_before: bool, merges: &[Merge]) -> Changed {
     let mut levels = [Counts::default(); MOST_LEVELS];
     for merge in merges {
         let counts = &mut levels[merge.upper];
@@ -229,7 +229,7 @@ fn answer(live_before: bool, merges: &[Merge]) -> Changed {
 
 /// Enters the call's record in level 0 of a store that passed the form check:
 /// overwritten where the key is found, otherwise after the merges of a full level.
-fn enter(words: &mut [u32], record: Record) -> Vec<Merge> {
+pub(crate) fn enter(words: &mut [u32], record: Record) -> Vec<Merge> {
     let Ok(view) = View::of(words) else {
         return Vec::new();
     };

@@ -28,6 +28,7 @@ pub mod readings;
 pub mod script;
 pub mod unreachable;
 pub mod work;
+pub mod workloads;
 
 #[cfg(test)]
 mod tests;

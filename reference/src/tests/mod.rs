@@ -11,6 +11,7 @@ mod readings;
 mod refusals;
 mod scripts;
 mod steps;
+mod workloads;
 
 use crate::block::{write_slot, Record};
 use crate::geometry::Geometry;
