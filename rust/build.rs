@@ -8,7 +8,10 @@ fn main() {
     let folder = Path::new(&here).join("../target/staticlib");
     let archive = folder.join("libmewilovang.a");
     if !archive.exists() {
-        panic!("{} is missing: run `rt staticlib mewilovang` first", archive.display());
+        panic!(
+            "{} is missing: run `rt staticlib mewilovang` first",
+            archive.display()
+        );
     }
     println!("cargo:rustc-link-search=native={}", folder.display());
     println!("cargo:rustc-link-lib=static=mewilovang");

@@ -3,7 +3,14 @@
 
 use mewilovang::{Change, Geometry, Refusal};
 
-const GEOMETRY: Geometry = Geometry { b: 4, w: 1, d: 2, g: 4, h: 1, p: 40 };
+const GEOMETRY: Geometry = Geometry {
+    b: 4,
+    w: 1,
+    d: 2,
+    g: 4,
+    h: 1,
+    p: 40,
+};
 
 #[derive(Clone, Copy)]
 enum Event {
@@ -58,8 +65,14 @@ const AFTERNOON: [Event; 17] = [
     Sheet(60),
 ];
 
-const DAMAGED: [Event; 6] =
-    [Check(438), Sheet(15), Measured(49, 2449, 2451), Deleted(15), All, BlockAround(37)];
+const DAMAGED: [Event; 6] = [
+    Check(438),
+    Sheet(15),
+    Measured(49, 2449, 2451),
+    Deleted(15),
+    All,
+    BlockAround(37),
+];
 
 const EVENING: [Event; 3] = [Check(438), Check(11), Check(437)];
 
@@ -126,7 +139,11 @@ fn all_tests(store: &[u32]) {
 }
 
 fn spaced(numbers: &[u32]) -> String {
-    numbers.iter().map(u32::to_string).collect::<Vec<_>>().join(" ")
+    numbers
+        .iter()
+        .map(u32::to_string)
+        .collect::<Vec<_>>()
+        .join(" ")
 }
 
 fn block_around(store: &[u32], test: u32) {

@@ -1,12 +1,17 @@
-//! The functions and structs of `include/mewilovang.h`, member for member.
+//! The functions and structs of `include/mewilovang.h`, member for member, for a caller that wants the numbers as they are.
+//!
+//! A function that takes a store is safe to call if `store` is not null, is aligned to 4 bytes, and `words` words from it
+//! on can be read, and written where it is `*mut`, with no other use of them during the call.
 
 #[repr(C)]
+#[derive(Clone, Copy, Debug, Default, PartialEq, Eq)]
 pub struct Formatted {
     pub reason: u32,
     pub limit: u32,
 }
 
 #[repr(C)]
+#[derive(Clone, Copy, Debug, Default, PartialEq, Eq)]
 pub struct Looked {
     pub reason: u32,
     pub found: u32,
@@ -14,6 +19,7 @@ pub struct Looked {
 }
 
 #[repr(C)]
+#[derive(Clone, Copy, Debug, Default, PartialEq, Eq)]
 pub struct Nexted {
     pub reason: u32,
     pub found: u32,
@@ -22,12 +28,15 @@ pub struct Nexted {
 }
 
 #[repr(C)]
+#[derive(Clone, Copy, Debug, Default, PartialEq, Eq)]
 pub struct Part {
     pub start: usize,
     pub length: usize,
 }
 
+/// Merges into a level, blocks written by them, blocks written compacting the level.
 #[repr(C)]
+#[derive(Clone, Copy, Debug, Default, PartialEq, Eq)]
 pub struct Counts {
     pub merges: u32,
     pub written: u32,
@@ -35,6 +44,7 @@ pub struct Counts {
 }
 
 #[repr(C)]
+#[derive(Clone, Copy, Debug, Default, PartialEq, Eq)]
 pub struct Changed {
     pub reason: u32,
     pub live: u32,

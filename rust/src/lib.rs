@@ -16,7 +16,9 @@
 //! assert_eq!(mewilovang::next(&store, 11), Ok(None));
 //! ```
 
-mod border;
+pub mod border;
+
+pub use border::Counts;
 
 /// The six numbers of a store; the limits are in `mewilovang.h`.
 #[derive(Clone, Copy, Debug, PartialEq, Eq)]
@@ -82,14 +84,6 @@ impl std::fmt::Display for Refusal {
 
 impl std::error::Error for Refusal {}
 
-/// Merges into a level, blocks written by them, blocks written compacting the level.
-#[derive(Clone, Copy, Debug, Default, PartialEq, Eq)]
-pub struct Counts {
-    pub merges: u32,
-    pub written: u32,
-    pub compacted: u32,
-}
-
 /// What a put or delete did.
 #[derive(Clone, Copy, Debug, PartialEq, Eq)]
 pub struct Change {
@@ -131,7 +125,10 @@ pub fn look_up(store: &[u32], key: u32) -> Result<Option<u32>, Refusal> {
 pub fn next(store: &[u32], key: u32) -> Result<Option<Record>, Refusal> {
     let a = unsafe { border::mewilovang_next(store.as_ptr(), store.len(), key) };
     accepted(a.reason)?;
-    Ok((a.found == 1).then_some(Record { key: a.key, payload: a.payload }))
+    Ok((a.found == 1).then_some(Record {
+        key: a.key,
+        payload: a.payload,
+    }))
 }
 
 /// Of a level, 1 to h, the words of the block whose first to last key encloses `key`: record count, marks, keys, payloads.
@@ -171,6 +168,8 @@ fn accepted(reason: u32) -> Result<(), Refusal> {
 
 fn change(a: border::Changed) -> Result<Change, Refusal> {
     accepted(a.reason)?;
-    let counts = |c: border::Counts| Counts { merges: c.merges, written: c.written, compacted: c.compacted };
-    Ok(Change { live: a.live == 1, levels: [counts(a.level1), counts(a.level2), counts(a.level3)] })
+    Ok(Change {
+        live: a.live == 1,
+        levels: [a.level1, a.level2, a.level3],
+    })
 }
