@@ -1,7 +1,6 @@
 // The calls of the store for C and Rust (include/mewilovang.h): plain numbers in and out, no `requires` on any of them.
 
 ghost use mathlib.Core.Path.{_≡_};
-ghost use Rattle.words.specs.Layout.{bit};
 ghost use Rattle.words.specs.Calls.{Outcome, formatOf, checkOf, lookUpOf, nextOf};
 ghost use Rattle.store.specs.Answers.{formatAnswer, lookedAnswer, nextedAnswer, changedAnswer};
 ghost use Rattle.store.specs.Change.{SumsFit};
