@@ -18,7 +18,7 @@ use Rattle.store.specs.Answers.{formatAnswer, changedAnswer}
 use Rattle.store.specs.Change.{SumsFit, PutDone, DeleteDone}
 use Rattle.mewilovang.specs.declared.Formatted.{Formatted}
 use Rattle.mewilovang.specs.declared.Changed.{Changed}
-use Rattle.mewilovang.specs.Replies.{wordsOf, formattedReply, formattedOutcome, CountsFit, changedReply, PutReplied, DeleteReplied}
+use Rattle.mewilovang.specs.Answers.{wordsOf, formattedReply, formattedOutcome, CountsFit, changedReply, PutReplied, DeleteReplied}
 
 -- the words of a layout
 pub words-broken : (g : Geometry) → builtOf g ≡ Broken → 0 ≡ wordsOf g

@@ -7,7 +7,7 @@ ghost use Rattle.store.specs.Change.{SumsFit};
 ghost use Rattle.store.specs.Show.{showPart};
 ghost use Rattle.cascade.specs.Running.{numbersOf};
 ghost use Rattle.mewilovang.specs.declared.Formatted.{Formatted};
-ghost use Rattle.mewilovang.specs.Replies.{wordsOf, formattedReply, formattedOutcome, lookedReply, nextedReply, partReply, CountsFit, countsReply, changedReply, PutReplied, DeleteReplied};
+ghost use Rattle.mewilovang.specs.Answers.{wordsOf, formattedReply, formattedOutcome, lookedReply, nextedReply, partReply, CountsFit, countsReply, changedReply, PutReplied, DeleteReplied};
 use geometry::Built;
 use geometry::Geometry;
 
