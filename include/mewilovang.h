@@ -13,8 +13,9 @@
  *     store   the first word; aligned to 4 bytes, and never NULL, not even with 0 words
  *     words   how many words there are; all of them can be read, and written in format, put and delete
  *
- * That is all that you have to see to. Whatever the words hold, noise or a damaged store, each call ends, touches no
- * word outside of them, and does its work or turns the call down with one of the numbers below.
+ * That, enough stack (MEWILOVANG_STACK_.., below) and the rule for threads are all that you have to see to. Whatever the
+ * words hold, noise or a damaged store, each call ends, touches no word outside of them, and does its work or turns the
+ * call down with one of the numbers below.
  *
  *
  * WHY A CALL IS TURNED DOWN
@@ -101,9 +102,9 @@ extern "C" {
 #endif
 
 /*
- * The bytes of stack to have free for each call, whatever the store: what c/stack.c measured, over stores of the largest
- * geometries and calls with merges into every level, rounded up to a whole KiB, and 2 KiB more. What the dynamic loader
- * takes where it looks memcpy and memset up at their first call is not in these numbers.
+ * The bytes of stack to have free for each call. Measured and not proved: the most that c/stack.c saw over stores of the
+ * largest geometries and calls with merges into every level, rounded up to a whole KiB, and 2 KiB more. What the dynamic
+ * loader takes where it looks memcpy and memset up at their first call is not in these numbers.
  */
 #define MEWILOVANG_STACK_WORDS (3 * 1024)
 #define MEWILOVANG_STACK_FORMAT (3 * 1024)

@@ -1,15 +1,14 @@
 -- What the proofs of the exported calls need.
-use Prim.Native.Nat.{ℕ, _<_}
-use mathlib.Core.Path.{_≡_, refl, sym, ap, _∙_, subst}
-use mathlib.Core.Bool.{true, false}
+use Prim.Native.Nat.{ℕ}
+use mathlib.Core.Path.{_≡_, sym, ap, _∙_, subst}
+use mathlib.Core.Bool.{true}
 use mathlib.Core.List.{List}
 use native.Mathlib.Omega.{arith}
 use Rattle.geometry.specs.declared.Geometry.{Geometry}
 use Rattle.geometry.specs.declared.Built.the-variants.{Legal, Broken}
-use Rattle.geometry.specs.Geometry.{Valid, isLegal, builtOf, storeLength}
+use Rattle.geometry.specs.Geometry.{isLegal, builtOf, storeLength}
 use Rattle.geometry.proofs.Laws.{built-valid, built-broken, valid-legal}
-use Rattle.words.specs.Calls.{Outcome, FormatAnswer, ChangeAnswer, putOf, deleteOf}
-use Rattle.cascade.specs.declared.Tally.{Tally}
+use Rattle.words.specs.Calls.{Outcome, FormatAnswer, ChangeAnswer}
 use Rattle.cascade.specs.Running.{numbersOf}
 use Rattle.store.specs.declared.Change.{Change}
 use Rattle.store.specs.declared.Changed as changed
@@ -19,7 +18,7 @@ use Rattle.store.specs.Answers.{formatAnswer, changedAnswer}
 use Rattle.store.specs.Change.{SumsFit, PutDone, DeleteDone}
 use Rattle.mewilovang.specs.declared.Formatted.{Formatted}
 use Rattle.mewilovang.specs.declared.Changed.{Changed}
-use Rattle.mewilovang.specs.Replies.{wordsOf, formattedReply, formattedOutcome, CountsFit, changedReply, PutReplied, DeleteReplied}
+use Rattle.mewilovang.specs.Answers.{wordsOf, formattedReply, formattedOutcome, CountsFit, changedReply, PutReplied, DeleteReplied}
 
 -- the words of a layout
 pub words-broken : (g : Geometry) → builtOf g ≡ Broken → 0 ≡ wordsOf g
@@ -32,9 +31,6 @@ words-legal g t e =
     let k = built-valid g t e in
     let u : isLegal g ≡ true = ap isLegal (k .0) ∙ valid-legal t (k .1) in
     rw (u, wordsOf) (ap storeLength (sym (k .0)))
-
-pub built-legal : (g t : Geometry) → builtOf g ≡ Legal t → Valid t
-built-legal g t e = built-valid g t e .1
 
 -- each count is no more than the sum over the levels
 module _ (c : changed.Changed) (d : Change) (e : c ≡ Done d) (h : SumsFit (changedAnswer c)) where

@@ -1,14 +1,13 @@
 // The calls of the store for C and Rust (include/mewilovang.h): plain numbers in and out, no `requires` on any of them.
 
 ghost use mathlib.Core.Path.{_≡_};
-ghost use Rattle.words.specs.Layout.{bit};
 ghost use Rattle.words.specs.Calls.{Outcome, formatOf, checkOf, lookUpOf, nextOf};
 ghost use Rattle.store.specs.Answers.{formatAnswer, lookedAnswer, nextedAnswer, changedAnswer};
 ghost use Rattle.store.specs.Change.{SumsFit};
 ghost use Rattle.store.specs.Show.{showPart};
 ghost use Rattle.cascade.specs.Running.{numbersOf};
 ghost use Rattle.mewilovang.specs.declared.Formatted.{Formatted};
-ghost use Rattle.mewilovang.specs.Replies.{wordsOf, formattedReply, formattedOutcome, lookedReply, nextedReply, partReply, CountsFit, countsReply, changedReply, PutReplied, DeleteReplied};
+ghost use Rattle.mewilovang.specs.Answers.{wordsOf, formattedReply, formattedOutcome, lookedReply, nextedReply, partReply, CountsFit, countsReply, changedReply, PutReplied, DeleteReplied};
 use geometry::Built;
 use geometry::Geometry;
 

@@ -1,6 +1,6 @@
 -- The counts of a put or delete, each over all levels, are words.
 use Prim.Native.Nat.{ℕ, _+_, _*_, _≤_}
-use mathlib.Core.Path.{_≡_, refl, sym, ap, _∙_, subst}
+use mathlib.Core.Path.{_≡_, refl, sym, subst}
 use mathlib.Core.Bool.{Bool, true, false}
 use mathlib.Core.List.{List, [], _∷_}
 use native.Mathlib.Omega.{arith}
@@ -63,21 +63,19 @@ merges-compacted g e (m ∷ ms) v f =
 -- the answer of a change that makes the merges of a call
 made-fit : (g : Geometry) (ws : List ℕ) (k : ℕ) (was : Bool) (ms : List Merge) → Passed g ws → ms ≡ mergesFor g (storeAt g ws) k → SumsFit (changeAnswer 0 was ms)
 unfolding countsOf
-made-fit g ws k was ms p e = subst (λ (l : List Merge). SumsFit (changeAnswer 0 was l)) (sym e) (record {
-  merges = let a = counts-high g (storeAt g ws) (p .valid) (p .fits) (p .sound) k 1 in
-      let b = counts-high g (storeAt g ws) (p .valid) (p .fits) (p .sound) k 2 in
-      let c = counts-high g (storeAt g ws) (p .valid) (p .fits) (p .sound) k 3 in
-      omega (arith, a .0, b .0, c .0);
-  merged = let a = counts-high g (storeAt g ws) (p .valid) (p .fits) (p .sound) k 1 in
-      let b = counts-high g (storeAt g ws) (p .valid) (p .fits) (p .sound) k 2 in
-      let c = counts-high g (storeAt g ws) (p .valid) (p .fits) (p .sound) k 3 in
-      omega (arith, a .1, b .1, c .1);
-  compacted = omega (
-    arith,
-    merges-high g (storeAt g ws) (p .valid) (p .fits) (p .sound) k,
-    merges-compacted g (storeAt g ws) (mergesFor g (storeAt g ws) k) (p .valid) (call-merges g (storeAt g ws) (p .valid) (p .fits) (p .sound) k),
-  );
-})
+made-fit g ws k was ms p e =
+    let a = counts-high g (storeAt g ws) (p .valid) (p .fits) (p .sound) k 1 in
+    let b = counts-high g (storeAt g ws) (p .valid) (p .fits) (p .sound) k 2 in
+    let c = counts-high g (storeAt g ws) (p .valid) (p .fits) (p .sound) k 3 in
+    subst (λ (l : List Merge). SumsFit (changeAnswer 0 was l)) (sym e) (record {
+      merges = omega (arith, a .0, b .0, c .0);
+      merged = omega (arith, a .1, b .1, c .1);
+      compacted = omega (
+        arith,
+        merges-high g (storeAt g ws) (p .valid) (p .fits) (p .sound) k,
+        merges-compacted g (storeAt g ws) (mergesFor g (storeAt g ws) k) (p .valid) (call-merges g (storeAt g ws) (p .valid) (p .fits) (p .sound) k),
+      );
+    })
 
 none-fit : (n : ℕ) → SumsFit (changeAnswer n false [])
 unfolding countsOf

@@ -1,5 +1,5 @@
 use mathlib.Core.Path.{ap, _∙_}
-use Rattle.mewilovang.specs.Replies.{lookedReply}
+use Rattle.mewilovang.specs.Answers.{lookedReply}
 use borrow.Author.Needs.{needs}
 use Rattle.mewilovang.proofs.mewilovang_look_up.Statement.{statement}
 use Rattle.mewilovang.proofs.mewilovang_look_up.Tie as tie

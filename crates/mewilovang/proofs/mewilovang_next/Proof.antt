@@ -1,5 +1,5 @@
 use mathlib.Core.Path.{ap, _∙_}
-use Rattle.mewilovang.specs.Replies.{nextedReply}
+use Rattle.mewilovang.specs.Answers.{nextedReply}
 use borrow.Author.Needs.{needs}
 use Rattle.mewilovang.proofs.mewilovang_next.Statement.{statement}
 use Rattle.mewilovang.proofs.mewilovang_next.Tie as tie

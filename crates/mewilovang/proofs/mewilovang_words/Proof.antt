@@ -1,5 +1,6 @@
 use mathlib.Core.Path.{sym, _∙_}
-use Rattle.mewilovang.proofs.Replying.{words-broken, words-legal, built-legal}
+use Rattle.geometry.proofs.Laws.{built-valid}
+use Rattle.mewilovang.proofs.Replying.{words-broken, words-legal}
 use borrow.Author.Needs.{needs}
 use Rattle.mewilovang.proofs.mewilovang_words.Statement.{statement}
 use Rattle.mewilovang.proofs.mewilovang_words.Tie as tie
@@ -21,7 +22,7 @@ returns : tie.Need-returns
 returns c = words-broken _ (sym (c .before .before .new .ensures) ∙ c .enum-told .given .1)
 
 store-length-requires : tie.Need-store-length-requires
-store-length-requires c κs = built-legal _ _ (sym (c .before .before .before .new .ensures) ∙ c .before .t .given .1)
+store-length-requires c κs = built-valid _ _ (sym (c .before .before .before .new .ensures) ∙ c .before .t .given .1) .1
 
 returns-2 : tie.Need-returns-2
 returns-2 c = c .store-length .ensures ∙ words-legal _ _ (sym (c .before .before .before .before .new .ensures) ∙ c .before .before .t .given .1)
