@@ -4,30 +4,22 @@ use super::shape::{Shape, COUNTS, CURSOR, HEADER, LIVE, MOST_SLOTS};
 use super::walk;
 
 /// The shape of a store, or which of the reasons 1 to 4 turns it down.
-#[inline]
 pub fn check(s: &[u32]) -> Result<Shape, u32> {
-    checked(s, walk::live)
-}
-
-/// The same with the other count of live keys.
-pub fn check_skipping(s: &[u32]) -> Result<Shape, u32> {
-    checked(s, walk::live_skipping)
-}
-
-/// The check with the given count of live keys.
-#[inline]
-fn checked(s: &[u32], live: impl Fn(&[u32], &Shape) -> usize) -> Result<Shape, u32> {
     let shape = Shape::of(s)?;
-    let kept = header_kept(s, &shape)
-        && lists_kept(s, &shape)
-        && top_kept(s, &shape)
-        && (1..=shape.h).all(|level| level_kept(s, &shape, level))
-        && live(s, &shape) == s[LIVE] as usize;
+    let kept = formed(s, &shape) && walk::live(s, &shape) == s[LIVE] as usize;
     if kept {
         Ok(shape)
     } else {
         Err(4)
     }
+}
+
+/// Every rule but that of live.
+fn formed(s: &[u32], shape: &Shape) -> bool {
+    header_kept(s, shape)
+        && lists_kept(s, shape)
+        && top_kept(s, shape)
+        && (1..=shape.h).all(|level| level_kept(s, shape, level))
 }
 
 /// The size words are within their limits.

@@ -42,12 +42,6 @@ pub fn check(s: &[u32]) -> u32 {
     form::check(s).err().unwrap_or(0)
 }
 
-/// Check with the live keys counted block by block where no upper key lies within
-/// a block: what the record by record count of `check` costs, for the benchmark.
-pub fn check_skipping(s: &[u32]) -> u32 {
-    form::check_skipping(s).err().unwrap_or(0)
-}
-
 /// Look up k.
 pub fn look_up(s: &[u32], key: u32) -> Found {
     match form::check(s) {

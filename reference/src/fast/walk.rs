@@ -180,33 +180,6 @@ pub fn live(s: &[u32], shape: &Shape) -> usize {
     }
 }
 
-/// The number of live keys, whole blocks of level h at once where they can be.
-pub fn live_skipping(s: &[u32], shape: &Shape) -> usize {
-    let levels = Levels::of(s, shape);
-    let mut upper = levels.cursors(|level| level.from(0));
-    let mut bottom = levels.bottom.from(0);
-    let mut live = 0;
-    loop {
-        let key = least(&upper);
-        while bottom.key < key {
-            if u64::from(s[bottom.end - 1]) < key {
-                live += bottom.end - bottom.at;
-                levels.bottom.refill(&mut bottom);
-            } else {
-                live += 1;
-                levels.bottom.step(&mut bottom);
-            }
-        }
-        if key == END {
-            return live;
-        }
-        live += 1 - pass(&levels.upper, &mut upper, key) as usize;
-        if bottom.key == key {
-            levels.bottom.step(&mut bottom);
-        }
-    }
-}
-
 /// The smallest live key at or above `key` with its payload.
 pub fn next(s: &[u32], shape: &Shape, key: u32) -> Option<(u32, u32)> {
     let levels = Levels::of(s, shape);

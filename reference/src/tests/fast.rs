@@ -72,7 +72,6 @@ impl Both {
     fn read(&self, key: u32) -> Same {
         let (plain, fast) = (&self.plain, &self.fast);
         same("check", calls::check(plain), fast::check(fast))?;
-        same("check", calls::check(plain), fast::check_skipping(fast))?;
         same(
             "look up",
             calls::look_up(plain, key),
