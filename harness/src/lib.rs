@@ -1,0 +1,14 @@
+//! The verified store, called over its static library and held against the two
+//! implementations of `reference`: `damage` looks for a difference on damaged
+//! stores, `bench` compares times.
+
+pub mod border;
+pub mod calls;
+pub mod compare;
+pub mod harm;
+pub mod maker;
+pub mod planted;
+pub mod search;
+
+#[cfg(test)]
+mod tests;
