@@ -7,8 +7,10 @@ pub mod calls;
 pub mod compare;
 pub mod harm;
 pub mod maker;
+pub mod measure;
 pub mod planted;
 pub mod search;
+pub mod table;
 
 #[cfg(test)]
 mod tests;
