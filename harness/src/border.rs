@@ -1,4 +1,5 @@
-//! The C border of the static library.
+//! The C border of the static library, which the package `mewilovang` links. Its own
+//! declarations are not used, so that a slip in them shows too.
 
 /// The answer of format.
 #[repr(C)]

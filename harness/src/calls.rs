@@ -95,6 +95,74 @@ impl Store for Library {
     }
 }
 
+/// The verified store, by the functions of the Rust package.
+pub struct Package;
+
+impl Store for Package {
+    unsafe fn call(&self, lent: *mut u32, words: usize, call: Call) -> Answer {
+        let read = || std::slice::from_raw_parts(lent, words);
+        let write = || std::slice::from_raw_parts_mut(lent, words);
+        match call {
+            Call::Words(numbers) => Answer::Words(six(numbers).words().unwrap_or(0)),
+            Call::Format(numbers) => {
+                let answer = mewilovang::format(write(), six(numbers));
+                Answer::Formatted(answer.map_or_else(refused, |limit| [0, limit]))
+            }
+            Call::Check => {
+                Answer::Checked(mewilovang::check(read()).map_or_else(|no| no.number(), |()| 0))
+            }
+            Call::LookUp(key) => {
+                let found = |found: Option<u32>| [0, found.is_some().into(), found.unwrap_or(0)];
+                let answer = mewilovang::look_up(read(), key);
+                Answer::Looked(answer.map_or_else(refused, found))
+            }
+            Call::Next(key) => {
+                let found = |found: Option<mewilovang::Record>| match found {
+                    Some(record) => [0, 1, record.key, record.payload],
+                    None => [0; 4],
+                };
+                let answer = mewilovang::next(read(), key);
+                Answer::Nexted(answer.map_or_else(refused, found))
+            }
+            Call::Show(level, key) => part(read(), mewilovang::show(read(), level, key)),
+            Call::Put(key, payload) => done(mewilovang::put(write(), key, payload)),
+            Call::Delete(key) => done(mewilovang::delete(write(), key)),
+        }
+    }
+}
+
+/// The package's geometry of six numbers.
+fn six([b, w, d, g, h, p]: [u32; 6]) -> mewilovang::Geometry {
+    mewilovang::Geometry { b, w, d, g, h, p }
+}
+
+/// A refused call: "the answer has only the number and zeros".
+fn refused<const N: usize>(refusal: mewilovang::Refusal) -> [u32; N] {
+    let mut numbers = [0; N];
+    numbers[0] = refusal.number();
+    numbers
+}
+
+/// The numbers of an answer of the package.
+fn done(answer: Result<mewilovang::Change, mewilovang::Refusal>) -> Answer {
+    let numbers = |change: mewilovang::Change| {
+        let [x, y, z] = change.levels.map(|l| [l.merges, l.written, l.compacted]);
+        let live = change.live.into();
+        [
+            0, live, x[0], x[1], x[2], y[0], y[1], y[2], z[0], z[1], z[2],
+        ]
+    };
+    Answer::Changed(answer.map_or_else(refused, numbers))
+}
+
+/// Where a part of a store lies; an empty one is at 0.
+fn part(whole: &[u32], part: &[u32]) -> Answer {
+    match part.len() {
+        0 => Answer::Part(0, 0),
+        n => Answer::Part((part.as_ptr() as usize - whole.as_ptr() as usize) / 4, n),
+    }
+}
+
 /// The numbers of a put's or delete's answer.
 fn changed(a: c::Changed) -> Answer {
     let [x, y, z] = [a.level1, a.level2, a.level3].map(|l| [l.merges, l.written, l.compacted]);
@@ -163,16 +231,8 @@ impl Oracle {
                 };
                 Answer::Nexted([a.refusal, a.found.into(), a.key, a.payload])
             }
-            Call::Show(level, key) => {
-                let part = match self {
-                    Oracle::Plain => plain::show(words, level, key),
-                    Oracle::Fast => fast::show(words, level, key),
-                };
-                match part.len() {
-                    0 => Answer::Part(0, 0),
-                    n => Answer::Part((part.as_ptr() as usize - words.as_ptr() as usize) / 4, n),
-                }
-            }
+            Call::Show(level, key) if plain => part(words, plain::show(words, level, key)),
+            Call::Show(level, key) => part(words, fast::show(words, level, key)),
             Call::Put(key, payload) if plain => told(plain::put(words, key, payload)),
             Call::Put(key, payload) => told(fast::put(words, key, payload)),
             Call::Delete(key) if plain => told(plain::delete(words, key)),

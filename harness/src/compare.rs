@@ -136,7 +136,7 @@ impl Bench {
     /// implementations of the reference are held against each other too.
     pub fn ask(
         &mut self,
-        store: &impl Store,
+        store: &dyn Store,
         call: Call,
         oracle: Oracle,
         both: bool,

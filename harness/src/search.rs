@@ -76,19 +76,20 @@ impl fmt::Display for Counts {
 }
 
 /// A search under way.
-pub struct Search<'a, S> {
-    store: &'a S,
+pub struct Search<'a> {
+    /// Who is asked, in turn from store to store.
+    asked: Vec<&'a dyn Store>,
     seed: u64,
     maker: Maker,
     bench: Bench,
     pub counts: Counts,
 }
 
-impl<'a, S: Store> Search<'a, S> {
+impl<'a> Search<'a> {
     /// A search with this seed.
-    pub fn new(store: &'a S, seed: u64) -> Search<'a, S> {
+    pub fn new(asked: Vec<&'a dyn Store>, seed: u64) -> Search<'a> {
         Search {
-            store,
+            asked,
             seed,
             maker: Maker::new(),
             bench: Bench::new(),
@@ -146,12 +147,13 @@ impl<'a, S: Store> Search<'a, S> {
             _ => (Oracle::Plain, false),
         };
         let calls = calls(random, base, words);
+        let store = self.asked[number % self.asked.len()];
         self.counts.stores += 1;
         self.counts.damaged += u64::from(!sound || matches!(base.origin, Origin::Broken(_)));
         self.counts.large += u64::from(words.len() > 16_384);
         self.counts.longest = self.counts.longest.max(words.len());
         for call in calls {
-            let answer = self.bench.ask(self.store, call, oracle, both)?;
+            let answer = self.bench.ask(store, call, oracle, both)?;
             self.counts.calls += 1;
             self.counts.both += u64::from(both);
             self.counts.merges += u64::from(answer.merges());

@@ -1,6 +1,6 @@
 //! The search is able to fail, and finds nothing in the library.
 
-use crate::calls::Library;
+use crate::calls::{Library, Package};
 use crate::planted::{Fault, Planted};
 use crate::search::Search;
 
@@ -12,11 +12,11 @@ fn planted_faults_are_reported() {
             store: Library,
             fault,
         };
-        let mut search = Search::new(&store, 5);
+        let mut search = Search::new(vec![&store], 5);
         let report = (0..400).find_map(|group| search.group(group).err());
         let report = report.unwrap_or_else(|| panic!("{fault:?} is not reported"));
         println!("{fault:?}: {}", report.difference);
-        let again = Search::new(&store, 5).group(report.group);
+        let again = Search::new(vec![&store], 5).group(report.group);
         let again = again.expect_err("the group shows it again");
         assert_eq!(again.difference, report.difference, "{fault:?}");
         assert_eq!(again.harms, report.harms, "{fault:?}");
@@ -26,7 +26,7 @@ fn planted_faults_are_reported() {
 /// A short search finds nothing, and meets every answer.
 #[test]
 fn nothing_in_the_library() {
-    let mut search = Search::new(&Library, 1);
+    let mut search = Search::new(vec![&Library, &Package], 1);
     for group in 0..600 {
         if let Err(report) = search.group(group) {
             panic!("{report}");

@@ -3,7 +3,7 @@
 //! `damage --repeat SEED GROUP` runs one group; `damage --self-test` plants faults
 //! and sees each of them reported.
 
-use harness::calls::Library;
+use harness::calls::{Library, Package};
 use harness::planted::{Fault, Planted};
 use harness::search::Search;
 use std::process::ExitCode;
@@ -40,7 +40,7 @@ fn main() -> ExitCode {
 fn search(seed: u64, first: u64, time: Duration) -> ExitCode {
     println!("seed {seed}");
     let start = Instant::now();
-    let mut search = Search::new(&Library, seed);
+    let mut search = Search::new(vec![&Library, &Package], seed);
     for group in first.. {
         if let Err(report) = search.group(group) {
             println!("{}\n{report}", search.counts);
@@ -63,7 +63,7 @@ fn self_test() -> ExitCode {
             store: Library,
             fault,
         };
-        let mut search = Search::new(&store, 1);
+        let mut search = Search::new(vec![&store], 1);
         match (0..400).find_map(|group| search.group(group).err()) {
             Some(report) => {
                 let (stores, calls) = (search.counts.stores, search.counts.calls);

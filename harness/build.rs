@@ -1,8 +1,0 @@
-//! Links the static library that `rt staticlib mewilovang` writes.
-
-fn main() {
-    let folder = concat!(env!("CARGO_MANIFEST_DIR"), "/../target/staticlib");
-    println!("cargo:rustc-link-search=native={folder}");
-    println!("cargo:rustc-link-lib=static=mewilovang");
-    println!("cargo:rerun-if-changed={folder}/libmewilovang.a");
-}
