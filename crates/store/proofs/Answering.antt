@@ -1,21 +1,23 @@
 -- What the proofs of the reading calls need: each answer of the code is the definition's.
-use Prim.Native.Nat.{ℕ, suc, _+_, _≤_, _<_}
-use mathlib.Core.Path.{_≡_, refl, sym, ap, _∙_}
+use Prim.Native.Nat.{ℕ, suc, _+_, _-_, _≤_, _<_}
+use mathlib.Core.Path.{_≡_, refl, sym, ap, _∙_, subst}
 use mathlib.Core.Bool.{Bool, true, false}
 use mathlib.Core.List.{List, [], map}
 use mathlib.Core.Option.{Option, none, some}
+use mathlib.Core.Logic.{dite}
+use native.Mathlib.Decide.{decLt}
 use native.Mathlib.Omega.{arith}
 use lib.Dec.{eqb}
 use lib.ListN.{length, take, drop}
 use borrow.Author.Tests.{eq-eqb, ne-eqb, le-leb, lt-leb}
 use Rattle.geometry.specs.declared.Geometry.{Geometry}
-use Rattle.geometry.specs.Geometry.{listStart, placeStart, blockWidth}
+use Rattle.geometry.specs.Geometry.{listStart, placeStart, blockWidth, within}
 use Rattle.geometry.proofs.Laws.{place-inside}
 use Rattle.levels.specs.Basics.{if_then_else_, orElse}
 use Rattle.levels.specs.Record.{Rec, Block}
 use Rattle.levels.specs.Map.{find, unmarked, mapOf, decides, present, lookUp, firstFrom, next}
 use Rattle.levels.specs.Store.{rows}
-use Rattle.words.specs.Layout.{word, storeAt, countAt, levelAt, blockAt}
+use Rattle.words.specs.Layout.{word, geometryAt, storeAt, countAt, levelAt, blockAt}
 use Rattle.words.specs.Form.{reasonOf}
 use Rattle.words.specs.Calls.{lookAnswer, lookUpOf, nextAnswer, nextOf, enclosing, partOf, showIn, showOf, checkOf}
 use Rattle.chunks.specs.Chunks.{chunkRecs}
@@ -28,6 +30,7 @@ use Rattle.search.specs.declared.Found.the-variants as found
 use Rattle.search.specs.declared.Enclosed.{Enclosed}
 use Rattle.search.specs.declared.Enclosed.the-variants as enclosed
 use Rattle.search.specs.Search.{foundOf, encloses, enclosedFrom, enclosedOf}
+use Rattle.form.specs.declared.Checked.{Checked}
 use Rattle.form.specs.declared.Checked.the-variants.{Ready, Refused}
 use Rattle.form.specs.Form.{topOf, levelOf}
 use Rattle.form.specs.Checked.{checkedOf}
@@ -37,6 +40,8 @@ use Rattle.form.proofs.Blocks.{level-blocks, chunk-recs}
 use Rattle.form.proofs.Clauses.{filled-level}
 use Rattle.form.proofs.Ready.{checked-ready, checked-refused, ready-sized, ready-headed, ready-filled, ready-lists, ready-levels, ready-view, ready-decides}
 use Rattle.store.specs.Answers.{lookedAnswer, lookedOf, nextedAnswer}
+use Rattle.store.specs.Show.{emptyPart, blockPart, showPartIn, showPart}
+use Rattle.store.specs.declared.Part.{Part}
 use Rattle.store.specs.declared.Looked.the-variants as looked
 use Rattle.store.specs.declared.Nexted.the-variants as nexted
 use Rattle.store.proofs.Maps.{small-records, small-overlay, small-unmarked, first-small}
@@ -58,9 +63,9 @@ module _ (ws : List ℕ) (n : ℕ) (e : checkedOf ws ≡ Refused n) where
   unfolding nextOf
   next-refused k = rw (refused-test, nextOf, checked-refused ws n e .0)
 
-  pub show-refused : (i k : ℕ) → [] ≡ showOf ws i k
-  unfolding showOf
-  show-refused i k = rw (refused-test, showOf)
+  pub show-refused : (i k : ℕ) → emptyPart ≡ showPart ws i k
+  unfolding showPart
+  show-refused i k = rw (refused-test, showPart)
 
 -- the answer of the first of two searches that has one
 abbrev pub orFound : Found → Found → Found
@@ -110,9 +115,9 @@ module _ (ws : List ℕ) (g : Geometry) (e : checkedOf ws ≡ Ready g) where
   next-ready k =
       rw (ready-test, nextOf) (ap (λ (t : Geometry). nextAnswer (next k (rows (storeAt t ws)))) (checked-ready ws g e .0))
 
-  pub show-ready : (i k : ℕ) → showIn g ws i k ≡ showOf ws i k
-  unfolding showOf
-  show-ready i k = rw (ready-test, showOf) (ap (λ (t : Geometry). showIn t ws i k) (checked-ready ws g e .0))
+  pub show-ready : (i k : ℕ) → showPartIn g ws i k ≡ showPart ws i k
+  unfolding showPart
+  show-ready i k = rw (ready-test, showPart) (ap (λ (t : Geometry). showPartIn t ws i k) (checked-ready ws g e .0))
 
   -- "the first level from 0 down that has k decides", by the four searches
   pub found-levels : (k : ℕ) → foundOf (decides k (rows (storeAt g ws)))
@@ -148,6 +153,49 @@ show-high g ws i k a b = rw (le-leb 1 i a, lt-leb i (g .h) b, showIn)
 pub show-inside : (g : Geometry) (ws : List ℕ) (i k : ℕ) → 1 ≤ i → i ≤ g .h → showIn g ws i k ≡ partOf g ws (enclosing k (levelAt g ws i))
 unfolding showIn
 show-inside g ws i k a b = rw (le-leb 1 i a, le-leb i (g .h) b, showIn)
+
+-- the same of the part
+pub part-low : (g : Geometry) (ws : List ℕ) (i k : ℕ) → i < 1 → emptyPart ≡ showPartIn g ws i k
+unfolding showPartIn
+part-low g ws i k h = rw (lt-leb 1 i h, showPartIn)
+
+pub part-high : (g : Geometry) (ws : List ℕ) (i k : ℕ) → 1 ≤ i → g .h < i → emptyPart ≡ showPartIn g ws i k
+unfolding showPartIn
+part-high g ws i k a b = rw (le-leb 1 i a, lt-leb i (g .h) b, showPartIn)
+
+part-level : (g : Geometry) (ws : List ℕ) (i k : ℕ) → 1 ≤ i → i ≤ g .h → showPartIn g ws i k ≡ blockPart g (enclosing k (levelAt g ws i))
+unfolding showPartIn
+part-level g ws i k a b = rw (le-leb 1 i a, le-leb i (g .h) b, showPartIn)
+
+-- its words are those that show gives
+words-of : (g : Geometry) (ws : List ℕ) (o : Option Block) → take (blockPart g o .length) (drop (blockPart g o .start) ws) ≡ partOf g ws o
+words-of g ws none = refl
+words-of g ws (some b) = refl
+
+part-words-in : (g : Geometry) (ws : List ℕ) (i k : ℕ) → take (showPartIn g ws i k .length) (drop (showPartIn g ws i k .start) ws) ≡ showIn g ws i k
+unfolding showPartIn showIn
+part-words-in g ws i k = go (within 1 (g .h) i)
+  where
+    go : (t : Bool) → let p : Part = elim t [ true ↦ blockPart g (enclosing k (levelAt g ws i)) | false ↦ emptyPart ] in
+        take (p .length) (drop (p .start) ws) ≡ elim t [ true ↦ partOf g ws (enclosing k (levelAt g ws i)) | false ↦ [] ]
+    go true = words-of g ws (enclosing k (levelAt g ws i))
+    go false = refl
+
+pub part-words : (ws : List ℕ) (i k : ℕ) → take (showPart ws i k .length) (drop (showPart ws i k .start) ws) ≡ showOf ws i k
+unfolding showPart showOf
+part-words ws i k = go (eqb (reasonOf ws) 0)
+  where
+    go : (t : Bool) → let p : Part = elim t [ true ↦ showPartIn (geometryAt ws) ws i k | false ↦ emptyPart ] in
+        take (p .length) (drop (p .start) ws) ≡ elim t [ true ↦ showIn (geometryAt ws) ws i k | false ↦ [] ]
+    go true = part-words-in (geometryAt ws) ws i k
+    go false = refl
+
+-- a part that ends within words that are few enough to be counted in bytes
+abbrev Inside : List ℕ → Part → Type 0
+Inside ws p = (p .start + p .length ≤ length ws) × (p .start + p .length ≤ 288524)
+
+empty-inside : (ws : List ℕ) → Inside ws emptyPart
+empty-inside ws = (omega arith, omega arith)
 
 -- the block at the place that entry j of a list names
 abbrev listedBlock : Geometry → List ℕ → ℕ → Enclosed → Option Block
@@ -200,10 +248,11 @@ module _ (ws : List ℕ) (g : Geometry) (e : checkedOf ws ≡ Ready g) where
         let s : listStart g i + 0 ≡ listStart g i = omega arith in
         rw (level-blocks g ws i listed) (rw s at (enclosing-from k 0 (countAt ws i) (omega arith)))
 
-    pub show-none : (k : ℕ) (d : Directory) → d ≡ levelOf g ws i → enclosed.Nowhere ≡ enclosedOf ws d k → [] ≡ showIn g ws i k
-    show-none k d q h =
-        let r : enclosedOf ws (levelOf g ws i) k ≡ enclosed.Nowhere = sym (rw q at h) in
-        sym (show-inside g ws i k a b ∙ ap (partOf g ws) (enclosing-is k ∙ ap (listedBlock g ws (listStart g i)) r))
+    part-found : (k : ℕ) (r : Enclosed) → enclosedOf ws (levelOf g ws i) k ≡ r → blockPart g (listedBlock g ws (listStart g i) r) ≡ showPartIn g ws i k
+    part-found k r q = sym (part-level g ws i k a b ∙ ap (blockPart g) (enclosing-is k ∙ ap (listedBlock g ws (listStart g i)) q))
+
+    pub part-none : (k : ℕ) (d : Directory) → d ≡ levelOf g ws i → enclosed.Nowhere ≡ enclosedOf ws d k → emptyPart ≡ showPartIn g ws i k
+    part-none k d q h = part-found k enclosed.Nowhere (sym (rw q at h))
 
     module _ (k : ℕ) (d : Directory) (q : d ≡ levelOf g ws i) (j : ℕ) (h : enclosed.At j ≡ enclosedOf ws d k) where
       hit : enclosedOf ws (levelOf g ws i) k ≡ enclosed.At j
@@ -223,8 +272,39 @@ module _ (ws : List ℕ) (g : Geometry) (e : checkedOf ws ≡ Ready g) where
       pub shown-end : placeStart g (word ws (d .list + j)) + blockWidth g ≤ length ws
       shown-end = rw (ready-sized ws g e .words) (place-inside g shown-place)
 
-      pub show-at : take (blockWidth g) (drop (placeStart g (word ws (d .list + j))) ws) ≡ showIn g ws i k
+      pub part-at : record { start = placeStart g (word ws (d .list + j)); length = blockWidth g } ≡ showPartIn g ws i k
       unfolding blockAt
-      show-at =
-          rw (shown-listed .0)
-          (sym (show-inside g ws i k a b ∙ ap (partOf g ws) (enclosing-is k ∙ ap (listedBlock g ws (listStart g i)) hit)))
+      part-at = rw (shown-listed .0) (part-found k (enclosed.At j) hit)
+
+    -- the part lies in the lent store, which is short
+    part-inside-level : (k : ℕ) → Inside ws (showPartIn g ws i k)
+    part-inside-level k = go (enclosedOf ws (levelOf g ws i) k) refl
+      where
+        go : (r : Enclosed) → enclosedOf ws (levelOf g ws i) k ≡ r → Inside ws (showPartIn g ws i k)
+        go enclosed.Nowhere q = subst (Inside ws) (part-found k enclosed.Nowhere q) (empty-inside ws)
+        go (enclosed.At j) q =
+            let h = shown-end k (levelOf g ws i) refl j (sym q) in
+            subst (Inside ws) (part-at k (levelOf g ws i) refl j (sym q)) (h, omega (arith, h, ready-sized ws g e .short))
+
+  part-inside-in : (i k : ℕ) → Inside ws (showPartIn g ws i k)
+  part-inside-in i k =
+      dite (decLt i 1) (λ l. subst (Inside ws) (part-low g ws i k l) (empty-inside ws))
+      (λ l. dite (decLt (g .h) i) (λ m. subst (Inside ws) (part-high g ws i k (omega arith) m) (empty-inside ws))
+      (λ m. part-inside-level i (omega arith) (omega arith) k))
+
+part-inside : (ws : List ℕ) (i k : ℕ) → Inside ws (showPart ws i k)
+part-inside ws i k = go (checkedOf ws) refl
+  where
+    go : (c : Checked) → checkedOf ws ≡ c → Inside ws (showPart ws i k)
+    go (Ready g) e = subst (Inside ws) (show-ready ws g e i k) (part-inside-in ws g e i k)
+    go (Refused n) e = subst (Inside ws) (show-refused ws n e i k) (empty-inside ws)
+
+-- of a part that the code has found
+module _ (ws : List ℕ) (i k : ℕ) (p : Part) (e : p ≡ showPart ws i k) where
+  pub part-in : Inside ws p
+  part-in = subst (Inside ws) (sym e) (part-inside ws i k)
+
+  pub part-shown : take (p .start + p .length - p .start) (drop (p .start) ws) ≡ showOf ws i k
+  part-shown =
+      let w : p .start + p .length - p .start ≡ p .length = omega arith in
+      rw w (subst (λ (q : Part). take (q .length) (drop (q .start) ws) ≡ showOf ws i k) (sym e) (part-words ws i k))

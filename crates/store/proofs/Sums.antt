@@ -63,6 +63,10 @@ merges-compacted g e (m ∷ ms) v f =
 made-fit : (g : Geometry) (ws : List ℕ) (k : ℕ) (was : Bool) (ms : List Merge) → Passed g ws → ms ≡ mergesFor g (storeAt g ws) k → SumsFit (changeAnswer 0 was ms)
 unfolding countsOf
 made-fit g ws k was ms p e = subst (λ (l : List Merge). SumsFit (changeAnswer 0 was l)) (sym e) (record {
+  merges = let a = counts-high g (storeAt g ws) (p .valid) (p .fits) (p .sound) k 1 in
+      let b = counts-high g (storeAt g ws) (p .valid) (p .fits) (p .sound) k 2 in
+      let c = counts-high g (storeAt g ws) (p .valid) (p .fits) (p .sound) k 3 in
+      omega (arith, a .0, b .0, c .0);
   merged = let a = counts-high g (storeAt g ws) (p .valid) (p .fits) (p .sound) k 1 in
       let b = counts-high g (storeAt g ws) (p .valid) (p .fits) (p .sound) k 2 in
       let c = counts-high g (storeAt g ws) (p .valid) (p .fits) (p .sound) k 3 in
@@ -76,7 +80,7 @@ made-fit g ws k was ms p e = subst (λ (l : List Merge). SumsFit (changeAnswer 0
 
 none-fit : (n : ℕ) → SumsFit (changeAnswer n false [])
 unfolding countsOf
-none-fit n = record { merged = omega arith; compacted = omega arith }
+none-fit n = record { merges = omega arith; merged = omega arith; compacted = omega arith }
 
 module _ (ws : List ℕ) where
   put-case : (k v : ℕ) → Passed (geometryAt ws) ws → (c : Change) → PutSays (geometryAt ws) (storeAt (geometryAt ws) ws) k v c → SumsFit (changeOutcome (geometryAt ws) ws c .answer)

@@ -39,8 +39,9 @@ pub record DeleteDone (ws : List ℕ) (k : ℕ) (r : Changed) (out : List ℕ) :
   pub demand : reasonOf ws ≡ 0
       → let g = geometryAt ws in let s = storeAt g ws in Demand g ws (ownDelete g s k) (mergesOf (delete g s k)) (changedAnswer r) out
 
--- blocks written by merges and by compacting, each over all levels, are words
+-- merges, blocks written by them and blocks written by compacting, each over all levels, are words
 pub record SumsFit (a : ChangeAnswer) : Type 0 where
+  pub merges : a .level1 .merges + a .level2 .merges + a .level3 .merges < 4294967296
   pub merged : a .level1 .written + a .level2 .written + a .level3 .written < 4294967296
   pub compacted : a .level1 .compacted + a .level2 .compacted + a .level3 .compacted < 4294967296
 

@@ -10,7 +10,7 @@ ghost use Rattle.levels.specs.Map.{decides, next};
 ghost use Rattle.levels.specs.Put.{put, delete};
 ghost use Rattle.levels.specs.Store.{rows};
 ghost use Rattle.words.specs.Layout.{storeAt};
-ghost use Rattle.words.specs.Calls.{Outcome, FormatAnswer, ChangeAnswer, nextAnswer, changeOutcome, formatOf, checkOf, lookUpOf, nextOf, showIn, showOf};
+ghost use Rattle.words.specs.Calls.{Outcome, FormatAnswer, ChangeAnswer, nextAnswer, changeOutcome, formatOf, checkOf, lookUpOf, nextOf, showOf};
 ghost use Rattle.search.specs.Search.{foundOf};
 ghost use Rattle.form.specs.declared.Checked.the-variants.{Ready};
 ghost use Rattle.form.specs.Checked.{checkedOf};
@@ -18,6 +18,7 @@ ghost use Rattle.top.specs.Top.{TopReady};
 ghost use Rattle.store.specs.Answers.{formatAnswer, lookedAnswer, lookedOf, nextedAnswer, changedAnswer};
 ghost use Rattle.store.specs.Change.{liveFound, hasRoom, withEntered, Counted, Entered, PutDone, DeleteDone};
 ghost use Rattle.store.specs.Format.{headed};
+ghost use Rattle.store.specs.Show.{showPartIn, showPart};
 use cascade::Counts;
 use cascade::Tally;
 use entry::Opened;
@@ -172,37 +173,61 @@ fn next_key(s: &[u32], g: Geometry, k: usize) -> Nexted
     Nexted::At(key as u32, pay)
 }
 
+// A part of the lent store: its first word and its words; both 0 for an empty part.
+pub struct Part {
+    pub start: usize,
+    pub length: usize,
+}
+
 // The words of the block of a level whose first to last key encloses k, as that part of the lent store.
 pub fn show(s: &[u32], level: u32, k: u32) -> &[u32]
     ensures { λ r. ⌜ now r ≡ showOf (now (s .entry)) level k ⌝ }
 {
+    let part = show_at(s, level, k);
+    let start = part.start;
+    let end = start + part.length;
+    &s[start..end]
+}
+
+// Where that part lies, for a caller that no part can be handed to.
+pub fn show_at(s: &[u32], level: u32, k: u32) -> Part
+    ensures { λ r. ⌜ r ≡ showPart (now (s .entry)) level k ⌝ }
+{
     let Checked::Ready(g) = form::check(s) else {
-        return &s[0..0];
+        return Part {
+            start: 0,
+            length: 0,
+        };
     };
     show_block(s, g, level as usize, k as usize)
 }
 
 // The same, of a store that passes.
-fn show_block(s: &[u32], g: Geometry, level: usize, k: usize) -> &[u32]
+fn show_block(s: &[u32], g: Geometry, level: usize, k: usize) -> Part
     requires { ⌜ checkedOf (now s) ≡ Ready g ⌝ }
-    ensures { λ r. ⌜ now r ≡ showIn g (now (s .entry)) level k ⌝ }
+    ensures { λ r. ⌜ r ≡ showPartIn g (now (s .entry)) level k ⌝ }
 {
+    let none = Part {
+        start: 0,
+        length: 0,
+    };
     let h = g.levels();
     if level < 1 {
-        return &s[0..0];
+        return none;
     }
     if h < level {
-        return &s[0..0];
+        return none;
     }
     let dir = form::level_of(s, g, level);
     let Enclosed::At(i) = search::enclosing(s, dir, k) else {
-        return &s[0..0];
+        return none;
     };
     let list = dir.list;
     let place = chunks::word(s, list + i);
-    let start = g.place_start(place);
-    let end = start + g.block_width();
-    &s[start..end]
+    Part {
+        start: g.place_start(place),
+        length: g.block_width(),
+    }
 }
 
 // What a put or delete did: live says if the key was live, the tally what was merged and written for it.

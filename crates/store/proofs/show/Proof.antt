@@ -1,21 +1,20 @@
-use mathlib.Core.Path.{sym, _∙_}
-use Rattle.store.proofs.Answering.{show-refused, show-ready}
+use native.Mathlib.Omega.{arith}
+use Rattle.store.proofs.Answering.{part-in, part-shown}
 use borrow.Author.Needs.{needs}
 use Rattle.store.proofs.show.Statement.{statement}
 use Rattle.store.proofs.show.Tie as tie
 use Rattle.store.proofs.show.Reads as reads
 use Rattle.store.proofs.show.Lts as lts
-use Rattle.form.proofs.check.Reads as check-reads
-use Rattle.store.proofs.show_block.Reads as show-block-reads
+use Rattle.store.proofs.show_at.Reads as show-at-reads
 
-check-requires : tie.Need-check-requires
-check-requires c κs = search needs
+show-at-requires : tie.Need-show-at-requires
+show-at-requires c κs = search needs
 
-enum-known-g : tie.Need-enum-known-g
-enum-known-g c = search needs
+add-end : tie.Need-add-end
+add-end c = let h = part-in _ _ _ _ (c .before .show-at .ensures) in omega (arith, h .1)
 
-enum-told : tie.Need-enum-told
-enum-told c = search needs
+mul-result : tie.Need-mul-result
+mul-result c = let h = part-in _ _ _ _ (c .before .show-at .ensures) in omega (arith, h .1)
 
 sub-result : tie.Need-sub-result
 sub-result c = search needs
@@ -24,27 +23,19 @@ part-result-start : tie.Need-part-result-start
 part-result-start c = search needs
 
 part-result-end : tie.Need-part-result-end
-part-result-end c = search needs
+part-result-end c = part-in _ _ _ _ (c .before .show-at .ensures) .0
 
 returns : tie.Need-returns
-returns c = show-refused _ (c .before .enum-told .given .0 .0) (sym (c .before .before .before .check .ensures) ∙ c .before .enum-told .given .1) _ _
-
-show-block-requires : tie.Need-show-block-requires
-show-block-requires c κs = sym (c .before .before .before .check .ensures) ∙ c .before .g .given .1
-
-returns-2 : tie.Need-returns-2
-returns-2 c = c .show-block .ensures ∙ show-ready _ _ (sym (c .before .before .before .before .check .ensures) ∙ c .before .before .g .given .1) _ _
+returns c = part-shown _ _ _ _ (c .before .before .show-at .ensures)
 
 pub show-spec : {M : Type 1} → statement M
 show-spec =
     tie.close
     (tie.spec
-    check-requires
-    enum-known-g
-    enum-told
+    show-at-requires
+    add-end
+    mul-result
     sub-result
     part-result-start
     part-result-end
-    returns
-    show-block-requires
-    returns-2)
+    returns)

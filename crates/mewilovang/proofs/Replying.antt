@@ -1,0 +1,72 @@
+-- What the proofs of the exported calls need.
+use Prim.Native.Nat.{ℕ, _<_}
+use mathlib.Core.Path.{_≡_, refl, sym, ap, _∙_, subst}
+use mathlib.Core.Bool.{true, false}
+use mathlib.Core.List.{List}
+use native.Mathlib.Omega.{arith}
+use Rattle.geometry.specs.declared.Geometry.{Geometry}
+use Rattle.geometry.specs.declared.Built.the-variants.{Legal, Broken}
+use Rattle.geometry.specs.Geometry.{Valid, isLegal, builtOf, storeLength}
+use Rattle.geometry.proofs.Laws.{built-valid, built-broken, valid-legal}
+use Rattle.words.specs.Calls.{Outcome, FormatAnswer, ChangeAnswer, putOf, deleteOf}
+use Rattle.cascade.specs.declared.Tally.{Tally}
+use Rattle.cascade.specs.Running.{numbersOf}
+use Rattle.store.specs.declared.Change.{Change}
+use Rattle.store.specs.declared.Changed as changed
+use Rattle.store.specs.declared.Changed.the-variants.{Done}
+use Rattle.store.specs.declared.Formatted as formatted
+use Rattle.store.specs.Answers.{formatAnswer, changedAnswer}
+use Rattle.store.specs.Change.{SumsFit, PutDone, DeleteDone}
+use Rattle.mewilovang.specs.declared.Formatted.{Formatted}
+use Rattle.mewilovang.specs.declared.Changed.{Changed}
+use Rattle.mewilovang.specs.Replies.{wordsOf, formattedReply, formattedOutcome, CountsFit, changedReply, PutReplied, DeleteReplied}
+
+-- the words of a layout
+pub words-broken : (g : Geometry) → builtOf g ≡ Broken → 0 ≡ wordsOf g
+unfolding wordsOf
+words-broken g e = rw (built-broken g e, wordsOf)
+
+pub words-legal : (g t : Geometry) → builtOf g ≡ Legal t → storeLength t ≡ wordsOf g
+unfolding wordsOf
+words-legal g t e =
+    let k = built-valid g t e in
+    let u : isLegal g ≡ true = ap isLegal (k .0) ∙ valid-legal t (k .1) in
+    rw (u, wordsOf) (ap storeLength (sym (k .0)))
+
+pub built-legal : (g t : Geometry) → builtOf g ≡ Legal t → Valid t
+built-legal g t e = built-valid g t e .1
+
+-- each count is no more than the sum over the levels
+module _ (c : changed.Changed) (d : Change) (e : c ≡ Done d) (h : SumsFit (changedAnswer c)) where
+  sums : SumsFit (changedAnswer (Done d))
+  sums = subst (λ (x : changed.Changed). SumsFit (changedAnswer x)) e h
+
+  pub one-fit : CountsFit (numbersOf (d .tally .one))
+  one-fit = record { merges = omega (arith, sums .merges); written = omega (arith, sums .merged); compacted = omega (arith, sums .compacted) }
+
+  pub two-fit : CountsFit (numbersOf (d .tally .two))
+  two-fit = record { merges = omega (arith, sums .merges); written = omega (arith, sums .merged); compacted = omega (arith, sums .compacted) }
+
+  pub three-fit : CountsFit (numbersOf (d .tally .three))
+  three-fit = record { merges = omega (arith, sums .merges); written = omega (arith, sums .merged); compacted = omega (arith, sums .compacted) }
+
+pub format-replied : (f : formatted.Formatted) (r : Formatted) (out : List ℕ) (o : Outcome FormatAnswer) → _≡_ {A = Outcome FormatAnswer} (record { answer = formatAnswer f; words = out }) o → r ≡ formattedReply (formatAnswer f)
+    → _≡_ {A = Outcome Formatted} (record { answer = r; words = out }) (formattedOutcome o)
+format-replied f r out o e q = ap (λ (x : Formatted). record { answer = x; words = out }) q ∙ ap formattedOutcome e
+
+module _ (ws : List ℕ) (k : ℕ) (c : changed.Changed) (r : Changed) (out : List ℕ) (q : r ≡ changedReply (changedAnswer c)) where
+  pub put-replied : (v : ℕ) → PutDone ws k v c out → PutReplied ws k v r out
+  put-replied v d = record {
+    reply = q ∙ ap (λ (o : Outcome ChangeAnswer). changedReply (o .answer)) (d .outcome);
+    words = ap (λ (o : Outcome ChangeAnswer). o .words) (d .outcome);
+    change = c;
+    done = d;
+  }
+
+  pub delete-replied : DeleteDone ws k c out → DeleteReplied ws k r out
+  delete-replied d = record {
+    reply = q ∙ ap (λ (o : Outcome ChangeAnswer). changedReply (o .answer)) (d .outcome);
+    words = ap (λ (o : Outcome ChangeAnswer). o .words) (d .outcome);
+    change = c;
+    done = d;
+  }

@@ -1,0 +1,69 @@
+-- The exported structs: for each answer of document 01's calls (words, Calls) the numbers that a caller in C is given.
+use Prim.Native.Nat.{ℕ, _<_}
+use mathlib.Core.Path.{_≡_}
+use mathlib.Core.Bool.{true, false}
+use mathlib.Core.List.{List}
+use Rattle.geometry.specs.declared.Geometry.{Geometry}
+use Rattle.geometry.specs.Geometry.{isLegal, storeLength}
+use Rattle.levels.specs.Count as levels
+use Rattle.words.specs.Layout.{bit}
+use Rattle.words.specs.Calls.{Outcome, FormatAnswer, LookAnswer, NextAnswer, ChangeAnswer, putOf, deleteOf}
+use Rattle.store.specs.declared.Changed as changed
+use Rattle.store.specs.declared.Part as part
+use Rattle.store.specs.Change.{PutDone, DeleteDone}
+use Rattle.mewilovang.specs.declared.Formatted.{Formatted}
+use Rattle.mewilovang.specs.declared.Looked.{Looked}
+use Rattle.mewilovang.specs.declared.Nexted.{Nexted}
+use Rattle.mewilovang.specs.declared.Part.{Part}
+use Rattle.mewilovang.specs.declared.Counts.{Counts}
+use Rattle.mewilovang.specs.declared.Changed.{Changed}
+
+-- "Layout of the lent store": the words that it takes; a geometry that breaks a limit has none
+unfoldable pub wordsOf : Geometry → ℕ
+wordsOf g = elim (isLegal g) [ true ↦ storeLength g | false ↦ 0 ]
+
+-- "Format .. answers N."
+abbrev pub formattedReply : FormatAnswer → Formatted
+formattedReply a = record { reason = a .reason; limit = a .limit }
+
+abbrev pub formattedOutcome : Outcome FormatAnswer → Outcome Formatted
+formattedOutcome o = record { answer = formattedReply (o .answer); words = o .words }
+
+-- "Look up k"
+abbrev pub lookedReply : LookAnswer → Looked
+lookedReply a = record { reason = a .reason; found = bit (a .found); payload = a .pay }
+
+-- "Next k"
+abbrev pub nextedReply : NextAnswer → Nexted
+nextedReply a = record { reason = a .reason; found = bit (a .found); key = a .key; payload = a .pay }
+
+-- "Show i, k"
+abbrev pub partReply : part.Part → Part
+partReply p = record { start = p .start; length = p .length }
+
+-- "for each level 1 to 3: merges into it, blocks written by them, blocks written compacting it", if they are words
+pub record CountsFit (c : levels.Counts) : Type 0 where
+  pub merges : c .merges < 4294967296
+  pub written : c .written < 4294967296
+  pub compacted : c .compacted < 4294967296
+
+abbrev pub countsReply : levels.Counts → Counts
+countsReply c = record { merges = c .merges; written = c .written; compacted = c .compacted }
+
+-- "The answer says if k was live."
+abbrev pub changedReply : ChangeAnswer → Changed
+changedReply a = record { reason = a .reason; live = bit (a .live); level1 = countsReply (a .level1); level2 = countsReply (a .level2); level3 = countsReply (a .level3) }
+
+-- "Put k, v": the answer in the struct's numbers and every lent word, and all that `PutDone` says of them, demand 3 with it.
+pub record PutReplied (ws : List ℕ) (k v : ℕ) (r : Changed) (out : List ℕ) : Type 0 where
+  pub reply : r ≡ changedReply (putOf ws k v .answer)
+  pub words : out ≡ putOf ws k v .words
+  pub change : changed.Changed
+  pub done : PutDone ws k v change out
+
+-- "Delete k"
+pub record DeleteReplied (ws : List ℕ) (k : ℕ) (r : Changed) (out : List ℕ) : Type 0 where
+  pub reply : r ≡ changedReply (deleteOf ws k .answer)
+  pub words : out ≡ deleteOf ws k .words
+  pub change : changed.Changed
+  pub done : DeleteDone ws k change out

@@ -1,0 +1,242 @@
+// The calls of the store for C and Rust (include/mewilovang.h): plain numbers in and out, no `requires` on any of them.
+
+ghost use mathlib.Core.Path.{_≡_};
+ghost use Rattle.words.specs.Layout.{bit};
+ghost use Rattle.words.specs.Calls.{Outcome, formatOf, checkOf, lookUpOf, nextOf};
+ghost use Rattle.store.specs.Answers.{formatAnswer, lookedAnswer, nextedAnswer, changedAnswer};
+ghost use Rattle.store.specs.Change.{SumsFit};
+ghost use Rattle.store.specs.Show.{showPart};
+ghost use Rattle.cascade.specs.Running.{numbersOf};
+ghost use Rattle.mewilovang.specs.declared.Formatted.{Formatted};
+ghost use Rattle.mewilovang.specs.Replies.{wordsOf, formattedReply, formattedOutcome, lookedReply, nextedReply, partReply, CountsFit, countsReply, changedReply, PutReplied, DeleteReplied};
+use geometry::Built;
+use geometry::Geometry;
+
+// The reason that the call is turned down for, or 0, and N.
+#[repr(C)]
+pub struct Formatted {
+    pub reason: u32,
+    pub limit: u32,
+}
+
+// The reason or 0, 1 or 0 for a key that is in the map or not, and its payload.
+#[repr(C)]
+pub struct Looked {
+    pub reason: u32,
+    pub found: u32,
+    pub payload: u32,
+}
+
+// The reason or 0, 1 or 0 if there is such a key or not, the key and its payload.
+#[repr(C)]
+pub struct Nexted {
+    pub reason: u32,
+    pub found: u32,
+    pub key: u32,
+    pub payload: u32,
+}
+
+// A part of the lent store, in words; both 0 for an empty part.
+#[repr(C)]
+pub struct Part {
+    pub start: usize,
+    pub length: usize,
+}
+
+// Merges into a level, blocks written by them, blocks written compacting it.
+#[repr(C)]
+pub struct Counts {
+    pub merges: u32,
+    pub written: u32,
+    pub compacted: u32,
+}
+
+// The reason or 0, 1 or 0 if the key was live before or not, and the counts of levels 1 to 3.
+#[repr(C)]
+pub struct Changed {
+    pub reason: u32,
+    pub live: u32,
+    pub level1: Counts,
+    pub level2: Counts,
+    pub level3: Counts,
+}
+
+fn format_reply(f: store::Formatted) -> Formatted
+    ensures { λ r. ⌜ r ≡ formattedReply (formatAnswer f) ⌝ }
+{
+    match f {
+        store::Formatted::Done(n) => Formatted {
+            reason: 0,
+            limit: n,
+        },
+        store::Formatted::Refused(n) => Formatted {
+            reason: n,
+            limit: 0,
+        },
+    }
+}
+
+fn look_reply(l: store::Looked) -> Looked
+    ensures { λ r. ⌜ r ≡ lookedReply (lookedAnswer l) ⌝ }
+{
+    match l {
+        store::Looked::Found(v) => Looked {
+            reason: 0,
+            found: 1,
+            payload: v,
+        },
+        store::Looked::Absent => Looked {
+            reason: 0,
+            found: 0,
+            payload: 0,
+        },
+        store::Looked::Refused(n) => Looked {
+            reason: n,
+            found: 0,
+            payload: 0,
+        },
+    }
+}
+
+fn next_reply(n: store::Nexted) -> Nexted
+    ensures { λ r. ⌜ r ≡ nextedReply (nextedAnswer n) ⌝ }
+{
+    match n {
+        store::Nexted::At(k, v) => Nexted {
+            reason: 0,
+            found: 1,
+            key: k,
+            payload: v,
+        },
+        store::Nexted::Nothing => Nexted {
+            reason: 0,
+            found: 0,
+            key: 0,
+            payload: 0,
+        },
+        store::Nexted::Refused(n) => Nexted {
+            reason: n,
+            found: 0,
+            key: 0,
+            payload: 0,
+        },
+    }
+}
+
+fn counts_reply(c: cascade::Counts) -> Counts
+    requires { ⌜ CountsFit (numbersOf c) ⌝ }
+    ensures { λ r. ⌜ r ≡ countsReply (numbersOf c) ⌝ }
+{
+    Counts {
+        merges: c.merges as u32,
+        written: c.written as u32,
+        compacted: c.compacted as u32,
+    }
+}
+
+fn change_reply(c: store::Changed) -> Changed
+    requires { ⌜ SumsFit (changedAnswer c) ⌝ }
+    ensures { λ r. ⌜ r ≡ changedReply (changedAnswer c) ⌝ }
+{
+    match c {
+        store::Changed::Refused(n) => {
+            let none = Counts {
+                merges: 0,
+                written: 0,
+                compacted: 0,
+            };
+            Changed {
+                reason: n,
+                live: 0,
+                level1: none,
+                level2: none,
+                level3: none,
+            }
+        }
+        store::Changed::Done(d) => {
+            let one = d.tally.one;
+            let two = d.tally.two;
+            let three = d.tally.three;
+            Changed {
+                reason: 0,
+                live: d.live as u32,
+                level1: counts_reply(one),
+                level2: counts_reply(two),
+                level3: counts_reply(three),
+            }
+        }
+    }
+}
+
+// The words that the layout needs, or 0 for a geometry that breaks a limit.
+#[no_mangle]
+pub extern "C" fn mewilovang_words(b: u32, w: u32, d: u32, g: u32, h: u32, p: u32) -> usize
+    ensures { λ r. ⌜ r ≡ wordsOf (record { b = b; w = w; d = d; g = g; h = h; p = p }) ⌝ }
+{
+    let Built::Legal(t) = Geometry::new(b, w, d, g, h, p) else {
+        return 0;
+    };
+    t.store_length()
+}
+
+#[no_mangle]
+pub extern "C" fn mewilovang_format(
+    store: &mut [u32],
+    b: u32,
+    w: u32,
+    d: u32,
+    g: u32,
+    h: u32,
+    p: u32,
+) -> Formatted
+    ensures { λ r. ⌜ _≡_ {A = Outcome Formatted} (record { answer = r; words = now (store .exit) })
+        (formattedOutcome (formatOf (now (store .entry)) (record { b = b; w = w; d = d; g = g; h = h; p = p }))) ⌝ }
+{
+    format_reply(store::format(store, b, w, d, g, h, p))
+}
+
+#[no_mangle]
+pub extern "C" fn mewilovang_check(store: &[u32]) -> u32
+    ensures { λ r. ⌜ r ≡ checkOf (now (store .entry)) ⌝ }
+{
+    store::check(store)
+}
+
+#[no_mangle]
+pub extern "C" fn mewilovang_look_up(store: &[u32], key: u32) -> Looked
+    ensures { λ r. ⌜ r ≡ lookedReply (lookUpOf (now (store .entry)) key) ⌝ }
+{
+    look_reply(store::look_up(store, key))
+}
+
+#[no_mangle]
+pub extern "C" fn mewilovang_next(store: &[u32], key: u32) -> Nexted
+    ensures { λ r. ⌜ r ≡ nextedReply (nextOf (now (store .entry)) key) ⌝ }
+{
+    next_reply(store::next(store, key))
+}
+
+#[no_mangle]
+pub extern "C" fn mewilovang_show(store: &[u32], level: u32, key: u32) -> Part
+    ensures { λ r. ⌜ r ≡ partReply (showPart (now (store .entry)) level key) ⌝ }
+{
+    let part = store::show_at(store, level, key);
+    Part {
+        start: part.start,
+        length: part.length,
+    }
+}
+
+#[no_mangle]
+pub extern "C" fn mewilovang_put(store: &mut [u32], key: u32, payload: u32) -> Changed
+    ensures { λ r. ⌜ PutReplied (now (store .entry)) key payload r (now (store .exit)) ⌝ }
+{
+    change_reply(store::put(store, key, payload))
+}
+
+#[no_mangle]
+pub extern "C" fn mewilovang_delete(store: &mut [u32], key: u32) -> Changed
+    ensures { λ r. ⌜ DeleteReplied (now (store .entry)) key r (now (store .exit)) ⌝ }
+{
+    change_reply(store::delete(store, key))
+}

@@ -1,0 +1,205 @@
+/*
+ * Mewilovang: the record store of a brake tester's console.
+ *
+ * Each brake test goes under its test number (the key) with a reading (the payload) into an array of 32-bit words that
+ * you lend to each call. Keys and payloads are any 32-bit numbers. The library keeps nothing between calls, takes no
+ * memory of its own but stack, reads no file and prints nothing: the words that you lend are the whole store.
+ *
+ * Link with target/staticlib/libmewilovang.a (x86-64 Linux). Of the C library it uses memcpy and memset alone.
+ *
+ *
+ * WHAT YOU LEND
+ *
+ *     store   the first word; aligned to 4 bytes, and never NULL, not even with 0 words
+ *     words   how many words there are; all of them can be read, and written in format, put and delete
+ *
+ * That is all that you have to see to. Whatever the words hold, noise or a damaged store, each call ends, touches no
+ * word outside of them, and does its work or turns the call down with one of the numbers below.
+ *
+ *
+ * WHY A CALL IS TURNED DOWN
+ *
+ *     0  it is not turned down
+ *     1  there are fewer than 12 words
+ *     2  the geometry, given to format or read from the store, breaks a limit
+ *     3  the number of words is not the one that the geometry needs (mewilovang_words)
+ *     4  the store is damaged: its form check finds a breach (all calls but format)
+ *     5  the store is full: a put of a test number that is not in it while it holds as many as it may (put only)
+ *
+ * They are looked for in this order, and the first that applies is the reason. A call that is turned down changes no
+ * word, and its answer has the number in `reason` and 0 in every other member.
+ *
+ * Every call but format and words makes the whole form check first. So a store that was damaged since the last call is
+ * found out, and no call answers from it. A damage that leaves a store of good form (a changed payload, say) cannot be
+ * seen: keep a checksum beside the store if you need one.
+ *
+ *
+ * GEOMETRY
+ *
+ *     b   records in a block                2 to 16
+ *     w   blocks in the window of level 0   1 to 16
+ *     d   windows in a level                2 to 16
+ *     g   growth from level to level        2 to 10
+ *     h   levels on flash                   1 to 3
+ *     p   places for blocks                 at most 8192
+ *
+ * Level i has room for K(i) = w * d * g^i blocks; level 0 is the small sorted level that puts go to first. Further limits:
+ *     K(h) is at most 1024;
+ *     p is at least 4 * (K(1) + .. + K(h)) + 8;
+ *     N = 4 * b * K(h) / 5 (rounded down) - b * (K(0) + .. + K(h-1)) is at least 1.
+ * N is the number of tests that the store holds at most. Some geometries, with the words that they need:
+ *
+ *      b   w   d   g   h      p       N    words
+ *      4   1   2   4   1     40      17      438
+ *     16   2   4   8   1    264     691     9316
+ *     16   4   4   4   3   8192    7731   280412
+ *
+ *
+ * THREADS
+ *
+ * There is no global state. Two threads may read one store at the same time (check, look_up, next, show). While format,
+ * put or delete runs on a store, no other thread may use that store. Different stores have nothing to do with each other.
+ *
+ *
+ * POWER LOSS
+ *
+ * If power is lost while format, put or delete runs, nothing is promised about the words: they may be damaged (4), or hold
+ * a store that passes and lacks tests. Keep a copy of the words from before the call where this can happen. Between calls
+ * the words are always a whole store.
+ *
+ *
+ * EXAMPLE (c/console.c has a longer one)
+ *
+ *     static uint32_t store[438];
+ *
+ *     if (mewilovang_words(4, 1, 2, 4, 1, 40) != 438) { .. }
+ *     mewilovang_format(store, 438, 4, 1, 2, 4, 1, 40);
+ *
+ *     mewilovang_changed put = mewilovang_put(store, 438, test, newtons);
+ *     if (put.reason != 0) { .. }
+ *
+ *     mewilovang_looked sheet = mewilovang_look_up(store, 438, test);
+ *     if (sheet.reason == 0 && sheet.found) { .. sheet.payload .. }
+ *
+ *     uint32_t from = 0;                                   // all tests, in the order of their numbers
+ *     for (;;) {
+ *         mewilovang_nexted next = mewilovang_next(store, 438, from);
+ *         if (next.reason != 0 || !next.found) break;
+ *         .. next.key .. next.payload ..
+ *         if (next.key == UINT32_MAX) break;
+ *         from = next.key + 1;
+ *     }
+ */
+#ifndef MEWILOVANG_H
+#define MEWILOVANG_H
+
+#include <stddef.h>
+#include <stdint.h>
+
+#ifdef __cplusplus
+extern "C" {
+#endif
+
+/*
+ * The bytes of stack to have free for each call, whatever the store: what c/stack.c measured, over stores of the largest
+ * geometries and calls with merges into every level, rounded up to a whole KiB, and 2 KiB more. What the dynamic loader
+ * takes where it looks memcpy and memset up at their first call is not in these numbers.
+ */
+#define MEWILOVANG_STACK_WORDS (3 * 1024)
+#define MEWILOVANG_STACK_FORMAT (3 * 1024)
+#define MEWILOVANG_STACK_CHECK (11 * 1024)
+#define MEWILOVANG_STACK_LOOK_UP (11 * 1024)
+#define MEWILOVANG_STACK_NEXT (12 * 1024)
+#define MEWILOVANG_STACK_SHOW (12 * 1024)
+#define MEWILOVANG_STACK_PUT (158 * 1024)
+#define MEWILOVANG_STACK_DELETE (158 * 1024)
+
+/* limit: N, the tests that the store holds at most. */
+typedef struct {
+    uint32_t reason, limit;
+} mewilovang_formatted;
+
+/* found: 1 if the test is in the store, else 0; payload: its reading, 0 if it is not. */
+typedef struct {
+    uint32_t reason, found, payload;
+} mewilovang_looked;
+
+/* found: 1 if there is such a test, else 0; key, payload: its number and reading, 0 if there is none. */
+typedef struct {
+    uint32_t reason, found, key, payload;
+} mewilovang_nexted;
+
+/* A part of the store: store[start] to store[start + length - 1]. Both are 0 for an empty part. */
+typedef struct {
+    size_t start, length;
+} mewilovang_part;
+
+/* Merges into a level, blocks written by them, blocks written compacting the level. */
+typedef struct {
+    uint32_t merges, written, compacted;
+} mewilovang_counts;
+
+/* live: 1 if the test was in the store before the call, else 0; then the counts of levels 1, 2 and 3, 0 above h. */
+typedef struct {
+    uint32_t reason, live;
+    mewilovang_counts level1, level2, level3;
+} mewilovang_changed;
+
+/* The words that a geometry needs, which is what you lend with it; 0 if it breaks a limit. At most 288524. */
+size_t mewilovang_words(uint32_t b, uint32_t w, uint32_t d, uint32_t g, uint32_t h, uint32_t p);
+
+/*
+ * An empty store of this geometry, whatever the words were before. Every word is written.
+ * Turned down for 1, 2 or 3.
+ */
+mewilovang_formatted mewilovang_format(uint32_t *store, size_t words, uint32_t b, uint32_t w, uint32_t d, uint32_t g,
+                                       uint32_t h, uint32_t p);
+
+/* The reason 1 to 4 that the store is turned down for, or 0. Changes no word. */
+uint32_t mewilovang_check(const uint32_t *store, size_t words);
+
+/* The reading of a test: of its last put. Changes no word. Turned down for 1 to 4. */
+mewilovang_looked mewilovang_look_up(const uint32_t *store, size_t words, uint32_t key);
+
+/* The test in the store with the smallest number at or above `key`. Changes no word. Turned down for 1 to 4. */
+mewilovang_nexted mewilovang_next(const uint32_t *store, size_t words, uint32_t key);
+
+/*
+ * Of a level, 1 to h, the block whose first to last key encloses `key`, if there is one, as that part of the store: 2 + 2b
+ * words, which are the number of its records, their delete marks (bit 0 for the first), b keys and b payloads, 0 where
+ * unused. An empty part if there is none, or the level is another number, or the store is turned down; ask check why.
+ * Changes no word.
+ */
+mewilovang_part mewilovang_show(const uint32_t *store, size_t words, uint32_t level, uint32_t key);
+
+/*
+ * The reading of a test, over the one that it had. If level 0 is full and does not have the test, blocks are merged
+ * downward first, and the answer counts them: a call writes few blocks or none, but a merge can set off others.
+ * Turned down for 1 to 5; 5 only for a test that is not in the store.
+ */
+mewilovang_changed mewilovang_put(uint32_t *store, size_t words, uint32_t key, uint32_t payload);
+
+/* A test out of the store. One that is not in it changes no word (reason 0, live 0). Merges as put. Turned down for 1 to 4. */
+mewilovang_changed mewilovang_delete(uint32_t *store, size_t words, uint32_t key);
+
+#if defined(__cplusplus) && __cplusplus >= 201103L
+#define MEWILOVANG_HOLDS(fact, text) static_assert(fact, text)
+#elif !defined(__cplusplus) && defined(__STDC_VERSION__) && __STDC_VERSION__ >= 201112L
+#define MEWILOVANG_HOLDS(fact, text) _Static_assert(fact, text)
+#endif
+#ifdef MEWILOVANG_HOLDS
+MEWILOVANG_HOLDS(sizeof(uint32_t) == 4 && sizeof(size_t) == 8, "the library is built for x86-64");
+MEWILOVANG_HOLDS(sizeof(mewilovang_formatted) == 8, "mewilovang_formatted has gaps");
+MEWILOVANG_HOLDS(sizeof(mewilovang_looked) == 12, "mewilovang_looked has gaps");
+MEWILOVANG_HOLDS(sizeof(mewilovang_nexted) == 16, "mewilovang_nexted has gaps");
+MEWILOVANG_HOLDS(sizeof(mewilovang_part) == 16, "mewilovang_part has gaps");
+MEWILOVANG_HOLDS(sizeof(mewilovang_counts) == 12, "mewilovang_counts has gaps");
+MEWILOVANG_HOLDS(sizeof(mewilovang_changed) == 44, "mewilovang_changed has gaps");
+#undef MEWILOVANG_HOLDS
+#endif
+
+#ifdef __cplusplus
+}
+#endif
+
+#endif

@@ -1,0 +1,19 @@
+// Links the archive that `rt staticlib mewilovang` leaves beside the crates.
+
+use std::env;
+use std::path::Path;
+
+fn main() {
+    let here = env::var("CARGO_MANIFEST_DIR").expect("cargo names the package's folder");
+    let folder = Path::new(&here).join("../target/staticlib");
+    let archive = folder.join("libmewilovang.a");
+    if !archive.exists() {
+        panic!(
+            "{} is missing: run `rt staticlib mewilovang` first",
+            archive.display()
+        );
+    }
+    println!("cargo:rustc-link-search=native={}", folder.display());
+    println!("cargo:rustc-link-lib=static=mewilovang");
+    println!("cargo:rerun-if-changed={}", archive.display());
+}

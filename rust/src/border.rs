@@ -1,0 +1,74 @@
+//! The functions and structs of `include/mewilovang.h`, member for member, for a caller that wants the numbers as they are.
+//!
+//! A function that takes a store is safe to call if `store` is not null, is aligned to 4 bytes, and `words` words from it
+//! on can be read, and written where it is `*mut`, with no other use of them during the call.
+
+#[repr(C)]
+#[derive(Clone, Copy, Debug, Default, PartialEq, Eq)]
+pub struct Formatted {
+    pub reason: u32,
+    pub limit: u32,
+}
+
+#[repr(C)]
+#[derive(Clone, Copy, Debug, Default, PartialEq, Eq)]
+pub struct Looked {
+    pub reason: u32,
+    pub found: u32,
+    pub payload: u32,
+}
+
+#[repr(C)]
+#[derive(Clone, Copy, Debug, Default, PartialEq, Eq)]
+pub struct Nexted {
+    pub reason: u32,
+    pub found: u32,
+    pub key: u32,
+    pub payload: u32,
+}
+
+#[repr(C)]
+#[derive(Clone, Copy, Debug, Default, PartialEq, Eq)]
+pub struct Part {
+    pub start: usize,
+    pub length: usize,
+}
+
+/// Merges into a level, blocks written by them, blocks written compacting the level.
+#[repr(C)]
+#[derive(Clone, Copy, Debug, Default, PartialEq, Eq)]
+pub struct Counts {
+    pub merges: u32,
+    pub written: u32,
+    pub compacted: u32,
+}
+
+#[repr(C)]
+#[derive(Clone, Copy, Debug, Default, PartialEq, Eq)]
+pub struct Changed {
+    pub reason: u32,
+    pub live: u32,
+    pub level1: Counts,
+    pub level2: Counts,
+    pub level3: Counts,
+}
+
+extern "C" {
+    pub fn mewilovang_words(b: u32, w: u32, d: u32, g: u32, h: u32, p: u32) -> usize;
+    pub fn mewilovang_format(
+        store: *mut u32,
+        words: usize,
+        b: u32,
+        w: u32,
+        d: u32,
+        g: u32,
+        h: u32,
+        p: u32,
+    ) -> Formatted;
+    pub fn mewilovang_check(store: *const u32, words: usize) -> u32;
+    pub fn mewilovang_look_up(store: *const u32, words: usize, key: u32) -> Looked;
+    pub fn mewilovang_next(store: *const u32, words: usize, key: u32) -> Nexted;
+    pub fn mewilovang_show(store: *const u32, words: usize, level: u32, key: u32) -> Part;
+    pub fn mewilovang_put(store: *mut u32, words: usize, key: u32, payload: u32) -> Changed;
+    pub fn mewilovang_delete(store: *mut u32, words: usize, key: u32) -> Changed;
+}

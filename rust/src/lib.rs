@@ -1,0 +1,175 @@
+//! The record store of a brake tester's console: test numbers (keys) with readings (payloads) in a slice of words that
+//! the caller lends to each call. `include/mewilovang.h` tells what each call does, which geometries there are, and how
+//! much stack a call needs; this crate is the same in Rust's types.
+//!
+//! Every slice of any length and content may be lent. A call does its work, or is turned down with a [`Refusal`] and
+//! leaves every word as it was.
+//!
+//! ```
+//! use mewilovang::Geometry;
+//!
+//! let geometry = Geometry { b: 4, w: 1, d: 2, g: 4, h: 1, p: 40 };
+//! let mut store = vec![0; geometry.words().unwrap()];
+//! assert_eq!(mewilovang::format(&mut store, geometry), Ok(17));
+//! assert!(!mewilovang::put(&mut store, 10, 2400).unwrap().live);
+//! assert_eq!(mewilovang::look_up(&store, 10), Ok(Some(2400)));
+//! assert_eq!(mewilovang::next(&store, 11), Ok(None));
+//! ```
+
+pub mod border;
+
+pub use border::Counts;
+
+/// The six numbers of a store; the limits are in `mewilovang.h`.
+#[derive(Clone, Copy, Debug, PartialEq, Eq)]
+pub struct Geometry {
+    /// Records in a block.
+    pub b: u32,
+    /// Blocks in the window of level 0.
+    pub w: u32,
+    /// Windows in a level.
+    pub d: u32,
+    /// Growth from level to level.
+    pub g: u32,
+    /// Levels on flash.
+    pub h: u32,
+    /// Places for blocks.
+    pub p: u32,
+}
+
+impl Geometry {
+    /// The words that a store of this geometry needs, no more and no fewer; `None` if it breaks a limit.
+    pub fn words(self) -> Option<usize> {
+        // Safe: takes numbers only.
+        match unsafe { border::mewilovang_words(self.b, self.w, self.d, self.g, self.h, self.p) } {
+            0 => None,
+            n => Some(n),
+        }
+    }
+}
+
+/// Why a call is turned down. They are looked for in this order.
+#[derive(Clone, Copy, Debug, PartialEq, Eq)]
+pub enum Refusal {
+    /// Fewer than 12 words.
+    Short = 1,
+    /// The geometry, given to [`format`] or read from the store, breaks a limit.
+    Geometry = 2,
+    /// The number of words is not the one that the geometry needs.
+    Length = 3,
+    /// The form check finds a breach: the store is damaged. Never from [`format`].
+    Damaged = 4,
+    /// A put of a key that is not in the store while it holds as many as it may.
+    Full = 5,
+}
+
+impl Refusal {
+    /// The number 1 to 5 that the specification has for it.
+    pub fn number(self) -> u32 {
+        self as u32
+    }
+}
+
+impl std::fmt::Display for Refusal {
+    fn fmt(&self, f: &mut std::fmt::Formatter<'_>) -> std::fmt::Result {
+        f.write_str(match self {
+            Refusal::Short => "fewer than 12 words",
+            Refusal::Geometry => "the geometry breaks a limit",
+            Refusal::Length => "not the words that the geometry needs",
+            Refusal::Damaged => "the store is damaged",
+            Refusal::Full => "the store is full",
+        })
+    }
+}
+
+impl std::error::Error for Refusal {}
+
+/// What a put or delete did.
+#[derive(Clone, Copy, Debug, PartialEq, Eq)]
+pub struct Change {
+    /// The key was in the store before the call.
+    pub live: bool,
+    /// The counts of levels 1, 2 and 3; zeros above h.
+    pub levels: [Counts; 3],
+}
+
+/// A key in the store with its payload.
+#[derive(Clone, Copy, Debug, PartialEq, Eq)]
+pub struct Record {
+    pub key: u32,
+    pub payload: u32,
+}
+
+/// An empty store of this geometry, whatever the words were; the number of keys that it holds at most.
+pub fn format(store: &mut [u32], geometry: Geometry) -> Result<u32, Refusal> {
+    let Geometry { b, w, d, g, h, p } = geometry;
+    // Safe here and below: pointer and length are those of a slice, lent for the call, to be written where it is `&mut`.
+    let a = unsafe { border::mewilovang_format(store.as_mut_ptr(), store.len(), b, w, d, g, h, p) };
+    accepted(a.reason)?;
+    Ok(a.limit)
+}
+
+/// If the store is whole.
+pub fn check(store: &[u32]) -> Result<(), Refusal> {
+    accepted(unsafe { border::mewilovang_check(store.as_ptr(), store.len()) })
+}
+
+/// The payload of a key, if the key is in the store.
+pub fn look_up(store: &[u32], key: u32) -> Result<Option<u32>, Refusal> {
+    let a = unsafe { border::mewilovang_look_up(store.as_ptr(), store.len(), key) };
+    accepted(a.reason)?;
+    Ok((a.found == 1).then_some(a.payload))
+}
+
+/// The record with the smallest key at or above `key`, if there is one.
+pub fn next(store: &[u32], key: u32) -> Result<Option<Record>, Refusal> {
+    let a = unsafe { border::mewilovang_next(store.as_ptr(), store.len(), key) };
+    accepted(a.reason)?;
+    Ok((a.found == 1).then_some(Record {
+        key: a.key,
+        payload: a.payload,
+    }))
+}
+
+/// Of a level, 1 to h, the words of the block whose first to last key encloses `key`: record count, marks, keys, payloads.
+/// Empty if there is none, or the level is another number, or the store is turned down.
+pub fn show(store: &[u32], level: u32, key: u32) -> &[u32] {
+    let part = show_at(store, level, key);
+    &store[part]
+}
+
+/// Where these words lie in the store.
+pub fn show_at(store: &[u32], level: u32, key: u32) -> std::ops::Range<usize> {
+    let a = unsafe { border::mewilovang_show(store.as_ptr(), store.len(), level, key) };
+    a.start..a.start + a.length
+}
+
+/// A payload for a key, over the one that it had.
+pub fn put(store: &mut [u32], key: u32, payload: u32) -> Result<Change, Refusal> {
+    change(unsafe { border::mewilovang_put(store.as_mut_ptr(), store.len(), key, payload) })
+}
+
+/// A key out of the store. One that is not in it changes nothing, and `live` is false.
+pub fn delete(store: &mut [u32], key: u32) -> Result<Change, Refusal> {
+    change(unsafe { border::mewilovang_delete(store.as_mut_ptr(), store.len(), key) })
+}
+
+fn accepted(reason: u32) -> Result<(), Refusal> {
+    match reason {
+        0 => Ok(()),
+        1 => Err(Refusal::Short),
+        2 => Err(Refusal::Geometry),
+        3 => Err(Refusal::Length),
+        4 => Err(Refusal::Damaged),
+        5 => Err(Refusal::Full),
+        other => unreachable!("the library has no reason {other}"),
+    }
+}
+
+fn change(a: border::Changed) -> Result<Change, Refusal> {
+    accepted(a.reason)?;
+    Ok(Change {
+        live: a.live == 1,
+        levels: [a.level1, a.level2, a.level3],
+    })
+}
