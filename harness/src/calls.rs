@@ -1,6 +1,6 @@
 //! The eight calls as values, and who answers them.
 
-use crate::border as c;
+use mewilovang::border as c;
 use reference::{calls as plain, fast, geometry::Geometry};
 
 /// A call with its arguments.

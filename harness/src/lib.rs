@@ -2,7 +2,6 @@
 //! implementations of `reference`: `damage` looks for a difference on damaged
 //! stores, `bench` compares times.
 
-pub mod border;
 pub mod calls;
 pub mod compare;
 pub mod harm;
