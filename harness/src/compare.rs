@@ -157,19 +157,29 @@ impl Bench {
             return Err(Difference::Answer { call, got, right });
         }
         let unchanged = call.only_reads() || right.reason() != 0;
-        if unchanged {
-            if let Some(at) = first_difference(self.words(), &self.entry) {
-                let (got, entry) = (self.words()[at], self.entry[at]);
-                return Err(Difference::Touched {
-                    call,
-                    at,
-                    got,
-                    entry,
-                });
-            }
+        self.same_words(call, unchanged)?;
+        if !unchanged {
+            self.right.copy_from_slice(&self.entry);
+            self.lent[GUARDS..GUARDS + words].copy_from_slice(&self.entry);
         }
-        if let Some(at) = first_difference(self.words(), &self.right) {
-            let (got, right) = (self.words()[at], self.right[at]);
+        Ok(right)
+    }
+
+    /// Every lent word is as the reference has it, and where the call is to change
+    /// nothing, as it was at entry.
+    fn same_words(&self, call: Call, unchanged: bool) -> Result<(), Difference> {
+        let words = self.words();
+        if let Some(at) = first_difference(words, &self.entry).filter(|_| unchanged) {
+            let (got, entry) = (words[at], self.entry[at]);
+            return Err(Difference::Touched {
+                call,
+                at,
+                got,
+                entry,
+            });
+        }
+        if let Some(at) = first_difference(words, &self.right) {
+            let (got, right) = (words[at], self.right[at]);
             return Err(Difference::Word {
                 call,
                 at,
@@ -177,11 +187,7 @@ impl Bench {
                 right,
             });
         }
-        if !unchanged {
-            self.right.copy_from_slice(&self.entry);
-            self.lent[GUARDS..GUARDS + words].copy_from_slice(&self.entry);
-        }
-        Ok(right)
+        Ok(())
     }
 
     /// Both implementations of the reference on the store as it was loaded.

@@ -65,12 +65,11 @@ pub struct Planted<S> {
     pub fault: Fault,
 }
 
-impl<S: Store> Store for Planted<S> {
-    unsafe fn call(&self, lent: *mut u32, words: usize, call: Call) -> Answer {
+impl Fault {
+    /// The answer that the fault makes of the right one.
+    fn answer(self, call: Call, right: Answer) -> Answer {
         use Fault::*;
-        let last = (words > 0).then(|| *lent.add(words - 1));
-        let right = self.store.call(lent, words, call);
-        match (self.fault, call, right) {
+        match (self, call, right) {
             (CheckLenient, Call::Check, Answer::Checked(4)) => Answer::Checked(0),
             (CheckOrder, Call::Check, Answer::Checked(3)) => Answer::Checked(4),
             (LookUpPayload, _, Answer::Looked([0, 1, payload])) => {
@@ -83,40 +82,42 @@ impl<S: Store> Store for Planted<S> {
                 Answer::Part(start + 1, length)
             }
             (WordsMore, _, Answer::Words(words)) if words > 0 => Answer::Words(words + 1),
-            (FormatLeaves, _, Answer::Formatted([0, _])) => {
-                *lent.add(words - 1) = last.unwrap_or(0);
-                right
-            }
             (PutCounts, Call::Put(..), Answer::Changed(mut numbers)) => {
                 numbers[2] = 0;
                 Answer::Changed(numbers)
-            }
-            (PutWord, Call::Put(key, payload), Answer::Changed([0, ..])) => {
-                self.store.call(lent, words, Call::Put(key, payload ^ 1));
-                right
-            }
-            (RefusedPutWrites, Call::Put(..), Answer::Changed([4, ..])) => {
-                *lent.add(words - 1) ^= 1;
-                right
             }
             (DeleteLive, Call::Delete(_), Answer::Changed([0, 0, ..])) => {
                 let mut numbers = [0; 11];
                 numbers[1] = 1;
                 Answer::Changed(numbers)
             }
-            (LookUpWrites, Call::LookUp(_), Answer::Looked([0, ..])) => {
-                *lent.add(words - 1) ^= 1 << 31;
-                right
-            }
-            (CheckWritesBehind, Call::Check, _) => {
-                *lent.add(words) ^= 1;
-                right
-            }
-            (DeleteWritesBefore, Call::Delete(_), _) => {
-                *lent.sub(1) ^= 1;
-                right
-            }
             _ => right,
         }
+    }
+}
+
+impl<S: Store> Store for Planted<S> {
+    unsafe fn call(&self, lent: *mut u32, words: usize, call: Call) -> Answer {
+        use Fault::*;
+        let last = (words > 0).then(|| *lent.add(words - 1));
+        let right = self.store.call(lent, words, call);
+        match (self.fault, call, right) {
+            (FormatLeaves, _, Answer::Formatted([0, _])) => {
+                *lent.add(words - 1) = last.unwrap_or(0);
+            }
+            (PutWord, Call::Put(key, payload), Answer::Changed([0, ..])) => {
+                self.store.call(lent, words, Call::Put(key, payload ^ 1));
+            }
+            (RefusedPutWrites, Call::Put(..), Answer::Changed([4, ..])) => {
+                *lent.add(words - 1) ^= 1;
+            }
+            (LookUpWrites, Call::LookUp(_), Answer::Looked([0, ..])) => {
+                *lent.add(words - 1) ^= 1 << 31;
+            }
+            (CheckWritesBehind, Call::Check, _) => *lent.add(words) ^= 1,
+            (DeleteWritesBefore, Call::Delete(_), _) => *lent.sub(1) ^= 1,
+            _ => {}
+        }
+        self.fault.answer(call, right)
     }
 }

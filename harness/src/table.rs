@@ -1,9 +1,9 @@
 //! The table of `bench`.
 
-use crate::measure::{median, words_read, Rounds};
+use crate::measure::{mean, words_read, Rounds, Subject};
 use reference::geometry::Geometry;
 
-/// Medians of one geometry as ratios; times are in microseconds.
+/// What was measured of one geometry: ratios, and times in microseconds.
 pub struct Row {
     geometry: Geometry,
     words: usize,
@@ -14,69 +14,52 @@ pub struct Row {
     check_fast: f64,
     look_up: f64,
     next: f64,
-    put_plain: f64,
+    put_still: f64,
     put_merging: f64,
     put_worst: f64,
     put_mean: f64,
     put_fast: f64,
-    /// Microseconds of check before and for the count of live keys, of the library
-    /// and of the baseline.
+    /// Check before and for the count of live keys, of the library and of the
+    /// baseline.
     parts: [[f64; 2]; 2],
     /// Puts with merges, and merges in all.
     merging: usize,
     merges: u32,
 }
 
-/// The median over the rounds of one time as a share of another.
-fn ratio(times: &[f64], over: &[f64]) -> f64 {
-    let each: Vec<f64> = times.iter().zip(over).map(|(a, b)| a / b).collect();
-    median(&each)
-}
-
-/// The time without the count of live keys and that of the count.
-fn parts(form: &[f64], check: &[f64]) -> [f64; 2] {
-    let (form, check) = (median(form) / 1000.0, median(check) / 1000.0);
-    [form, check - form]
-}
-
-/// The mean of some numbers, 0 of none.
-fn mean(numbers: impl Iterator<Item = f64>) -> f64 {
-    let numbers: Vec<f64> = numbers.collect();
-    numbers.iter().sum::<f64>() / numbers.len().max(1) as f64
+/// Microseconds of check without the count of live keys and of the count.
+fn parts(subject: &Subject) -> [f64; 2] {
+    let (rules, check) = (subject.rules.mean(), subject.check.mean());
+    [rules / 1000.0, (check - rules) / 1000.0]
 }
 
 impl Row {
-    /// The ratios of these rounds.
+    /// The figures of these rounds.
     pub fn new(rounds: &Rounds) -> Row {
-        let check = median(&rounds.check);
-        let times = rounds.put.times();
-        let merges = &rounds.put.merges;
+        let (library, fast) = (&rounds.library, &rounds.fast);
+        let (pass, check) = (library.pass.mean(), library.check.mean());
+        let (puts, merges) = (library.put.medians(), &library.merges);
         let of = |merging: bool| {
-            let both = times.iter().zip(merges);
-            mean(
-                both.filter(move |&(_, &merges)| (merges > 0) == merging)
-                    .map(|(&time, _)| time),
-            )
+            let both = puts.iter().zip(merges);
+            let some = both.filter(|&(_, &merges)| (merges > 0) == merging);
+            mean(&some.map(|(&time, _)| time).collect::<Vec<_>>())
         };
         Row {
             geometry: rounds.geometry,
             words: words_read(rounds.geometry, &rounds.store),
-            rounds: rounds.check.len(),
-            pass_time: median(&rounds.pass) / 1000.0,
+            rounds: rounds.number,
+            pass_time: pass / 1000.0,
             check_time: check / 1000.0,
-            check_pass: ratio(&rounds.check, &rounds.pass),
-            check_fast: ratio(&rounds.check, &rounds.fast_check),
-            look_up: ratio(&rounds.look_up, &rounds.check),
-            next: ratio(&rounds.next, &rounds.check),
-            put_plain: of(false) / check,
+            check_pass: check / pass,
+            check_fast: check / fast.check.mean(),
+            look_up: library.look_up.mean() / check,
+            next: library.next.mean() / check,
+            put_still: of(false) / check,
             put_merging: of(true) / check,
-            put_worst: times.iter().copied().fold(0.0, f64::max) / check,
-            put_mean: mean(times.iter().copied()) / check,
-            put_fast: mean(times.iter().copied()) / mean(rounds.fast_put.times().into_iter()),
-            parts: [
-                parts(&rounds.form, &rounds.check),
-                parts(&rounds.fast_form, &rounds.fast_check),
-            ],
+            put_worst: puts.iter().copied().fold(0.0, f64::max) / check,
+            put_mean: mean(&puts) / check,
+            put_fast: mean(&puts) / fast.put.mean(),
+            parts: [parts(library), parts(fast)],
             merging: merges.iter().filter(|&&merges| merges > 0).count(),
             merges: merges.iter().sum(),
         }
@@ -95,7 +78,7 @@ impl Row {
             self.check_fast,
             self.look_up,
             self.next,
-            self.put_plain,
+            self.put_still,
             self.put_merging,
             self.put_worst,
             self.put_mean,
@@ -105,9 +88,7 @@ impl Row {
         let counts = [self.geometry.key_limit(), self.words, self.rounds];
         cells.extend(counts.map(|count| count.to_string()));
         cells.extend(times.iter().chain(&ratios).map(|n| format!("{n:.2}")));
-        if let Ok(cells) = <[String; 15]>::try_from(cells) {
-            line(cells);
-        }
+        line(cells.into_iter());
     }
 
     /// The aims with what was measured, and whether each is met.
@@ -122,49 +103,23 @@ impl Row {
     }
 }
 
+/// The two lines of the table's head and the one of the aims, columns parted by a
+/// comma.
+const HEAD: [&str; 2] = [
+    ",,,,plain,,check/,check/,look up,next/,put,put,put,put,put/",
+    "B w d G h P,N,words,rounds,pass,check,pass,fast,/check,check,still,merging,worst,mean,fast",
+];
+const AIMS: &str = "aim at most,,,,,,10.00,1.20,1.10,,,,,2.00,";
+
 /// Prints the table, and which aims are met at the largest geometries.
 pub fn print(rows: &[Row]) {
-    println!("Full stores, live = N. Words: what check must read. Times in microseconds, all");
-    println!("else ratios of medians. Put: of a key in the map, at a level 0 in steady state.\n");
-    line([
-        "", "", "", "", "plain", "", "check/", "check/", "look up", "next/", "put", "put", "put",
-        "put", "put/",
-    ]);
-    line([
-        "B w d G h P",
-        "N",
-        "words",
-        "rounds",
-        "pass",
-        "check",
-        "pass",
-        "fast",
-        "/check",
-        "check",
-        "still",
-        "merging",
-        "worst",
-        "mean",
-        "fast",
-    ]);
+    println!("Full stores, live = N, level 0 in steady state, all warm. Words: what check must");
+    println!("read. Pass and check in microseconds, all else ratios of medians.\n");
+    for text in HEAD {
+        line(text.split(','));
+    }
     rows.iter().for_each(Row::print);
-    line([
-        "aim, at most",
-        "",
-        "",
-        "",
-        "",
-        "",
-        "10.00",
-        "1.20",
-        "1.10",
-        "",
-        "",
-        "",
-        "",
-        "2.00",
-        "",
-    ]);
+    line(AIMS.split(','));
     println!("\nPut as a share of check: still are the puts without a merge, merging those with,");
     println!("worst the slowest, mean all of them. Last column: the library's mean put as a");
     println!("share of that of the fast baseline.");
@@ -179,20 +134,25 @@ pub fn print(rows: &[Row]) {
 }
 
 /// One line of the table.
-fn line<T: AsRef<str>>(cells: [T; 15]) {
+fn line<T: AsRef<str>>(cells: impl Iterator<Item = T>) {
     let bars = [4, 6, 8, 10, 14];
-    let mut text = format!("{:<20}", cells[0].as_ref());
-    for (column, cell) in cells.iter().enumerate().skip(1) {
+    let mut text = String::new();
+    for (column, cell) in cells.enumerate() {
         let bar = if bars.contains(&column) { " |" } else { "" };
-        text += &format!("{bar} {:>7}", cell.as_ref());
+        text += &match column {
+            0 => format!("{:<20}", cell.as_ref()),
+            _ => format!("{bar} {:>7}", cell.as_ref()),
+        };
     }
     println!("{text}");
 }
 
 /// Where check spends its time, and how many puts had merges.
 fn print_parts(rows: &[Row]) {
-    println!("\nCheck in parts, in microseconds (the rules but live are timed on the store with a");
-    println!("breach in its last block); puts with merges, and merges.\n");
+    println!(
+        "\nCheck in parts, in microseconds: all rules but live (timed with a breach in the last"
+    );
+    println!("block), and the count of live keys. Then the puts with merges, and their merges.\n");
     println!(
         "{:<20} {:>9} {:>9} {:>6} | {:>9} {:>9} {:>6} | {:>8} {:>8}",
         "", "rules", "fast", "ratio", "live", "fast", "ratio", "merging", "merges"
