@@ -16,6 +16,7 @@ pub mod breach;
 pub mod calls;
 pub mod choose;
 pub mod damage;
+pub mod fast;
 mod fault;
 pub mod form;
 pub mod generate;

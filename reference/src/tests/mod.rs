@@ -3,6 +3,7 @@
 
 mod checker;
 mod damage;
+mod fast;
 mod faults;
 mod figures;
 mod geometry;

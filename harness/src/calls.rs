@@ -1,0 +1,242 @@
+//! The eight calls as values, and who answers them.
+
+use mewilovang::border as c;
+use reference::{calls as plain, fast, geometry::Geometry};
+
+/// A call with its arguments.
+#[derive(Clone, Copy, Debug, PartialEq, Eq)]
+pub enum Call {
+    Words([u32; 6]),
+    Format([u32; 6]),
+    Check,
+    LookUp(u32),
+    Next(u32),
+    Show(u32, u32),
+    Put(u32, u32),
+    Delete(u32),
+}
+
+impl Call {
+    /// Whether the call never changes a lent word.
+    pub fn only_reads(self) -> bool {
+        !matches!(self, Call::Format(_) | Call::Put(..) | Call::Delete(_))
+    }
+}
+
+/// An answer. Where it has a reason, that is its first number.
+#[derive(Clone, Copy, Debug, PartialEq, Eq)]
+pub enum Answer {
+    Words(usize),
+    Formatted([u32; 2]),
+    Checked(u32),
+    Looked([u32; 3]),
+    Nexted([u32; 4]),
+    Part(usize, usize),
+    /// Reason, live, and the counts of levels 1 to 3.
+    Changed([u32; 11]),
+}
+
+impl Answer {
+    /// The reason that the call was turned down for; none of words and show.
+    pub fn reason(self) -> u32 {
+        match self {
+            Answer::Words(_) | Answer::Part(..) => 0,
+            Answer::Formatted(numbers) => numbers[0],
+            Answer::Checked(reason) => reason,
+            Answer::Looked(numbers) => numbers[0],
+            Answer::Nexted(numbers) => numbers[0],
+            Answer::Changed(numbers) => numbers[0],
+        }
+    }
+
+    /// Merges of a put or delete.
+    pub fn merges(self) -> u32 {
+        match self {
+            Answer::Changed(numbers) => numbers[2] + numbers[5] + numbers[8],
+            _ => 0,
+        }
+    }
+}
+
+/// A store that answers calls on `words` words from `lent` on.
+pub trait Store {
+    /// # Safety
+    /// The words are the caller's to read and to write.
+    unsafe fn call(&self, lent: *mut u32, words: usize, call: Call) -> Answer;
+}
+
+/// The verified store, over the static library.
+pub struct Library;
+
+impl Store for Library {
+    unsafe fn call(&self, lent: *mut u32, words: usize, call: Call) -> Answer {
+        match call {
+            Call::Words([b, w, d, g, h, p]) => Answer::Words(c::mewilovang_words(b, w, d, g, h, p)),
+            Call::Format([b, w, d, g, h, p]) => {
+                let a = c::mewilovang_format(lent, words, b, w, d, g, h, p);
+                Answer::Formatted([a.reason, a.limit])
+            }
+            Call::Check => Answer::Checked(c::mewilovang_check(lent, words)),
+            Call::LookUp(key) => {
+                let a = c::mewilovang_look_up(lent, words, key);
+                Answer::Looked([a.reason, a.found, a.payload])
+            }
+            Call::Next(key) => {
+                let a = c::mewilovang_next(lent, words, key);
+                Answer::Nexted([a.reason, a.found, a.key, a.payload])
+            }
+            Call::Show(level, key) => {
+                let a = c::mewilovang_show(lent, words, level, key);
+                Answer::Part(a.start, a.length)
+            }
+            Call::Put(key, payload) => changed(c::mewilovang_put(lent, words, key, payload)),
+            Call::Delete(key) => changed(c::mewilovang_delete(lent, words, key)),
+        }
+    }
+}
+
+/// The verified store, by the functions of the Rust package.
+pub struct Package;
+
+impl Store for Package {
+    unsafe fn call(&self, lent: *mut u32, words: usize, call: Call) -> Answer {
+        let read = || std::slice::from_raw_parts(lent, words);
+        let write = || std::slice::from_raw_parts_mut(lent, words);
+        match call {
+            Call::Words(numbers) => Answer::Words(six(numbers).words().unwrap_or(0)),
+            Call::Format(numbers) => {
+                let answer = mewilovang::format(write(), six(numbers));
+                Answer::Formatted(answer.map_or_else(refused, |limit| [0, limit]))
+            }
+            Call::Check => {
+                Answer::Checked(mewilovang::check(read()).map_or_else(|no| no.number(), |()| 0))
+            }
+            Call::LookUp(key) => {
+                let found = |found: Option<u32>| [0, found.is_some().into(), found.unwrap_or(0)];
+                let answer = mewilovang::look_up(read(), key);
+                Answer::Looked(answer.map_or_else(refused, found))
+            }
+            Call::Next(key) => {
+                let found = |found: Option<mewilovang::Record>| match found {
+                    Some(record) => [0, 1, record.key, record.payload],
+                    None => [0; 4],
+                };
+                let answer = mewilovang::next(read(), key);
+                Answer::Nexted(answer.map_or_else(refused, found))
+            }
+            Call::Show(level, key) => part(read(), mewilovang::show(read(), level, key)),
+            Call::Put(key, payload) => done(mewilovang::put(write(), key, payload)),
+            Call::Delete(key) => done(mewilovang::delete(write(), key)),
+        }
+    }
+}
+
+/// The package's geometry of six numbers.
+fn six([b, w, d, g, h, p]: [u32; 6]) -> mewilovang::Geometry {
+    mewilovang::Geometry { b, w, d, g, h, p }
+}
+
+/// A refused call: "the answer has only the number and zeros".
+fn refused<const N: usize>(refusal: mewilovang::Refusal) -> [u32; N] {
+    let mut numbers = [0; N];
+    numbers[0] = refusal.number();
+    numbers
+}
+
+/// The numbers of an answer of the package.
+fn done(answer: Result<mewilovang::Change, mewilovang::Refusal>) -> Answer {
+    let numbers = |change: mewilovang::Change| {
+        let [x, y, z] = change.levels.map(|l| [l.merges, l.written, l.compacted]);
+        let live = change.live.into();
+        [
+            0, live, x[0], x[1], x[2], y[0], y[1], y[2], z[0], z[1], z[2],
+        ]
+    };
+    Answer::Changed(answer.map_or_else(refused, numbers))
+}
+
+/// Where a part of a store lies; an empty one is at 0.
+fn part(whole: &[u32], part: &[u32]) -> Answer {
+    match part.len() {
+        0 => Answer::Part(0, 0),
+        n => Answer::Part((part.as_ptr() as usize - whole.as_ptr() as usize) / 4, n),
+    }
+}
+
+/// The numbers of a put's or delete's answer.
+fn changed(a: c::Changed) -> Answer {
+    let [x, y, z] = [a.level1, a.level2, a.level3].map(|l| [l.merges, l.written, l.compacted]);
+    Answer::Changed([
+        a.reason, a.live, x[0], x[1], x[2], y[0], y[1], y[2], z[0], z[1], z[2],
+    ])
+}
+
+/// The numbers of an answer of the reference.
+fn told(a: plain::Changed) -> Answer {
+    let mut numbers = [
+        a.refusal,
+        u32::from(a.live_before),
+        0,
+        0,
+        0,
+        0,
+        0,
+        0,
+        0,
+        0,
+        0,
+    ];
+    for (level, counts) in a.levels.iter().enumerate() {
+        let all = [counts.merges, counts.merge_writes, counts.compaction_writes];
+        numbers[2 + 3 * level..5 + 3 * level].copy_from_slice(&all);
+    }
+    Answer::Changed(numbers)
+}
+
+/// Which implementation of the reference says what is right.
+#[derive(Clone, Copy, Debug, PartialEq, Eq)]
+pub enum Oracle {
+    Plain,
+    Fast,
+}
+
+impl Oracle {
+    /// The answer, with the words changed as they are to be.
+    pub fn call(self, words: &mut [u32], call: Call) -> Answer {
+        let plain = self == Oracle::Plain;
+        match call {
+            Call::Words(numbers) => {
+                Answer::Words(Geometry::new(numbers).map_or(0, Geometry::length))
+            }
+            Call::Format(numbers) => {
+                let a = match self {
+                    Oracle::Plain => plain::format(words, numbers),
+                    Oracle::Fast => fast::format(words, numbers),
+                };
+                Answer::Formatted([a.refusal, a.limit])
+            }
+            Call::Check if plain => Answer::Checked(plain::check(words)),
+            Call::Check => Answer::Checked(fast::check(words)),
+            Call::LookUp(key) => {
+                let a = match self {
+                    Oracle::Plain => plain::look_up(words, key),
+                    Oracle::Fast => fast::look_up(words, key),
+                };
+                Answer::Looked([a.refusal, a.found.into(), a.payload])
+            }
+            Call::Next(key) => {
+                let a = match self {
+                    Oracle::Plain => plain::next(words, key),
+                    Oracle::Fast => fast::next(words, key),
+                };
+                Answer::Nexted([a.refusal, a.found.into(), a.key, a.payload])
+            }
+            Call::Show(level, key) if plain => part(words, plain::show(words, level, key)),
+            Call::Show(level, key) => part(words, fast::show(words, level, key)),
+            Call::Put(key, payload) if plain => told(plain::put(words, key, payload)),
+            Call::Put(key, payload) => told(fast::put(words, key, payload)),
+            Call::Delete(key) if plain => told(plain::delete(words, key)),
+            Call::Delete(key) => told(fast::delete(words, key)),
+        }
+    }
+}

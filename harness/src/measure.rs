@@ -1,0 +1,256 @@
+//! The measurements of `bench`. In each round a list of puts runs on a copy of the
+//! store, and between them the reading calls on the store as it then stands. So all
+//! calls meet the same stores, warm caches and a branch predictor that knows them,
+//! and what else the machine does meets all alike. Medians over the rounds count.
+
+use crate::calls::{Answer, Call, Library, Oracle, Store};
+use reference::fast;
+use reference::geometry::Geometry;
+use reference::layout::COUNTS;
+use reference::random::Random;
+use std::hint::black_box;
+use std::time::{Duration, Instant};
+
+/// Rounds at least and at most.
+const FEWEST: usize = 5;
+const MOST: usize = 400;
+/// Puts before the measured ones, to get warm.
+const WARMING: usize = 64;
+/// The reading calls are measured before every so many puts.
+const APART: usize = 4;
+
+/// A store with N keys and a level 0 in steady state, and its keys: filled by puts
+/// of random keys, then as many calls that overwrite or replace a key.
+pub fn full_store(geometry: Geometry) -> (Vec<u32>, Vec<u32>) {
+    let mut random = Random::new(1);
+    let mut store = vec![0; geometry.length()];
+    fast::format(&mut store, geometry.numbers());
+    let mut keys = Vec::new();
+    let add = |random: &mut Random, store: &mut [u32]| loop {
+        let key = random.word();
+        let answer = fast::put(store, key, !key);
+        if answer.refusal == 0 && !answer.live_before {
+            return key;
+        }
+    };
+    while keys.len() < geometry.key_limit() {
+        keys.push(add(&mut random, &mut store));
+    }
+    for _ in 0..keys.len() {
+        let index = random.below(keys.len());
+        if random.one_in(2) {
+            fast::put(&mut store, keys[index], random.word());
+        } else {
+            fast::delete(&mut store, keys[index]);
+            keys[index] = add(&mut random, &mut store);
+        }
+    }
+    (store, keys)
+}
+
+/// The plain pass: the sum of the words that check must read, which are the size
+/// words, level 0, the lists and the listed blocks.
+fn plain_pass(geometry: Geometry, store: &[u32]) -> u32 {
+    let sum = |from: u32, words: &[u32]| words.iter().fold(from, |sum, &w| sum.wrapping_add(w));
+    let (base, width) = (geometry.slots_at(), geometry.slot_words());
+    let mut total = sum(0, &store[..base]);
+    for level in 1..=geometry.levels() {
+        let at = geometry.list_at(level);
+        for &slot in &store[at..at + store[COUNTS + level] as usize] {
+            let block = base + slot as usize * width;
+            total = sum(total, &store[block..block + width]);
+        }
+    }
+    total
+}
+
+/// The words that the plain pass reads.
+pub fn words_read(geometry: Geometry, store: &[u32]) -> usize {
+    let blocks: u32 = store[COUNTS + 1..COUNTS + 4].iter().sum();
+    geometry.slots_at() + blocks as usize * geometry.slot_words()
+}
+
+/// The mark word of the last block of level h. With a mark there, check goes over
+/// all rules but live before it turns the store down.
+fn last_marks(geometry: Geometry, store: &[u32]) -> usize {
+    let h = geometry.levels();
+    let end = geometry.list_at(h) + store[COUNTS + h] as usize;
+    geometry.slot_at(store[end - 1] as usize) + 1
+}
+
+/// The middle of some numbers.
+fn median(mut numbers: Vec<f64>) -> f64 {
+    numbers.sort_by(f64::total_cmp);
+    numbers[numbers.len() / 2]
+}
+
+/// The mean of some numbers, 0 of none.
+pub fn mean(numbers: &[f64]) -> f64 {
+    numbers.iter().sum::<f64>() / numbers.len().max(1) as f64
+}
+
+/// Nanoseconds of the calls of one kind, for each place in the list of puts those
+/// of all rounds.
+#[derive(Default)]
+pub struct Times {
+    places: Vec<Vec<f64>>,
+}
+
+impl Times {
+    /// One more time of a place.
+    fn add(&mut self, place: usize, time: f64) {
+        if self.places.len() <= place {
+            self.places.resize(place + 1, Vec::new());
+        }
+        self.places[place].push(time);
+    }
+
+    /// The median over the rounds of each place.
+    pub fn medians(&self) -> Vec<f64> {
+        self.places.iter().cloned().map(median).collect()
+    }
+
+    /// The mean over the places.
+    pub fn mean(&self) -> f64 {
+        mean(&self.medians())
+    }
+}
+
+/// The times of one implementation.
+#[derive(Default)]
+pub struct Subject {
+    pub pass: Times,
+    pub check: Times,
+    /// Check without the count of live keys.
+    pub rules: Times,
+    pub look_up: Times,
+    pub next: Times,
+    pub put: Times,
+    /// The merges of each put.
+    pub merges: Vec<u32>,
+}
+
+/// The rounds of one geometry.
+pub struct Rounds {
+    pub geometry: Geometry,
+    pub store: Vec<u32>,
+    pub number: usize,
+    pub library: Subject,
+    pub fast: Subject,
+    /// Live keys to be put again, and keys to be asked for.
+    puts: Vec<u32>,
+    asked: Vec<u32>,
+    /// What reading the clock adds to a measured call.
+    cost: f64,
+}
+
+impl Rounds {
+    /// No round yet. The list of puts fills the room that a merge makes in level 0
+    /// some times.
+    pub fn new(geometry: Geometry, store: Vec<u32>, keys: &[u32]) -> Rounds {
+        let mut random = Random::new(2);
+        let room = geometry.window(0) * geometry.block();
+        let count = (4 * room).clamp(512, 1024);
+        let puts = (0..count).map(|_| random.pick(keys)).collect();
+        // Every other key is most likely absent.
+        let either = |index| match index / APART % 2 {
+            0 => random.pick(keys),
+            _ => random.word(),
+        };
+        let asked = (0..count).map(either).collect();
+        Rounds {
+            geometry,
+            store,
+            number: 0,
+            library: Subject::default(),
+            fast: Subject::default(),
+            puts,
+            asked,
+            cost: clock_cost(),
+        }
+    }
+
+    /// Rounds for about this time. Both implementations must leave the same words.
+    pub fn run(&mut self, time: Duration) {
+        let start = Instant::now();
+        let library = |lent: &mut [u32], call| {
+            // The words are lent to this call alone.
+            unsafe { Library.call(lent.as_mut_ptr(), lent.len(), call) }
+        };
+        let fast = |lent: &mut [u32], call| Oracle::Fast.call(lent, call);
+        while self.number < FEWEST || self.number < MOST && start.elapsed() < time {
+            let mut subject = std::mem::take(&mut self.library);
+            let words = self.list(&mut subject, library);
+            self.library = std::mem::replace(&mut subject, std::mem::take(&mut self.fast));
+            let right = self.list(&mut subject, fast);
+            self.fast = subject;
+            assert!(words == right, "the words differ after the puts");
+            self.number += 1;
+        }
+    }
+
+    /// One round of one implementation: the list of puts with the reading calls
+    /// between them; answers the words afterwards.
+    fn list(&self, subject: &mut Subject, call: impl Fn(&mut [u32], Call) -> Answer) -> Vec<u32> {
+        let mut lent = self.store.clone();
+        for &key in &self.puts[..WARMING] {
+            call(&mut lent, Call::Put(key, 0));
+        }
+        lent.copy_from_slice(&self.store);
+        subject.merges.clear();
+        for (number, &key) in self.puts.iter().enumerate() {
+            if number % APART == 0 {
+                self.read(subject, &mut lent, number, &call);
+            }
+            let put = Call::Put(key, number as u32);
+            let (time, answer) = self.timed(|| call(black_box(&mut lent), put));
+            assert!(answer.reason() == 0, "a put on a key of the map");
+            subject.put.add(number, time);
+            subject.merges.push(answer.merges());
+        }
+        lent
+    }
+
+    /// The reading calls before put `number`.
+    fn read(
+        &self,
+        subject: &mut Subject,
+        lent: &mut [u32],
+        number: usize,
+        call: impl Fn(&mut [u32], Call) -> Answer,
+    ) {
+        let (place, key) = (number / APART, self.asked[number]);
+        let pass = self.timed(|| plain_pass(self.geometry, black_box(lent)));
+        subject.pass.add(place, pass.0);
+        let time = |lent: &mut [u32], asked, times: &mut Times| {
+            let (time, answer) = self.timed(|| call(black_box(lent), asked));
+            times.add(place, time);
+            answer.reason()
+        };
+        let sound = time(lent, Call::Check, &mut subject.check);
+        time(lent, Call::LookUp(key), &mut subject.look_up);
+        time(lent, Call::Next(key), &mut subject.next);
+        let marks = last_marks(self.geometry, lent);
+        lent[marks] = 1;
+        let broken = time(lent, Call::Check, &mut subject.rules);
+        lent[marks] = 0;
+        assert!((sound, broken) == (0, 4), "what check says");
+    }
+
+    /// A call with its time.
+    fn timed<T>(&self, call: impl FnOnce() -> T) -> (f64, T) {
+        let start = Instant::now();
+        let answer = black_box(call());
+        let time = start.elapsed().as_nanos() as f64;
+        ((time - self.cost).max(0.0), answer)
+    }
+}
+
+/// Nanoseconds that reading the clock adds to a measured call.
+fn clock_cost() -> f64 {
+    let empty = |_| {
+        let start = Instant::now();
+        start.elapsed().as_nanos() as f64
+    };
+    median((0..2001).map(empty).collect())
+}

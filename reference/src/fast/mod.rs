@@ -1,0 +1,162 @@
+//! A second implementation of document 01, written for speed: the baseline of the
+//! benchmark. It uses the algorithms of the verified store and is not verified
+//! itself; its tests compare it with the plain one, answer for answer and word for
+//! word. It works on the lent words in place and allocates nothing: a merge has
+//! fixed work arrays. The answers are those of `calls`.
+
+mod form;
+mod merge;
+mod search;
+mod shape;
+mod top;
+mod walk;
+mod weave;
+
+use crate::calls::{Changed, Counts, Formatted, Found, Next};
+use merge::Work;
+use shape::Shape;
+
+/// Format.
+pub fn format(s: &mut [u32], numbers: [u32; 6]) -> Formatted {
+    let refused = |refusal| Formatted { refusal, limit: 0 };
+    if s.len() < shape::HEADER {
+        return refused(1);
+    }
+    let Some(shape) = Shape::new(numbers) else {
+        return refused(2);
+    };
+    if s.len() != shape.length {
+        return refused(3);
+    }
+    s.fill(0);
+    s[..6].copy_from_slice(&numbers);
+    s[shape::CURSOR] = shape.p as u32 - 1;
+    Formatted {
+        refusal: 0,
+        limit: shape.limit as u32,
+    }
+}
+
+/// Check.
+pub fn check(s: &[u32]) -> u32 {
+    form::check(s).err().unwrap_or(0)
+}
+
+/// Look up k.
+pub fn look_up(s: &[u32], key: u32) -> Found {
+    match form::check(s) {
+        Err(refusal) => Found {
+            refusal,
+            ..Found::default()
+        },
+        Ok(shape) => match search::live(s, &shape, key) {
+            None => Found::default(),
+            Some(payload) => Found {
+                refusal: 0,
+                found: true,
+                payload,
+            },
+        },
+    }
+}
+
+/// Next k.
+pub fn next(s: &[u32], key: u32) -> Next {
+    match form::check(s) {
+        Err(refusal) => Next {
+            refusal,
+            ..Next::default()
+        },
+        Ok(shape) => match walk::next(s, &shape, key) {
+            None => Next::default(),
+            Some((key, payload)) => Next {
+                refusal: 0,
+                found: true,
+                key,
+                payload,
+            },
+        },
+    }
+}
+
+/// Show i, k.
+pub fn show(s: &[u32], level: u32, key: u32) -> &[u32] {
+    let Ok(shape) = form::check(s) else {
+        return &s[..0];
+    };
+    let level = level as usize;
+    if level < 1 || level > shape.h {
+        return &s[..0];
+    }
+    match search::block(s, &shape, level, key) {
+        Some(at) if key <= s[at + 1 + s[at] as usize] => &s[at..at + shape.width],
+        _ => &s[..0],
+    }
+}
+
+/// Put k, v.
+pub fn put(s: &mut [u32], key: u32, payload: u32) -> Changed {
+    let shape = match form::check(s) {
+        Err(refusal) => return refused(refusal),
+        Ok(shape) => shape,
+    };
+    let live_before = search::live(s, &shape, key).is_some();
+    if !live_before {
+        if s[shape::LIVE] as usize == shape.limit {
+            return refused(5);
+        }
+        s[shape::LIVE] += 1;
+    }
+    changed(live_before, enter(s, &shape, key, 0, payload))
+}
+
+/// Delete k.
+pub fn delete(s: &mut [u32], key: u32) -> Changed {
+    let shape = match form::check(s) {
+        Err(refusal) => return refused(refusal),
+        Ok(shape) => shape,
+    };
+    if search::live(s, &shape, key).is_none() {
+        return Changed::default();
+    }
+    s[shape::LIVE] -= 1;
+    changed(true, enter(s, &shape, key, 1, 0))
+}
+
+/// A refused put or delete.
+fn refused(refusal: u32) -> Changed {
+    Changed {
+        refusal,
+        ..Changed::default()
+    }
+}
+
+/// An accepted put or delete.
+fn changed(live_before: bool, levels: [Counts; 3]) -> Changed {
+    Changed {
+        refusal: 0,
+        live_before,
+        levels,
+    }
+}
+
+/// A record into level 0, after the merges that make room for it; `tombstone` is
+/// 0 or 1.
+fn enter(s: &mut [u32], shape: &Shape, key: u32, tombstone: u32, payload: u32) -> [Counts; 3] {
+    let mut counts = [Counts::default(); 3];
+    let spot = match top::locate(s, shape, key) {
+        Ok(index) => {
+            top::write(s, shape, index, key, tombstone, payload);
+            return counts;
+        }
+        Err(index) => index,
+    };
+    if (s[shape::COUNTS] as usize) < shape.room {
+        top::insert(s, shape, spot, key, tombstone, payload);
+        return counts;
+    }
+    Work::open(s, shape).merge_all(&mut counts);
+    let spot = top::locate(s, shape, key).unwrap_or_else(|index| index);
+    top::insert(s, shape, spot, key, tombstone, payload);
+    counts
+}
