@@ -70,6 +70,19 @@ module _ (ws : List ℕ) (m k v n j low : ℕ) (h : n ≤ j) where
   unfolding riseOf
   rise-extra e = let p : n - j ≡ 0 = omega arith in rw (p, ne-eqb _ _ e)
 
+-- two records of `rise_plain`, or the last one
+module _ (ws : List ℕ) (k v n j low : ℕ) (h : low ≤ word ws (k + j)) where
+  pub rise-two : j + 1 < n → word ws (k + j) < word ws (k + (j + 1)) → riseOf ws 0 (k + j) (v + j) (n - j) low ≡ riseOf ws 0 (k + (j + 2)) (v + (j + 2)) (n - (j + 2)) (word ws (k + (j + 1)) + 1)
+  rise-two l g =
+      let e : j + 1 + 1 ≡ j + 2 = omega arith in
+      rise-next ws 0 k v n j low (omega arith) refl h ∙ rw e at (rise-next ws 0 k v n (j + 1) (word ws (k + j) + 1) l refl (omega arith))
+
+  pub rise-second : j + 1 < n → word ws (k + (j + 1)) ≤ word ws (k + j) → riseOf ws 0 (k + j) (v + j) (n - j) low ≡ Broken
+  rise-second l g = rise-next ws 0 k v n j low (omega arith) refl h ∙ rise-low ws 0 k v n (j + 1) (word ws (k + j) + 1) l (omega arith)
+
+  pub rise-last : j < n → n ≤ j + 1 → riseOf ws 0 (k + j) (v + j) (n - j) low ≡ To (word ws (k + j) + 1)
+  rise-last l g = rise-next ws 0 k v n j low l refl h ∙ rise-end ws 0 k v n (j + 1) (word ws (k + j) + 1) g refl
+
 -- bits past the first are those of the halved word past one fewer
 pub shift-suc : (m n : ℕ) → m / 2 ^ suc n ≡ m / 2 / 2 ^ n
 shift-suc m n = ap (_/_ m) (pow-succ' 2 n) ∙ sym (div-div-eq-div-mul m 2 (2 ^ n))

@@ -34,7 +34,8 @@ pub fn zeros(s: &[u32], start: usize, n: usize) -> bool
     true
 }
 
-// The same as `rise_over`, for a chunk with no mark bit set, as most are: it leaves the payloads alone.
+// The same as `rise_over`, for a chunk with no mark bit set, as most are: it leaves the payloads alone, and
+// takes two keys at a time.
 fn rise_plain(s: &[u32], chunk: Chunk, low: usize) -> Rise
     requires { ⌜ Inside chunk (now s) ⌝ }
     ensures { λ t. ⌜ t ≡ riseOf (now (s .entry)) 0 (chunk .keys) (chunk .pays) (chunk .count) low ⌝ }
@@ -42,14 +43,27 @@ fn rise_plain(s: &[u32], chunk: Chunk, low: usize) -> Rise
     let k = chunk.keys;
     let n = chunk.count;
     let mut least = low;
-    for j in 0..n {
+    let mut j: usize = 0;
+    while j + 1 < n {
         let key = s[k + j] as usize;
         if key < least {
             return Rise::Broken;
         }
-        least = key + 1;
+        let second = s[k + (j + 1)] as usize;
+        if second <= key {
+            return Rise::Broken;
+        }
+        least = second + 1;
+        j += 2;
     }
-    Rise::To(least)
+    if n <= j {
+        return Rise::To(least);
+    }
+    let last = s[k + j] as usize;
+    if last < least {
+        return Rise::Broken;
+    }
+    Rise::To(last + 1)
 }
 
 // The keys of a chunk rise strictly from `low` on, the payload of a tombstone is 0, and no mark bit is
