@@ -1,5 +1,5 @@
 -- The records between two cursors of a level, and what becomes of four levels without them.
-use Prim.Native.Nat.{ℕ, suc, _+_, _-_, _/_, _%_, _≤_, _<_}
+use Prim.Native.Nat.{ℕ, _+_, _-_, _/_, _%_, _≤_, _<_}
 use mathlib.Core.Path.{_≡_, refl, sym, ap, _∙_}
 use mathlib.Core.Bool.{Bool, true, false}
 use mathlib.Core.Logic.{dite}
@@ -17,14 +17,14 @@ use Rattle.words.specs.Layout.{word}
 use Rattle.chunks.specs.Peel.{Least, liveBit}
 use Rattle.chunks.proofs.Overlay.{live-cons}
 use Rattle.directory.specs.declared.Directory.{Directory}
-use Rattle.directory.specs.Directory.{Formed, recordsFrom, recordsOf}
+use Rattle.directory.specs.Directory.{recordsFrom, recordsOf}
 use Rattle.walk.specs.declared.Cursor.{Cursor}
 use Rattle.walk.specs.Walk.{rest, Good, Skims, four, layered, Smaller, LeastOf}
 use Rattle.walk.proofs.Rest.{headOf, more, rest-alive, alive-of, least-of, more-chunk, more-last, step-chunk}
 use Rattle.walk.proofs.Four.{Abreast, rests}
 
 -- records below the first key of the upper list stand before the overlay
-pub overlay-before : (b : ℕ) (us xs ys : List Rec) → Least b us → Below b xs → overlay us (xs ++ ys) ≡ xs ++ overlay us ys
+overlay-before : (b : ℕ) (us xs ys : List Rec) → Least b us → Below b xs → overlay us (xs ++ ys) ≡ xs ++ overlay us ys
 unfolding overlay
 overlay-before b [] xs ys l h = refl
 overlay-before b (u ∷ us) [] ys l h = refl
@@ -37,7 +37,7 @@ live-append [] ys = omega arith
 live-append (x ∷ xs) ys = rw (live-cons x (xs ++ ys), live-cons x xs, live-append xs ys) (omega arith)
 
 -- the records of the last of four lists that lie below the others count by themselves
-pub four-before : (b : ℕ) (us vs ws xs ys : List Rec) → Least b us → Least b vs → Least b ws → Below b xs → length (unmarked (four us vs ws (xs ++ ys))) ≡ length (unmarked xs) + length (unmarked (four us vs ws ys))
+four-before : (b : ℕ) (us vs ws xs ys : List Rec) → Least b us → Least b vs → Least b ws → Below b xs → length (unmarked (four us vs ws (xs ++ ys))) ≡ length (unmarked xs) + length (unmarked (four us vs ws ys))
 four-before b us vs ws xs ys p q r h = rw (overlay-before b ws xs ys r h, overlay-before b vs xs (overlay ws ys) q h, overlay-before b us xs (overlay vs (overlay ws ys)) p h) (live-append xs (overlay us (overlay vs (overlay ws ys))))
 
 -- a record counts at most once
@@ -88,7 +88,7 @@ module _ (ws : List ℕ) (d : Directory) (c : Cursor) (bound : ℕ) (after : Cur
   skims-length = rw (k .joined) (let e = length-append (k .between) (rest ws d after) in omega arith)
 
 -- a cursor's key is a key, or the first number above
-pub key-high : (ws : List ℕ) (d : Directory) (c : Cursor) → Good ws d c → c .key ≤ 4294967296
+key-high : (ws : List ℕ) (d : Directory) (c : Cursor) → Good ws d c → c .key ≤ 4294967296
 key-high ws d c g = dite (decLt 0 (c .chunk .count)) (λ y. omega (arith, g .alive y .1)) (λ n. omega (arith, g .ended (omega arith) .0))
 
 -- the least of four numbers, taken one after the other

@@ -144,6 +144,23 @@ fn live_bit(m: u32) -> usize
     if m % 2 == 1 { 0 } else { 1 }
 }
 
+// A cursor from its numbers: the chunk after, those of the records left of a chunk, and the next key.
+fn cursor_at(next: usize, marks: u32, keys: usize, pays: usize, count: usize, key: usize) -> Cursor
+    ensures { λ r. ⌜ r ≡ record { next = next; chunk = record { marks = marks; keys = keys; pays = pays; count = count }; key = key } ⌝ }
+{
+    let chunk = Chunk {
+        marks: marks,
+        keys: keys,
+        pays: pays,
+        count: count,
+    };
+    Cursor {
+        next: next,
+        chunk: chunk,
+        key: key,
+    }
+}
+
 // Past the records of a cursor's chunk whose keys are below the bound. Its loop is the whole cost of most
 // records of a store, and so works on numbers and builds no cursor.
 fn skim(s: &[u32], dir: Directory, c: Cursor, bound: usize) -> Passed
@@ -173,17 +190,7 @@ fn skim(s: &[u32], dir: Directory, c: Cursor, bound: usize) -> Passed
         count -= 1;
         key = s[keys] as usize;
     }
-    let left = Chunk {
-        marks: marks,
-        keys: keys,
-        pays: pays,
-        count: count,
-    };
-    let cursor = Cursor {
-        next: next,
-        chunk: left,
-        key: key,
-    };
+    let cursor = cursor_at(next, marks, keys, pays, count, key);
     Passed {
         cursor: cursor,
         live: live,

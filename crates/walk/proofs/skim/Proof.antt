@@ -8,6 +8,7 @@ use Rattle.walk.proofs.skim.Statement.{statement}
 use Rattle.walk.proofs.skim.Tie as tie
 use Rattle.walk.proofs.skim.Reads as reads
 use Rattle.walk.proofs.skim.Lts as lts
+use Rattle.walk.proofs.cursor_at.Reads as cursor-at-reads
 use Rattle.walk.proofs.live_bit.Reads as live-bit-reads
 use Rattle.walk.proofs.refill.Reads as refill-reads
 
@@ -19,15 +20,12 @@ Inv-loop s dir bound next marks₀ keys₀ pays₀ count₀ key₀ live₀ marks
 abbrev μ-loop : tie.MeasureT-loop
 μ-loop s dir bound next marks₀ keys₀ pays₀ count₀ key₀ live₀ marks keys pays count key live = count
 
--- src/lib.rt:147:5
 loop-holds : tie.Need-loop-holds Inv-loop μ-loop
 loop-holds c = let a = c .before .before in (skims-start _ _ (a .args .c) _ (a .pre .0), omega arith)
 
--- src/lib.rt:148:17
 live-bit-requires : tie.Need-live-bit-requires Inv-loop μ-loop
 live-bit-requires c κs = tt
 
--- src/lib.rt:148:9
 add-live : tie.Need-add-live Inv-loop μ-loop
 add-live c =
     let a = c .before .before .before .before .before in
@@ -35,11 +33,9 @@ add-live c =
     let b = bit-high (c .before .before .loop .marks) _ (c .live-bit .ensures) in
     omega (arith, i .1, a .pre .0 .formed .within .short, a .pre .0 .keys-in)
 
--- src/lib.rt:150:17
 refill-requires : tie.Need-refill-requires Inv-loop μ-loop
 refill-requires c κs = let a = c .before .before .before .before .before .before in (a .pre .0 .formed, a .pre .0 .low)
 
--- src/lib.rt:151:13
 returns : tie.Need-returns Inv-loop μ-loop
 returns c =
     let k = c .before .before in
@@ -47,35 +43,27 @@ returns c =
     let a = k .before .before .before .before .before in
     rw (k .live-bit .ensures) (skims-last _ _ _ _ _ _ (i .0) (k .before .loop-test .taken) (a .pre .1) _ (c .before .if1 .taken) (c .refill .ensures .0) (c .refill .ensures .1))
 
--- src/lib.rt:157:9
 add-keys : tie.Need-add-keys Inv-loop μ-loop
 add-keys c = search needs
 
--- src/lib.rt:158:9
 add-pays : tie.Need-add-pays Inv-loop μ-loop
 add-pays c = search needs
 
--- src/lib.rt:159:9
 sub-count : tie.Need-sub-count Inv-loop μ-loop
 sub-count c = search needs
 
--- src/lib.rt:160:15
 mul-key : tie.Need-mul-key Inv-loop μ-loop
 mul-key c = search needs
 
--- src/lib.rt:160:15
 shared-slice-read-key : tie.Need-shared-slice-read-key Inv-loop μ-loop
 shared-slice-read-key c = search needs
 
--- src/lib.rt:160:15
 cast-key : tie.Need-cast-key Inv-loop μ-loop
 cast-key c = omega (arith, c .shared-slice-known2 .given (c .before .before .before .before .loop .keys + 1))
 
--- src/lib.rt:147:5
 loop-less : tie.Need-loop-less Inv-loop μ-loop
 loop-less c = search needs
 
--- src/lib.rt:147:5
 loop-again : tie.Need-loop-again Inv-loop μ-loop
 loop-again c =
     let k = c .before .before in
@@ -84,9 +72,11 @@ loop-again c =
     let b = c .shared-slice-known2 .given (k .before .before .loop .keys + 1) .fits in
     (rw (k .live-bit .ensures) (skims-step _ _ _ _ _ _ (i .0) (k .before .loop-test .taken) (a .pre .1) _ (c .before .if1 .left) refl b), omega (arith, i .1, bit-high (k .before .before .loop .marks) _ (k .live-bit .ensures)))
 
--- src/lib.rt:135:1
+cursor-at-requires : tie.Need-cursor-at-requires Inv-loop μ-loop
+cursor-at-requires c κs = tt
+
 returns-2 : tie.Need-returns-2 Inv-loop μ-loop
-returns-2 c = c .before .loop .inv .0
+returns-2 c = rw (c .cursor-at .ensures) (c .before .before .loop .inv .0)
 
 pub skim-spec : {M : Type 1} → statement M
 skim-spec =
@@ -107,4 +97,5 @@ skim-spec =
     cast-key
     loop-less
     loop-again
+    cursor-at-requires
     returns-2)
