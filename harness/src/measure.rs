@@ -19,8 +19,9 @@ const WARMING: usize = 64;
 /// The reading calls are measured before every so many puts.
 const APART: usize = 4;
 
-/// A store with N keys and a level 0 in steady state, and its keys: filled by puts
-/// of random keys, then as many calls that overwrite or replace a key.
+/// A store with N keys and all levels in steady state, and its keys: filled by puts
+/// of random keys, then calls that overwrite or replace a key, as many as all levels
+/// have room for records.
 pub fn full_store(geometry: Geometry) -> (Vec<u32>, Vec<u32>) {
     let mut random = Random::new(1);
     let mut store = vec![0; geometry.length()];
@@ -36,7 +37,8 @@ pub fn full_store(geometry: Geometry) -> (Vec<u32>, Vec<u32>) {
     while keys.len() < geometry.key_limit() {
         keys.push(add(&mut random, &mut store));
     }
-    for _ in 0..keys.len() {
+    let room: usize = (0..=geometry.levels()).map(|i| geometry.capacity(i)).sum();
+    for _ in 0..room * geometry.block() {
         let index = random.below(keys.len());
         if random.one_in(2) {
             fast::put(&mut store, keys[index], random.word());

@@ -1,5 +1,7 @@
 //! `damage SECONDS [SEED]`: looks for a difference between the verified store and
-//! the reference on damaged stores, for so many seconds. Ends with 1 at the first.
+//! the reference on damaged stores, for so many seconds, and on till it has seen
+//! enough of them. Ends with 1 at the first difference, or if twice the time is not
+//! enough.
 //! `damage --repeat SEED GROUP` runs one group; `damage --self-test` plants faults
 //! and sees each of them reported.
 
@@ -8,6 +10,9 @@ use harness::planted::{Fault, Planted};
 use harness::search::Search;
 use std::process::ExitCode;
 use std::time::{Duration, Instant, SystemTime, UNIX_EPOCH};
+
+/// Damaged stores, and calls, that a run must at least have.
+const ENOUGH: u64 = 100_000;
 
 fn main() -> ExitCode {
     let arguments: Vec<String> = std::env::args().skip(1).collect();
@@ -46,8 +51,13 @@ fn search(seed: u64, first: u64, time: Duration) -> ExitCode {
             println!("{}\n{report}", search.counts);
             return ExitCode::FAILURE;
         }
-        if start.elapsed() >= time {
+        let enough = search.counts.damaged >= ENOUGH && search.counts.calls >= ENOUGH;
+        if time.is_zero() || start.elapsed() >= time && enough {
             break;
+        }
+        if start.elapsed() >= 2 * time {
+            println!("{}\nfewer than {ENOUGH} damaged stores or calls", search.counts);
+            return ExitCode::FAILURE;
         }
     }
     println!("{}", search.counts);
