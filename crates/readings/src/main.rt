@@ -17,8 +17,8 @@
 ghost use Prim.Native.Nat.{_≤_};
 ghost use lib.ListN.{length};
 use store::Formatted;
-use store::Looked;
-use store::Nexted;
+use reader::Looked;
+use reader::Nexted;
 
 // The next word of the input, or 0 at its end.
 fn word() -> u32 {

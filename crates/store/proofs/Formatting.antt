@@ -1,5 +1,5 @@
 -- What the proof of format needs: its words are the definition's, its answer is a word, and the two cases of its outcome.
-use Prim.Native.Nat.{ℕ, suc, _-_, _≤_, _<_}
+use Prim.Native.Nat.{ℕ, _-_, _≤_, _<_}
 use mathlib.Core.Path.{_≡_, subst}
 use mathlib.Core.List.{List}
 use native.Mathlib.Nat.{mul-le-mul}

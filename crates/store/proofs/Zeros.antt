@@ -1,16 +1,16 @@
 -- Reading zeros: what words that are all 0 from some place on say, by the definitions of the layout.
-use Prim.Native.Nat.{ℕ, zero, suc, _+_, _-_, _*_, _^_, _≤_, _<_}
+use Prim.Native.Nat.{ℕ, zero, suc, _+_, _-_, _*_, _≤_}
 use mathlib.Core.Path.{_≡_, refl}
 use mathlib.Core.Bool.{Bool, true, false, _&&_}
 use mathlib.Core.List.{List, [], _∷_, _++_, map}
 use native.Mathlib.Nat.{sub-zero, zero-sub}
 use native.Mathlib.Numerals.{unary-clauses}
 use native.Mathlib.Omega.{arith}
-use lib.ListN.{getD, length, take, drop, replicate}
+use lib.ListN.{take, drop, replicate}
 use Rattle.geometry.specs.declared.Geometry.{Geometry}
 use Rattle.geometry.specs.Geometry.{keysStart, paysStart, marksStart}
 use Rattle.levels.specs.Basics.{all}
-use Rattle.levels.specs.Record.{Rec, Level, records, rising, cleanTombstones}
+use Rattle.levels.specs.Record.{records, rising, cleanTombstones}
 use Rattle.levels.specs.Map.{overlay, view}
 use Rattle.words.specs.Layout.{word, slotsAt, pageSlots, each}
 use Rattle.words.specs.Form.{blank, isZero}
