@@ -15,9 +15,9 @@ use geometry::Built;
 use geometry::Geometry;
 use lines::Line;
 use lines::Reading;
-use writer::Changed;
-use store::Formatted;
 use reader::Looked;
+use store::Formatted;
+use writer::Changed;
 
 // What a line has done: how many words are the store then, and how many bytes there are to print.
 struct Answered {
