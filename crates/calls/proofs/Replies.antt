@@ -19,12 +19,14 @@ use Rattle.lines.specs.declared.Line.{Line}
 use Rattle.lines.specs.declared.Line.the-variants.{Put, Delete, Get, Unreadable}
 use Rattle.lines.specs.Bytes.{Filled, letterP, letterD}
 use Rattle.lines.specs.Lines.{formatLine, unreadableLine}
-use Rattle.store.specs.declared.Change.{Change}
-use Rattle.store.specs.declared.Changed.{Changed}
-use Rattle.store.specs.declared.Changed.the-variants.{Done}
+use Rattle.writer.specs.declared.Change.{Change}
+use Rattle.writer.specs.declared.Changed.{Changed}
+use Rattle.writer.specs.declared.Changed.the-variants.{Done}
 use Rattle.store.specs.declared.Formatted.{Formatted}
-use Rattle.store.specs.declared.Looked.{Looked}
-use Rattle.store.specs.Answers.{formatAnswer, lookedAnswer, changedAnswer}
+use Rattle.reader.specs.declared.Looked.{Looked}
+use Rattle.reader.specs.Answers.{lookedAnswer}
+use Rattle.writer.specs.Answers.{changedAnswer}
+use Rattle.store.specs.Answers.{formatAnswer}
 use Rattle.store.specs.Change.{SumsFit, PutDone, DeleteDone}
 use Rattle.calls.specs.Session.{Said, Replied, formattedLine, lookedLine, changedLine, changeSaid, formatSaid, saidOf}
 

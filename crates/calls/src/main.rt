@@ -6,16 +6,18 @@ ghost use mathlib.Core.Path.{_≡_};
 ghost use lib.ListN.{length, take};
 ghost use Rattle.lines.specs.Bytes.{Filled};
 ghost use Rattle.words.specs.Layout.{bit};
-ghost use Rattle.store.specs.Answers.{formatAnswer, lookedAnswer, changedAnswer};
+ghost use Rattle.reader.specs.Answers.{lookedAnswer};
+ghost use Rattle.writer.specs.Answers.{changedAnswer};
+ghost use Rattle.store.specs.Answers.{formatAnswer};
 ghost use Rattle.store.specs.Change.{SumsFit};
 ghost use Rattle.calls.specs.Session.{Replied, formattedLine, lookedLine, changedLine, saidOf, formatSaid};
 use geometry::Built;
 use geometry::Geometry;
 use lines::Line;
 use lines::Reading;
-use store::Changed;
+use reader::Looked;
 use store::Formatted;
-use store::Looked;
+use writer::Changed;
 
 // What a line has done: how many words are the store then, and how many bytes there are to print.
 struct Answered {

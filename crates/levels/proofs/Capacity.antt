@@ -3,7 +3,7 @@ use Prim.Native.Nat.{ℕ, zero, suc, _+_, _*_, _<_, _≤_}
 use mathlib.Core.Path.{_≡_, ap}
 use native.Mathlib.Omega.{arith}
 use native.Mathlib.Decide.{ℕ-discrete}
-use native.Mathlib.Nat.{mul-le-mul-right, add-zero}
+use native.Mathlib.Nat.{mul-le-mul-right}
 use Rattle.geometry.specs.declared.Geometry.{Geometry}
 use Rattle.geometry.specs.Geometry.{Ranged, capacityOf, windowOf, capacitySum, flashCapacityOf}
 use Rattle.geometry.proofs.Laws.{capacity-windows, window-grows}
@@ -15,14 +15,6 @@ window-half g k i = rw window-grows (mul-le-mul-right (windowOf g i) (k .g-low))
 -- "d windows a level" is 2 or more: a window is at most half its level
 pub window-capacity-half : (g : Geometry) → Ranged g → (i : ℕ) → 2 * windowOf g i ≤ capacityOf g i
 window-capacity-half g k i = rw capacity-windows (mul-le-mul-right (windowOf g i) (k .d-low))
-
--- the sum of capacities from its front
-pub capacity-sum-front : (g : Geometry) (i n : ℕ) → capacitySum g i (suc n) ≡ capacityOf g i + capacitySum g (suc i) n
-unfolding capacitySum
-capacity-sum-front g i zero = rw (add-zero i) (omega arith)
-capacity-sum-front g i (suc n) =
-    let e : i + suc n ≡ suc i + n = omega arith in
-    omega (arith, capacity-sum-front g i n, ap (capacityOf g) e)
 
 -- a sum of capacities is no less than each of them
 pub capacity-sum-at : (g : Geometry) (i n j : ℕ) → j < n → capacityOf g (i + j) ≤ capacitySum g i n

@@ -12,6 +12,7 @@ use lib.ListN.{length, getD}
 use borrow.Author.Tests.{ltb-true, lt-ltb, le-ltb}
 use Rattle.geometry.specs.declared.Geometry.{Geometry}
 use Rattle.geometry.specs.Geometry.{Valid, capacityOf, capacitySum, topCapacityOf}
+use Rattle.geometry.proofs.Laws.{capacity-sum-first}
 use Rattle.levels.specs.Basics.{all, ceilDiv}
 use Rattle.levels.specs.Record.{Block, Level, records, hasTombstone}
 use Rattle.levels.specs.Waste.{needsCompact}
@@ -29,7 +30,6 @@ use Rattle.levels.proofs.Places.{total-inside, takes-inside}
 use Rattle.levels.proofs.Stays.{all-placed}
 use Rattle.levels.proofs.Fits.{Within}
 use Rattle.levels.proofs.Laid.{all-append, all-left, all-right}
-use Rattle.levels.proofs.Capacity.{capacity-sum-front}
 use Rattle.levels.proofs.Every.{every-split, every-append}
 use Rattle.levels.proofs.StoreRows.{row-blocks}
 
@@ -102,7 +102,7 @@ within-above : (g : Geometry) (i n : ℕ) (ls : List Level) → Within g i ls �
 within-above g i zero ls h = omega arith
 within-above g i (suc n) [] h = omega arith
 within-above g i (suc n) (l ∷ ls) h =
-    omega (arith, sized-most (g .b) l (h .1), mul-le-mul-right (g .b) (h .0), within-above g (suc i) n ls (h .2), ap (λ (m : ℕ). g .b * m) (capacity-sum-front g i n))
+    omega (arith, sized-most (g .b) l (h .1), mul-le-mul-right (g .b) (h .0), within-above g (suc i) n ls (h .2), ap (λ (m : ℕ). g .b * m) (capacity-sum-first g i n))
 
 module _ (g : Geometry) (s : Store) (v : Valid g) (f : Fits g s) (o : Sound g s) where
   sizes : (j : ℕ) → Sized (g .b) (getD (s .levels) j [])
@@ -137,7 +137,7 @@ module _ (g : Geometry) (s : Store) (v : Valid g) (f : Fits g s) (o : Sound g s)
       go : (h : ℕ) → 1 ≤ h → recordsAbove h (rows s) ≤ g .b * capacitySum g 0 h
       go zero l = absurd (omega arith)
       go (suc m) l =
-          omega (arith, f .top-fits, within-above g 1 m (s .levels) entry-within, ap (λ (n : ℕ). g .b * n) (capacity-sum-front g 0 m))
+          omega (arith, f .top-fits, within-above g 1 m (s .levels) entry-within, ap (λ (n : ℕ). g .b * n) (capacity-sum-first g 0 m))
 
   -- what the last level's bound needs of the entry
   pub entry-of : Entry g s

@@ -11,6 +11,7 @@ use lib.ListN.{length, getD, take}
 use borrow.Author.Tests.{ltb-false}
 use Rattle.geometry.specs.declared.Geometry.{Geometry}
 use Rattle.geometry.specs.Geometry.{Valid, capacityOf, capacitySum, keyLimitOf}
+use Rattle.geometry.proofs.Laws.{capacity-sum-first}
 use Rattle.levels.specs.Basics.{if_then_else_, total, ceilDiv}
 use Rattle.levels.specs.Record.{Rec, Level, records, hasTombstone}
 use Rattle.levels.specs.Map.{into, overlay, view, unmarked, mapOf, liveCount}
@@ -19,7 +20,6 @@ use Rattle.levels.specs.Well.{Sized}
 use Rattle.levels.proofs.Overlay.{into-below, into-same, into-above, Way, less, same, more, way}
 use Rattle.levels.proofs.View.{unmarked-drop, unmarked-keep, clean-unmarked}
 use Rattle.levels.proofs.Levels.{sized-most}
-use Rattle.levels.proofs.Capacity.{capacity-sum-front}
 
 -- 1 for a tombstone; 1 for a record that is none
 abbrev dead : Rec → ℕ
@@ -136,4 +136,4 @@ pub within-records : (g : Geometry) (i : ℕ) (ls : List Level) → Within g i l
 unfolding capacitySum
 within-records g i [] h = omega arith
 within-records g i (l ∷ ls) h =
-    omega (arith, sized-most (g .b) l (h .1), mul-le-mul-right (g .b) (h .0), within-records g (suc i) ls (h .2), ap (λ (n : ℕ). g .b * n) (capacity-sum-front g i (length ls)))
+    omega (arith, sized-most (g .b) l (h .1), mul-le-mul-right (g .b) (h .0), within-records g (suc i) ls (h .2), ap (λ (n : ℕ). g .b * n) (capacity-sum-first g i (length ls)))

@@ -9,6 +9,7 @@ use native.Mathlib.Nat.{add-zero}
 use lib.ListN.{length, length-append, getD}
 use Rattle.geometry.specs.declared.Geometry.{Geometry}
 use Rattle.geometry.specs.Geometry.{Valid, capacityOf, windowOf, capacitySum, flashCapacityOf}
+use Rattle.geometry.proofs.Laws.{capacity-sum-first}
 use Rattle.levels.specs.Record.{Level}
 use Rattle.levels.specs.Waste.{needsCompact, compact}
 use Rattle.levels.specs.Choose.{choose, cutAt}
@@ -18,7 +19,7 @@ use Rattle.levels.specs.InCall.{Due}
 use Rattle.levels.proofs.Fresh.{olds-most, places-olds}
 use Rattle.levels.proofs.Merged.{upperOf, lowerOf, upper-writes, lower-writes}
 use Rattle.levels.proofs.Compaction.{compact-fresh, compact-shorter}
-use Rattle.levels.proofs.Capacity.{window-half, window-capacity-half, capacity-sum-front, level-in-flash}
+use Rattle.levels.proofs.Capacity.{window-half, window-capacity-half, level-in-flash}
 use Rattle.levels.proofs.Chosen.{due-mergeable, due-over}
 
 -- the level at index j, which is level i + j + 1, has at most twice its capacity
@@ -36,7 +37,7 @@ used-from : (g : Geometry) (i : ℕ) (ls : List Level) → Doubled g i ls → le
 unfolding capacitySum
 used-from g i [] d = omega arith
 used-from g i (l ∷ ls) d =
-    omega (arith, d .0, places-olds l, olds-most l, used-from g (suc i) ls (d .1), length-append (placesOf l) (inUse ls), capacity-sum-front g (suc i) (length ls))
+    omega (arith, d .0, places-olds l, olds-most l, used-from g (suc i) ls (d .1), length-append (placesOf l) (inUse ls), capacity-sum-first g (suc i) (length ls))
 
 -- at most 2S places are in use
 pub used-most : (g : Geometry) (ls : List Level) → length ls ≡ g .h → Doubled g 0 ls → length (inUse ls) ≤ 2 * flashCapacityOf g

@@ -10,11 +10,12 @@ use Rattle.geometry.specs.Geometry.{isLegal, builtOf, storeLength}
 use Rattle.geometry.proofs.Laws.{built-valid, built-broken, valid-legal}
 use Rattle.words.specs.Calls.{Outcome, FormatAnswer, ChangeAnswer}
 use Rattle.cascade.specs.Running.{numbersOf}
-use Rattle.store.specs.declared.Change.{Change}
-use Rattle.store.specs.declared.Changed as changed
-use Rattle.store.specs.declared.Changed.the-variants.{Done}
+use Rattle.writer.specs.declared.Change.{Change}
+use Rattle.writer.specs.declared.Changed as changed
+use Rattle.writer.specs.declared.Changed.the-variants.{Done}
 use Rattle.store.specs.declared.Formatted as formatted
-use Rattle.store.specs.Answers.{formatAnswer, changedAnswer}
+use Rattle.writer.specs.Answers.{changedAnswer}
+use Rattle.store.specs.Answers.{formatAnswer}
 use Rattle.store.specs.Change.{SumsFit, PutDone, DeleteDone}
 use Rattle.mewilovang.specs.declared.Formatted.{Formatted}
 use Rattle.mewilovang.specs.declared.Changed.{Changed}

@@ -8,8 +8,8 @@ use Rattle.geometry.specs.Geometry.{isLegal, storeLength}
 use Rattle.levels.specs.Count as levels
 use Rattle.words.specs.Layout.{bit}
 use Rattle.words.specs.Calls.{Outcome, FormatAnswer, LookAnswer, NextAnswer, ChangeAnswer, putOf, deleteOf}
-use Rattle.store.specs.declared.Changed as changed
-use Rattle.store.specs.declared.Part as part
+use Rattle.writer.specs.declared.Changed as changed
+use Rattle.reader.specs.declared.Part as part
 use Rattle.store.specs.Change.{PutDone, DeleteDone}
 use Rattle.mewilovang.specs.declared.Formatted.{Formatted}
 use Rattle.mewilovang.specs.declared.Looked.{Looked}

@@ -2,7 +2,9 @@
 
 ghost use mathlib.Core.Path.{_≡_};
 ghost use Rattle.words.specs.Calls.{Outcome, formatOf, checkOf, lookUpOf, nextOf};
-ghost use Rattle.store.specs.Answers.{formatAnswer, lookedAnswer, nextedAnswer, changedAnswer};
+ghost use Rattle.reader.specs.Answers.{lookedAnswer, nextedAnswer};
+ghost use Rattle.writer.specs.Answers.{changedAnswer};
+ghost use Rattle.store.specs.Answers.{formatAnswer};
 ghost use Rattle.store.specs.Change.{SumsFit};
 ghost use Rattle.store.specs.Show.{showPart};
 ghost use Rattle.cascade.specs.Running.{numbersOf};
@@ -75,21 +77,21 @@ fn format_reply(f: store::Formatted) -> Formatted
     }
 }
 
-fn look_reply(l: store::Looked) -> Looked
+fn look_reply(l: reader::Looked) -> Looked
     ensures { λ r. ⌜ r ≡ lookedReply (lookedAnswer l) ⌝ }
 {
     match l {
-        store::Looked::Found(v) => Looked {
+        reader::Looked::Found(v) => Looked {
             reason: 0,
             found: 1,
             payload: v,
         },
-        store::Looked::Absent => Looked {
+        reader::Looked::Absent => Looked {
             reason: 0,
             found: 0,
             payload: 0,
         },
-        store::Looked::Refused(n) => Looked {
+        reader::Looked::Refused(n) => Looked {
             reason: n,
             found: 0,
             payload: 0,
@@ -97,23 +99,23 @@ fn look_reply(l: store::Looked) -> Looked
     }
 }
 
-fn next_reply(n: store::Nexted) -> Nexted
+fn next_reply(n: reader::Nexted) -> Nexted
     ensures { λ r. ⌜ r ≡ nextedReply (nextedAnswer n) ⌝ }
 {
     match n {
-        store::Nexted::At(k, v) => Nexted {
+        reader::Nexted::At(k, v) => Nexted {
             reason: 0,
             found: 1,
             key: k,
             payload: v,
         },
-        store::Nexted::Nothing => Nexted {
+        reader::Nexted::Nothing => Nexted {
             reason: 0,
             found: 0,
             key: 0,
             payload: 0,
         },
-        store::Nexted::Refused(n) => Nexted {
+        reader::Nexted::Refused(n) => Nexted {
             reason: n,
             found: 0,
             key: 0,
@@ -133,12 +135,12 @@ fn counts_reply(c: cascade::Counts) -> Counts
     }
 }
 
-fn change_reply(c: store::Changed) -> Changed
+fn change_reply(c: writer::Changed) -> Changed
     requires { ⌜ SumsFit (changedAnswer c) ⌝ }
     ensures { λ r. ⌜ r ≡ changedReply (changedAnswer c) ⌝ }
 {
     match c {
-        store::Changed::Refused(n) => {
+        writer::Changed::Refused(n) => {
             let none = Counts {
                 merges: 0,
                 written: 0,
@@ -152,7 +154,7 @@ fn change_reply(c: store::Changed) -> Changed
                 level3: none,
             }
         }
-        store::Changed::Done(d) => {
+        writer::Changed::Done(d) => {
             let one = d.tally.one;
             let two = d.tally.two;
             let three = d.tally.three;

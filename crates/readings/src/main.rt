@@ -16,9 +16,9 @@
 
 ghost use Prim.Native.Nat.{_≤_};
 ghost use lib.ListN.{length};
+use reader::Looked;
+use reader::Nexted;
 use store::Formatted;
-use store::Looked;
-use store::Nexted;
 
 // The next word of the input, or 0 at its end.
 fn word() -> u32 {

@@ -14,7 +14,13 @@ use Rattle.entry.specs.declared.Opened.the-variants.{Ready, Refused}
 use Rattle.entry.specs.Entry.{fitOf}
 use Rattle.entry.proofs.Laws.{fitted-ready, fitted-refused}
 use Rattle.store.specs.Format.{headed}
-use Rattle.store.proofs.Zeros.{eightMore, eight-more}
+
+-- numbers from 8 on, as the lists of words compute with them: 8 words are before the first that format leaves 0
+abbrev eightMore : ℕ → ℕ
+eightMore m = suc (suc (suc (suc (suc (suc (suc (suc m)))))))
+
+eight-more : (n : ℕ) → 8 ≤ n → eightMore (n - 8) ≡ n
+eight-more n h = omega arith
 
 -- "every word 0 but the six of the geometry and hand = P − 1"
 pub cleared-headed : (g : Geometry) (n : ℕ) → 8 ≤ n → headed (replicate n 0) g ≡ formatWords g n

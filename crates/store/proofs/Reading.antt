@@ -7,7 +7,8 @@ use mathlib.Core.Option.{Option, none, some}
 use native.Mathlib.Omega.{arith}
 use lib.Dec.{leb, eqb}
 use lib.ListN.{length, take, drop}
-use borrow.Author.Tests.{eqb-true, eq-eqb, ne-eqb, leb-true, leb-false}
+use borrow.Author.Tests.{eqb-true, eq-eqb, ne-eqb, leb-true, leb-false, le-leb, lt-leb}
+use Rattle.geometry.specs.declared.Geometry.{Geometry}
 use Rattle.geometry.specs.Geometry.{within, isLegal, placeStart, blockWidth, storeLength, sizeReason}
 use Rattle.geometry.proofs.Laws.{legal-valid}
 use Rattle.levels.specs.Basics.{if_then_else_}
@@ -22,7 +23,19 @@ use Rattle.words.specs.Form.{keysRise, liveExact, formed, reasonOf}
 use Rattle.words.specs.Calls.{mapAt, nextAnswer, checkOf, lookUpOf, nextOf, enclosing, partOf, showIn, showOf}
 use Rattle.entry.proofs.Laws.{size-short, size-broken, size-other, sized-opened, ready-reason}
 use Rattle.form.proofs.Ready.{checked-none, ready-live, ready-rises}
-use Rattle.store.proofs.Answering.{show-low, show-high, show-inside}
+
+-- Show: levels that there are not, and those that there are.
+show-low : (g : Geometry) (ws : List ℕ) (i k : ℕ) → i < 1 → [] ≡ showIn g ws i k
+unfolding showIn
+show-low g ws i k h = rw (lt-leb 1 i h, showIn)
+
+show-high : (g : Geometry) (ws : List ℕ) (i k : ℕ) → 1 ≤ i → g .h < i → [] ≡ showIn g ws i k
+unfolding showIn
+show-high g ws i k a b = rw (le-leb 1 i a, lt-leb i (g .h) b, showIn)
+
+show-inside : (g : Geometry) (ws : List ℕ) (i k : ℕ) → 1 ≤ i → i ≤ g .h → showIn g ws i k ≡ partOf g ws (enclosing k (levelAt g ws i))
+unfolding showIn
+show-inside g ws i k a b = rw (le-leb 1 i a, le-leb i (g .h) b, showIn)
 
 module _ (ws : List ℕ) (e : reasonOf ws ≡ 0) where
   rise : Risings (rows (storeAt (geometryAt ws) ws))

@@ -27,8 +27,8 @@ use Rattle.words.specs.Calls.{Outcome, ChangeAnswer, changeAnswer, changeOutcom
 use Rattle.words.specs.Passed.{Passed}
 use Rattle.words.proofs.Reason.{reason-passed}
 use Rattle.words.proofs.Steps.{put-of, delete-of}
-use Rattle.store.specs.declared.Changed.{Changed}
-use Rattle.store.specs.Answers.{changedAnswer}
+use Rattle.writer.specs.declared.Changed.{Changed}
+use Rattle.writer.specs.Answers.{changedAnswer}
 use Rattle.store.specs.Change.{SumsFit, PutDone, DeleteDone}
 
 -- a compaction is of one level

@@ -9,7 +9,7 @@ use lib.ListN.{length, drop, getD, length-append, length-map}
 use lib.Seq.{take-append-seam, length-take-le}
 use Rattle.geometry.specs.declared.Geometry.{Geometry}
 use Rattle.geometry.specs.Geometry.{capacityOf, capacitySum, listStart}
-use Rattle.geometry.proofs.Laws.{list-next}
+use Rattle.geometry.proofs.Laws.{capacity-sum-first, list-next}
 use Rattle.levels.specs.Basics.{all}
 use Rattle.levels.specs.Record.{Level}
 use Rattle.levels.specs.Every.{Every, allBlocks}
@@ -26,12 +26,6 @@ Room g i (l ∷ ls) = (length l ≤ capacityOf g i) × Room g (suc i) ls
 pub room-of : (g : Geometry) (ls : List Level) (i : ℕ) → ((j : ℕ) → j < length ls → length (getD ls j []) ≤ capacityOf g (i + j)) → Room g i ls
 room-of g [] i f = tt
 room-of g (l ∷ ls) i f = (rw add-zero at (f 0 (omega arith)), room-of g ls (suc i) (λ j h. rw suc-add (rw add-suc at (f (suc j) (omega arith)))))
-
--- the capacities of suc n levels from level i on, the first of them first
-pub capacity-sum-first : (g : Geometry) (i n : ℕ) → capacitySum g i (suc n) ≡ capacityOf g i + capacitySum g (suc i) n
-unfolding capacitySum
-capacity-sum-first g i zero = rw add-zero (omega arith)
-capacity-sum-first g i (suc n) = rw (capacity-sum-first g i n, add-suc, suc-add) (omega arith)
 
 pub list-words-length : (g : Geometry) (ls : List Level) (i : ℕ) → Room g i ls → length (listWords g i ls) ≡ capacitySum g i (length ls)
 unfolding listWords capacitySum

@@ -6,7 +6,7 @@ use Rattle.store.proofs.delete.Tie as tie
 use Rattle.store.proofs.delete.Reads as reads
 use Rattle.store.proofs.delete.Lts as lts
 use Rattle.form.proofs.check.Reads as check-reads
-use Rattle.store.proofs.delete_ready.Reads as delete-ready-reads
+use Rattle.writer.proofs.delete_ready.Reads as delete-ready-reads
 
 check-requires : tie.Need-check-requires
 check-requires c κs = search needs

@@ -6,8 +6,8 @@ use Rattle.store.proofs.look_up.Tie as tie
 use Rattle.store.proofs.look_up.Reads as reads
 use Rattle.store.proofs.look_up.Lts as lts
 use Rattle.form.proofs.check.Reads as check-reads
-use Rattle.store.proofs.find_key.Reads as find-key-reads
-use Rattle.store.proofs.look_answer.Reads as look-answer-reads
+use Rattle.reader.proofs.find_key.Reads as find-key-reads
+use Rattle.reader.proofs.look_answer.Reads as look-answer-reads
 
 check-requires : tie.Need-check-requires
 check-requires c κs = search needs

@@ -6,7 +6,7 @@ use Rattle.store.proofs.next.Tie as tie
 use Rattle.store.proofs.next.Reads as reads
 use Rattle.store.proofs.next.Lts as lts
 use Rattle.form.proofs.check.Reads as check-reads
-use Rattle.store.proofs.next_key.Reads as next-key-reads
+use Rattle.reader.proofs.next_key.Reads as next-key-reads
 
 check-requires : tie.Need-check-requires
 check-requires c κs = search needs

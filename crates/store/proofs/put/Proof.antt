@@ -6,7 +6,7 @@ use Rattle.store.proofs.put.Tie as tie
 use Rattle.store.proofs.put.Reads as reads
 use Rattle.store.proofs.put.Lts as lts
 use Rattle.form.proofs.check.Reads as check-reads
-use Rattle.store.proofs.put_ready.Reads as put-ready-reads
+use Rattle.writer.proofs.put_ready.Reads as put-ready-reads
 
 check-requires : tie.Need-check-requires
 check-requires c κs = search needs

@@ -6,7 +6,7 @@ use Rattle.store.proofs.show_at.Tie as tie
 use Rattle.store.proofs.show_at.Reads as reads
 use Rattle.store.proofs.show_at.Lts as lts
 use Rattle.form.proofs.check.Reads as check-reads
-use Rattle.store.proofs.show_block.Reads as show-block-reads
+use Rattle.reader.proofs.show_block.Reads as show-block-reads
 
 check-requires : tie.Need-check-requires
 check-requires c κs = search needs

@@ -1,0 +1,25 @@
+-- Document 01's number and values for each case of an answer: "the answer has only the number and zeros" where a call is turned down.
+use mathlib.Core.Bool.{true, false}
+use Rattle.words.specs.Calls.{LookAnswer, NextAnswer}
+use Rattle.search.specs.declared.Found.{Found}
+use Rattle.search.specs.declared.Found.the-variants as found
+use Rattle.reader.specs.declared.Looked.{Looked}
+use Rattle.reader.specs.declared.Looked.the-variants as looked
+use Rattle.reader.specs.declared.Nexted.{Nexted}
+use Rattle.reader.specs.declared.Nexted.the-variants as nexted
+
+abbrev pub lookedAnswer : Looked → LookAnswer
+lookedAnswer (looked.Found v) = record { reason = 0; found = true; pay = v }
+lookedAnswer looked.Absent = record { reason = 0; found = false; pay = 0 }
+lookedAnswer (looked.Refused n) = record { reason = n; found = false; pay = 0 }
+
+abbrev pub nextedAnswer : Nexted → NextAnswer
+nextedAnswer (nexted.At k v) = record { reason = 0; found = true; key = k; pay = v }
+nextedAnswer nexted.Nothing = record { reason = 0; found = false; key = 0; pay = 0 }
+nextedAnswer (nexted.Refused n) = record { reason = n; found = false; key = 0; pay = 0 }
+
+-- "a mark or no record is absent"
+abbrev pub lookedOf : Found → Looked
+lookedOf found.Absent = looked.Absent
+lookedOf (found.Here true v) = looked.Absent
+lookedOf (found.Here false v) = looked.Found v

@@ -1,0 +1,113 @@
+// What the reading calls answer of a store that passes (document 01, "Calls").
+
+ghost use mathlib.Core.Path.{_≡_};
+ghost use Rattle.levels.specs.Map.{decides, next};
+ghost use Rattle.levels.specs.Store.{rows};
+ghost use Rattle.words.specs.Layout.{storeAt};
+ghost use Rattle.words.specs.Calls.{nextAnswer};
+ghost use Rattle.search.specs.Search.{foundOf};
+ghost use Rattle.form.specs.declared.Checked.the-variants.{Ready};
+ghost use Rattle.form.specs.Checked.{checkedOf};
+ghost use Rattle.reader.specs.Answers.{lookedOf, nextedAnswer};
+ghost use Rattle.reader.specs.Show.{showPartIn};
+use geometry::Geometry;
+use search::Enclosed;
+use search::Found;
+use walk::Following;
+
+// The payload of a live key, or that the key is not in the map, or the reason that the store is turned down for.
+pub enum Looked {
+    Found(u32),
+    Absent,
+    Refused(u32),
+}
+
+// A live key with its payload, or that there is none, or the reason that the store is turned down for.
+pub enum Nexted {
+    At(u32, u32),
+    Nothing,
+    Refused(u32),
+}
+
+// A part of the lent store: its first word and its words; both 0 for an empty part.
+pub struct Part {
+    pub start: usize,
+    pub length: usize,
+}
+
+// The record that decides for a key: that of the first level from 0 down that has one.
+pub fn find_key(s: &[u32], g: Geometry, k: usize) -> Found
+    requires { ⌜ checkedOf (now s) ≡ Ready g ⌝ }
+    ensures { λ r. ⌜ r ≡ foundOf (decides k (rows (storeAt g (now (s .entry))))) ⌝ }
+{
+    let d0 = form::top_of(s, g);
+    let Found::Here(m0, v0) = search::find_in(s, d0, k) else {
+        let d1 = form::level_of(s, g, 1);
+        let Found::Here(m1, v1) = search::find_in(s, d1, k) else {
+            let d2 = form::level_of(s, g, 2);
+            let Found::Here(m2, v2) = search::find_in(s, d2, k) else {
+                let d3 = form::level_of(s, g, 3);
+                return search::find_in(s, d3, k);
+            };
+            return Found::Here(m2, v2);
+        };
+        return Found::Here(m1, v1);
+    };
+    Found::Here(m0, v0)
+}
+
+// A tombstone or no record is absent.
+pub fn look_answer(f: Found) -> Looked
+    ensures { λ r. ⌜ r ≡ lookedOf f ⌝ }
+{
+    let Found::Here(m, v) = f else {
+        return Looked::Absent;
+    };
+    if m {
+        return Looked::Absent;
+    }
+    Looked::Found(v)
+}
+
+// The smallest live key at or above k, of a store that passes.
+pub fn next_key(s: &[u32], g: Geometry, k: usize) -> Nexted
+    requires { ⌜ checkedOf (now s) ≡ Ready g ⌝ }
+    ensures { λ r. ⌜ nextedAnswer r ≡ nextAnswer (next k (rows (storeAt g (now (s .entry))))) ⌝ }
+{
+    let d0 = form::top_of(s, g);
+    let d1 = form::level_of(s, g, 1);
+    let d2 = form::level_of(s, g, 2);
+    let d3 = form::level_of(s, g, 3);
+    let Following::At(key, pay) = walk::next_from(s, d0, d1, d2, d3, k) else {
+        return Nexted::Nothing;
+    };
+    Nexted::At(key as u32, pay)
+}
+
+// The words of the block of a level whose first to last key encloses k, of a store that passes: where they lie in it.
+pub fn show_block(s: &[u32], g: Geometry, level: usize, k: usize) -> Part
+    requires { ⌜ checkedOf (now s) ≡ Ready g ⌝ }
+    ensures { λ r. ⌜ r ≡ showPartIn g (now (s .entry)) level k ⌝ }
+{
+    let none = Part {
+        start: 0,
+        length: 0,
+    };
+    let h = g.levels();
+    if level < 1 {
+        return none;
+    }
+    if h < level {
+        return none;
+    }
+    let dir = form::level_of(s, g, level);
+    let Enclosed::At(i) = search::enclosing(s, dir, k) else {
+        return none;
+    };
+    let list = dir.list;
+    let place = chunks::word(s, list + i);
+    Part {
+        start: g.place_start(place),
+        length: g.block_width(),
+    }
+}

@@ -1,0 +1,93 @@
+-- What the proofs of put and delete need: of a store that passes, each answer of the code is the definition's.
+use Prim.Native.Nat.{ℕ, suc, _+_, _-_}
+use mathlib.Core.Path.{_≡_, refl, sym, ap, _∙_, subst}
+use mathlib.Core.Bool.{Bool, true, false, not}
+use mathlib.Core.List.{List, []}
+use mathlib.Core.Option.{Option, none, some}
+use mathlib.Core.Logic.{_≢_}
+use native.Mathlib.Omega.{arith}
+use borrow.Author.Tests.{eq-eqb, ne-eqb}
+use Rattle.geometry.specs.declared.Geometry.{Geometry}
+use Rattle.geometry.specs.Geometry.{keyLimitOf}
+use Rattle.levels.specs.Basics.{if_then_else_, isSome}
+use Rattle.levels.specs.Record.{Rec}
+use Rattle.levels.specs.Map.{decides, present, lookUp, isLive}
+use Rattle.levels.specs.Store.{rows}
+use Rattle.levels.specs.Put.{refused, absent, enter, put, delete, putRec, deleteRec}
+use Rattle.levels.specs.Count.{Counts, countsOf}
+use Rattle.levels.proofs.PutDelete.{enter-is, put-live, put-full, put-new, delete-live, delete-absent}
+use Rattle.words.specs.Layout.{liveAt, storeAt}
+use Rattle.words.specs.Calls.{Outcome, ChangeAnswer, changeOutcome}
+use Rattle.search.specs.declared.Found.{Found}
+use Rattle.search.specs.Search.{foundOf}
+use Rattle.cascade.specs.declared.Tally.{Tally}
+use Rattle.writer.specs.declared.Changed.the-variants as changed
+use Rattle.writer.specs.Answers.{changedAnswer}
+use Rattle.writer.specs.Change.{liveFound, Counted, Entered}
+
+-- a key is live if the record that decides for it is there and no tombstone
+pub live-found : (k : ℕ) (ls : List (List Rec)) → isLive k ls ≡ liveFound (foundOf (decides k ls))
+unfolding isLive lookUp
+live-found k ls = go (decides k ls)
+  where
+    pick : (r : Rec) (t : Bool) → isSome (if t then none else some r) ≡ not t
+    pick r true = refl
+    pick r false = refl
+
+    go : (o : Option Rec) → isSome (present o) ≡ liveFound (foundOf o)
+    go none = refl
+    go (some r) = pick r (r .tombstone)
+
+pub live-is : (k : ℕ) (ls : List (List Rec)) (f : Found) (was t : Bool) → f ≡ foundOf (decides k ls) → was ≡ liveFound f → was ≡ t → isLive k ls ≡ t
+live-is k ls f was t e w h = live-found k ls ∙ ap liveFound (sym e) ∙ sym w ∙ h
+
+-- an answer and words, part by part
+same-outcome : (was : Bool) (a b c x y z : Counts) (o w : List ℕ) → a ≡ x → b ≡ y → c ≡ z → o ≡ w
+    → _≡_ {A = Outcome ChangeAnswer} (record { answer = record { reason = 0; live = was; level1 = a; level2 = b; level3 = c }; words = o }) (record { answer = record { reason = 0; live = was; level1 = x; level2 = y; level3 = z }; words = w })
+same-outcome was a b c x y z o w p q r s = rw (p, q, r, s)
+
+-- a record entered is the change of the definition
+pub enter-outcome : (g : Geometry) (ws : List ℕ) (r : Rec) (was : Bool) (live : ℕ) (t : Tally) (out : List ℕ) → Entered g ws r live t out
+    → _≡_ {A = Outcome ChangeAnswer} (record { answer = changedAnswer (changed.Done (record { live = was; tally = t })); words = out }) (changeOutcome g ws (enter g (storeAt g ws) r was live))
+unfolding changeOutcome
+enter-outcome g ws r was live t out e =
+    same-outcome was _ _ _ _ _ _ _ _ (e .counts .one) (e .counts .two) (e .counts .three) (e .words)
+    ∙ ap (changeOutcome g ws) (sym (enter-is g (storeAt g ws) r was live))
+
+-- a call that changes nothing
+pub refused-outcome : (g : Geometry) (ws : List ℕ) (n : ℕ) → _≡_ {A = Outcome ChangeAnswer} (record { answer = changedAnswer (changed.Refused n); words = ws }) (changeOutcome g ws (refused n))
+unfolding changeOutcome countsOf
+refused-outcome g ws n = refl
+
+pub absent-outcome : (g : Geometry) (ws : List ℕ) (t : Tally) → Counted t [] → _≡_ {A = Outcome ChangeAnswer} (record { answer = changedAnswer (changed.Done (record { live = false; tally = t })); words = ws }) (changeOutcome g ws absent)
+unfolding changeOutcome
+absent-outcome g ws t n = same-outcome false _ _ _ _ _ _ ws ws (n .one) (n .two) (n .three) refl
+
+-- The cases of put and delete, of a store that passes.
+module _ (g : Geometry) (ws : List ℕ) (k : ℕ) where
+  pub put-over : (v : ℕ) (t : Tally) (out : List ℕ) → isLive k (rows (storeAt g ws)) ≡ true → Entered g ws (putRec k v) (liveAt ws) t out
+      → _≡_ {A = Outcome ChangeAnswer} (record { answer = changedAnswer (changed.Done (record { live = true; tally = t })); words = out }) (changeOutcome g ws (put g (storeAt g ws) k v))
+  unfolding storeAt
+  put-over v t out h e = enter-outcome g ws (putRec k v) true (liveAt ws) t out e ∙ ap (changeOutcome g ws) (sym (put-live g (storeAt g ws) k v h))
+
+  pub put-turned : (v : ℕ) → isLive k (rows (storeAt g ws)) ≡ false → liveAt ws ≡ keyLimitOf g
+      → _≡_ {A = Outcome ChangeAnswer} (record { answer = changedAnswer (changed.Refused 5); words = ws }) (changeOutcome g ws (put g (storeAt g ws) k v))
+  unfolding storeAt
+  put-turned v h l = refused-outcome g ws 5 ∙ ap (changeOutcome g ws) (sym (put-full g (storeAt g ws) k v h (eq-eqb (liveAt ws) (keyLimitOf g) l)))
+
+  pub put-added : (v : ℕ) (t : Tally) (out : List ℕ) → isLive k (rows (storeAt g ws)) ≡ false → liveAt ws ≢ keyLimitOf g → Entered g ws (putRec k v) (liveAt ws + 1) t out
+      → _≡_ {A = Outcome ChangeAnswer} (record { answer = changedAnswer (changed.Done (record { live = false; tally = t })); words = out }) (changeOutcome g ws (put g (storeAt g ws) k v))
+  unfolding storeAt
+  put-added v t out h l e =
+      let q : liveAt ws + 1 ≡ suc (liveAt ws) = omega arith in
+      enter-outcome g ws (putRec k v) false (suc (liveAt ws)) t out (subst (λ (n : ℕ). Entered g ws (putRec k v) n t out) q e)
+      ∙ ap (changeOutcome g ws) (sym (put-new g (storeAt g ws) k v h (ne-eqb (liveAt ws) (keyLimitOf g) l)))
+
+  pub delete-over : (t : Tally) (out : List ℕ) → isLive k (rows (storeAt g ws)) ≡ true → Entered g ws (deleteRec k) (liveAt ws - 1) t out
+      → _≡_ {A = Outcome ChangeAnswer} (record { answer = changedAnswer (changed.Done (record { live = true; tally = t })); words = out }) (changeOutcome g ws (delete g (storeAt g ws) k))
+  unfolding storeAt
+  delete-over t out h e = enter-outcome g ws (deleteRec k) true (liveAt ws - 1) t out e ∙ ap (changeOutcome g ws) (sym (delete-live g (storeAt g ws) k h))
+
+  pub delete-none : (t : Tally) → isLive k (rows (storeAt g ws)) ≡ false → Counted t []
+      → _≡_ {A = Outcome ChangeAnswer} (record { answer = changedAnswer (changed.Done (record { live = false; tally = t })); words = ws }) (changeOutcome g ws (delete g (storeAt g ws) k))
+  delete-none t h n = absent-outcome g ws t n ∙ ap (changeOutcome g ws) (sym (delete-absent g (storeAt g ws) k h))

@@ -1,0 +1,228 @@
+-- What put and delete rest on: a record goes into level 0, after the merges that make room for it.
+use Prim.Native.Nat.{ℕ, suc, _-_, _*_, _≤_, _<_}
+use mathlib.Core.Path.{_≡_, refl, sym, ap, _∙_, subst}
+use mathlib.Core.Bool.{Bool, true, false, _||_, or-true}
+use mathlib.Core.List.{List, []}
+use native.Mathlib.Nat.{mul-le-mul}
+use native.Mathlib.Omega.{arith}
+use lib.Dec.{ltb}
+use lib.ListN.{length, set}
+use borrow.Author.Tests.{lt-ltb, ltb-true}
+use Rattle.geometry.specs.declared.Geometry.{Geometry}
+use Rattle.geometry.specs.Geometry.{Ranged, topCapacityOf, blockWidth}
+use Rattle.geometry.proofs.Laws.{store-length-low, key-limit-high}
+use Rattle.levels.specs.Basics.{isSome}
+use Rattle.levels.specs.Record.{Rec}
+use Rattle.levels.specs.Map.{find, isLive}
+use Rattle.levels.specs.Store.{Store, rows}
+use Rattle.levels.specs.Call.{Merge, mergesFrom, afterMerges}
+use Rattle.levels.specs.Put.{insert, mergesFor, withRecord, deleteRec}
+use Rattle.levels.specs.Sound.{Fits}
+use Rattle.levels.proofs.Rising.{rising-test, test-rising}
+use Rattle.levels.proofs.InCall.{ListFacts}
+use Rattle.levels.proofs.Entry.{inside-fit}
+use Rattle.levels.proofs.CallMerges.{for-none, for-full, full-top, call-facts, call-within, call-top}
+use Rattle.levels.proofs.PutDelete.{enter-is, delete-live, delete-count}
+use Rattle.words.specs.Layout.{liveAt, topCountAt, topRecs, storeAt, areaOf, writeBlocks, storeWords}
+use Rattle.words.specs.Calls.{writtenBlocks, leftWords}
+use Rattle.words.specs.Passed.{Passed}
+use Rattle.words.proofs.Reason.{reason-passed}
+use Rattle.words.proofs.Steps.{laid-merges}
+use Rattle.form.specs.declared.Checked.the-variants.{Ready}
+use Rattle.form.specs.Checked.{checkedOf}
+use Rattle.form.proofs.Ready.{checked-ready}
+use Rattle.top.specs.declared.Spot.{Spot}
+use Rattle.top.specs.declared.Spot.the-variants.{Found, Gap}
+use Rattle.top.specs.Top.{TopReady, Room, spotOf, withTop}
+use Rattle.top.proofs.Spots.{spot-is}
+use Rattle.top.proofs.Laws.{with-top-words, top-count-back, top-back, words-ready, top-rises, set-live}
+use Rattle.cascade.specs.declared.Tally.{Tally}
+use Rattle.cascade.specs.Running.{FullStore, MergedAll}
+use Rattle.writer.specs.Change.{hasRoom, withEntered, Counted, Entered}
+
+-- all that is known of a store that passes
+pub holds : (ws : List ℕ) (g : Geometry) → checkedOf ws ≡ Ready g → Passed g ws
+holds ws g e = let k = checked-ready ws g e in subst (λ (t : Geometry). Passed t ws) (sym (k .0)) (reason-passed ws (k .1))
+
+-- Where the key stands says if there is room.
+pub room-found : (g : Geometry) (ws : List ℕ) (k i : ℕ) → TopReady g ws → spotOf k (topRecs g ws) ≡ Found i → true ≡ hasRoom g ws k
+unfolding hasRoom
+room-found g ws k i t e = rw (spot-is k 0 (topRecs g ws) (test-rising 0 (topRecs g ws) (t .rises)), e)
+
+pub room-gap : (g : Geometry) (ws : List ℕ) (k i : ℕ) → TopReady g ws → spotOf k (topRecs g ws) ≡ Gap i → ltb (topCountAt ws) (topCapacityOf g) ≡ hasRoom g ws k
+unfolding hasRoom
+room-gap g ws k i t e = rw (spot-is k 0 (topRecs g ws) (test-rising 0 (topRecs g ws) (t .rises)), e)
+
+-- and there is room where the key goes
+pub room-is : (g : Geometry) (ws : List ℕ) (k : ℕ) (at : Spot) → TopReady g ws → hasRoom g ws k ≡ true → at ≡ spotOf k (topRecs g ws) → Room g ws at
+room-is g ws k (Found i) t h e = tt
+room-is g ws k (Gap i) t h e = ltb-true (topCountAt ws) (topCapacityOf g) (room-gap g ws k i t (sym e) ∙ h)
+
+-- What the merges of a put or delete of k leave: the store, the words of all places, and all words.
+abbrev storeBy : Geometry → List ℕ → ℕ → Store
+storeBy g ws k = afterMerges (storeAt g ws) (mergesFor g (storeAt g ws) k)
+
+abbrev areaBy : Geometry → List ℕ → ℕ → List ℕ
+areaBy g ws k = writeBlocks g (areaOf g ws) (writtenBlocks (mergesFor g (storeAt g ws) k))
+
+abbrev leftBy : Geometry → List ℕ → ℕ → List ℕ
+leftBy g ws k = leftWords g ws (mergesFor g (storeAt g ws) k) (storeBy g ws k)
+
+-- That store.
+module _ (g : Geometry) (ws : List ℕ) (p : Passed g ws) (k : ℕ) where
+  facts : ListFacts g (storeAt g ws) (storeAt g ws) (mergesFor g (storeAt g ws) k)
+  facts = call-facts g (storeAt g ws) (p .valid) (p .fits) (p .sound) k
+
+  -- level 0 has room for the key then
+  merged-room : (isSome (find k (storeBy g ws k .top)) || ltb (length (storeBy g ws k .top)) (topCapacityOf g)) ≡ true
+  merged-room = go (isSome (find k (storeAt g ws .top)) || ltb (length (storeAt g ws .top)) (topCapacityOf g)) refl
+    where
+      go : (b : Bool) → (isSome (find k (storeAt g ws .top)) || ltb (length (storeAt g ws .top)) (topCapacityOf g)) ≡ b
+          → (isSome (find k (storeBy g ws k .top)) || ltb (length (storeBy g ws k .top)) (topCapacityOf g)) ≡ true
+      go true e = rw (for-none g (storeAt g ws) k e) e
+      go false e =
+          rw (lt-ltb (length (storeBy g ws k .top)) (topCapacityOf g) (call-top g (storeAt g ws) (p .valid) (p .fits) (p .sound) k e))
+          (or-true (isSome (find k (storeBy g ws k .top))))
+
+  merged-top : length (storeBy g ws k .top) ≤ topCapacityOf g
+  merged-top = go (isSome (find k (storeAt g ws .top)) || ltb (length (storeAt g ws .top)) (topCapacityOf g)) refl
+    where
+      go : (b : Bool) → (isSome (find k (storeAt g ws .top)) || ltb (length (storeAt g ws .top)) (topCapacityOf g)) ≡ b
+          → length (storeBy g ws k .top) ≤ topCapacityOf g
+      go true e = rw (for-none g (storeAt g ws) k e) (p .fits .top-fits)
+      go false e = omega (arith, call-top g (storeAt g ws) (p .valid) (p .fits) (p .sound) k e)
+
+  merged-fits : Fits g (storeBy g ws k)
+  merged-fits = record {
+    level-count = facts .inside .many;
+    top-fits = merged-top;
+    level-fits = λ i h. call-within g (storeAt g ws) (p .valid) (p .fits) (p .sound) k (suc i) (omega arith) (omega arith);
+    blocks-fit = inside-fit g (storeAt g ws) (storeBy g ws k) (facts .inside);
+  }
+
+  merged-area : length (areaBy g ws k) ≡ g .p * blockWidth g
+  merged-area = laid-merges g (storeAt g ws) (storeAt g ws) (mergesFor g (storeAt g ws) k) (areaOf g ws) (facts .facts) (facts .chained) (p .laid) .full
+
+  -- its words
+  module _ (us : List ℕ) (e : us ≡ leftBy g ws k) where
+    is-words : us ≡ storeWords g (storeBy g ws k) (areaBy g ws k)
+    unfolding leftWords
+    is-words = e
+
+    top-is : topRecs g us ≡ storeBy g ws k .top
+    top-is =
+        ap (topRecs g) is-words
+        ∙ top-back g (storeBy g ws k) (areaBy g ws k) (p .valid) merged-fits merged-area
+
+    count-is : topCountAt us ≡ length (storeBy g ws k .top)
+    count-is =
+        ap topCountAt is-words
+        ∙ top-count-back g (storeBy g ws k) (areaBy g ws k) (p .valid) merged-fits
+
+    pub merged-ready : TopReady g us
+    merged-ready =
+        subst (TopReady g) (sym is-words)
+        (words-ready g (storeBy g ws k) (areaBy g ws k) (p .valid) merged-fits merged-area
+        (rising-test 0 (storeBy g ws k .top) (facts .inside .sorted .0)))
+
+    pub merged-has : hasRoom g us k ≡ true
+    unfolding hasRoom
+    merged-has = rw (top-is, count-is) merged-room
+
+    -- the record and live entered there
+    pub merged-entered : (r : Rec) (live : ℕ) → withEntered g us r live ≡ leftWords g ws (mergesFor g (storeAt g ws) k) (withRecord r live (storeBy g ws k))
+    unfolding withEntered leftWords
+    merged-entered r live =
+        let t : Store = storeBy g ws k in
+        let area : List ℕ = areaBy g ws k in
+        let u : Store = record { live = t .live; cursor = t .cursor; top = insert r (t .top); levels = t .levels } in
+        ap (λ (rs : List Rec). set (withTop g us (insert r rs)) 6 live) top-is
+        ∙ ap (λ (xs : List ℕ). set (withTop g xs (insert r (t .top))) 6 live) is-words
+        ∙ ap (λ (xs : List ℕ). set xs 6 live) (with-top-words g t area (p .valid) merged-fits (insert r (t .top)))
+        ∙ set-live g u area live
+
+-- A store that passes.
+module _ (ws : List ℕ) (g : Geometry) (e : checkedOf ws ≡ Ready g) where
+  top-count : topCountAt ws ≡ length (storeAt g ws .top)
+  top-count =
+      let p = holds ws g e in
+      ap topCountAt (sym (p .written)) ∙ top-count-back g (storeAt g ws) (areaOf g ws) (p .valid) (p .fits)
+
+  -- it is ready for level 0's edits
+  pub holds-ready : TopReady g ws
+  holds-ready =
+      let p = holds ws g e in
+      subst (TopReady g) (p .written)
+      (words-ready g (storeAt g ws) (areaOf g ws) (p .valid) (p .fits) (p .laid .full) (top-rises g (storeAt g ws) (p .sound)))
+
+  pub holds-ranged : Ranged g
+  holds-ranged = holds ws g e .valid .ranged
+
+  pub holds-long : 12 < length ws
+  holds-long = let p = holds ws g e in omega (arith, p .long, store-length-low g (p .valid))
+
+  -- live is small, and at least 1 if a key is live
+  pub live-small : liveAt ws ≤ 16384
+  unfolding storeAt
+  live-small =
+      let p = holds ws g e in
+      let v = p .valid in
+      omega (arith, p .sound .live-fits, key-limit-high g v, mul-le-mul (v .ranged .b-high) (v .bottom-high))
+
+  pub live-some : (k : ℕ) → isLive k (rows (storeAt g ws)) ≡ true → 1 ≤ liveAt ws
+  unfolding storeAt
+  live-some k h =
+      let p = holds ws g e in
+      let s : Store = storeAt g ws in
+      omega (arith, p .sound .live-exact, delete-count g s (p .valid) (p .fits) (p .sound) k true (mergesFor g s k) (withRecord (deleteRec k) (s .live - 1) (afterMerges s (mergesFor g s k))) (delete-live g s k h ∙ enter-is g s (deleteRec k) true (s .live - 1)))
+
+  module _ (k : ℕ) where
+    test-is : hasRoom g ws k ≡ (isSome (find k (storeAt g ws .top)) || ltb (length (storeAt g ws .top)) (topCapacityOf g))
+    unfolding hasRoom storeAt
+    test-is = rw top-count
+
+    -- with room there are no merges
+    none-made : hasRoom g ws k ≡ true → mergesFor g (storeAt g ws) k ≡ []
+    none-made h = for-none g (storeAt g ws) k (sym test-is ∙ h)
+
+    none-left : hasRoom g ws k ≡ true → ws ≡ leftBy g ws k
+    unfolding leftWords writeBlocks
+    none-left h =
+        let p = holds ws g e in
+        sym (p .written) ∙ ap (λ (ms : List Merge). leftWords g ws ms (afterMerges (storeAt g ws) ms)) (sym (none-made h))
+
+    -- without room level 0 is full, and merged
+    pub full-store : hasRoom g ws k ≡ false → FullStore g ws
+    full-store h =
+        let p = holds ws g e in
+        record {
+          passed = p;
+          six = sym (checked-ready ws g e .0);
+          full = top-count ∙ full-top g (storeAt g ws) (p .valid) (p .fits) (p .sound) k (sym test-is ∙ h);
+        }
+
+    all-made : hasRoom g ws k ≡ false → mergesFor g (storeAt g ws) k ≡ mergesFrom g (storeAt g ws)
+    all-made h = for-full g (storeAt g ws) k (sym test-is ∙ h)
+
+    all-left : (us : List ℕ) (t : Tally) → hasRoom g ws k ≡ false → MergedAll g ws us t → us ≡ leftBy g ws k
+    all-left us t h m = m .words ∙ ap (λ (ms : List Merge). leftWords g ws ms (afterMerges (storeAt g ws) ms)) (sym (all-made h))
+
+    -- and then ready for the record
+    pub all-ready : (us : List ℕ) (t : Tally) → hasRoom g ws k ≡ false → MergedAll g ws us t → TopReady g us × (hasRoom g us k ≡ true)
+    all-ready us t h m =
+        let p = holds ws g e in
+        let q = all-left us t h m in
+        (merged-ready g ws p k us q, merged-has g ws p k us q)
+
+  -- The record is entered, with no merges and after them.
+  pub none-entered : (r : Rec) (live : ℕ) (t : Tally) (out : List ℕ) → hasRoom g ws (r .key) ≡ true → Counted t [] → out ≡ withEntered g ws r live → Entered g ws r live t out
+  none-entered r live t out h n w = record {
+    words = w ∙ merged-entered g ws (holds ws g e) (r .key) ws (none-left (r .key) h) r live;
+    counts = subst (Counted t) (sym (none-made (r .key) h)) n;
+  }
+
+  pub all-entered : (r : Rec) (live : ℕ) (us : List ℕ) (t : Tally) (out : List ℕ) → hasRoom g ws (r .key) ≡ false → MergedAll g ws us t → out ≡ withEntered g us r live → Entered g ws r live t out
+  all-entered r live us t out h m w = record {
+    words = w ∙ merged-entered g ws (holds ws g e) (r .key) us (all-left (r .key) us t h m) r live;
+    counts = subst (Counted t) (sym (all-made (r .key) h)) (record { one = m .one; two = m .two; three = m .three });
+  }

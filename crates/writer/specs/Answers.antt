@@ -1,0 +1,16 @@
+-- Document 01's number and values for each case of an answer: "the answer has only the number and zeros" where a call is turned down.
+use mathlib.Core.Bool.{false}
+use Rattle.words.specs.Calls.{ChangeAnswer}
+use Rattle.writer.specs.declared.Changed.{Changed}
+use Rattle.writer.specs.declared.Changed.the-variants as changed
+use Rattle.cascade.specs.Running.{numbersOf}
+
+abbrev pub changedAnswer : Changed → ChangeAnswer
+changedAnswer (changed.Done c) = record { reason = 0; live = c .live; level1 = numbersOf (c .tally .one); level2 = numbersOf (c .tally .two); level3 = numbersOf (c .tally .three) }
+changedAnswer (changed.Refused n) = record {
+  reason = n;
+  live = false;
+  level1 = record { merges = 0; written = 0; compacted = 0 };
+  level2 = record { merges = 0; written = 0; compacted = 0 };
+  level3 = record { merges = 0; written = 0; compacted = 0 };
+}

@@ -1,0 +1,46 @@
+-- Put and delete: what their parts do.
+use Prim.Native.Nat.{ℕ}
+use mathlib.Core.Path.{_≡_}
+use mathlib.Core.Bool.{Bool, false, not, _||_}
+use mathlib.Core.List.{List}
+use lib.Dec.{ltb}
+use lib.ListN.{set}
+use Rattle.geometry.specs.declared.Geometry.{Geometry}
+use Rattle.geometry.specs.Geometry.{topCapacityOf}
+use Rattle.levels.specs.Basics.{isSome}
+use Rattle.levels.specs.Record.{Rec}
+use Rattle.levels.specs.Map.{find}
+use Rattle.levels.specs.Call.{Merge, afterMerges}
+use Rattle.levels.specs.Put.{insert, mergesFor, withRecord}
+use Rattle.levels.specs.Count.{countsOf}
+use Rattle.words.specs.Layout.{topCountAt, topRecs, storeAt}
+use Rattle.words.specs.Calls.{leftWords}
+use Rattle.search.specs.declared.Found.{Found}
+use Rattle.search.specs.declared.Found.the-variants as found
+use Rattle.top.specs.Top.{withTop}
+use Rattle.cascade.specs.declared.Tally.{Tally}
+use Rattle.cascade.specs.Running.{numbersOf}
+
+-- a tombstone or no record is not live
+abbrev pub liveFound : Found → Bool
+liveFound found.Absent = false
+liveFound (found.Here m v) = not m
+
+-- "a key found in level 0 is overwritten there; otherwise, if c = K(0)×B, level 0 is merged first": it need not be
+unfoldable pub hasRoom : Geometry → List ℕ → ℕ → Bool
+hasRoom g ws k = isSome (find k (topRecs g ws)) || ltb (topCountAt ws) (topCapacityOf g)
+
+-- the words with a record entered in level 0 and live as it is then
+unfoldable pub withEntered : Geometry → List ℕ → Rec → ℕ → List ℕ
+withEntered g ws r live = set (withTop g ws (insert r (topRecs g ws))) 6 live
+
+-- the three counts of levels 1 to 3 are those of these merges
+pub record Counted (t : Tally) (ms : List Merge) : Type 0 where
+  pub one : numbersOf (t .one) ≡ countsOf 1 ms
+  pub two : numbersOf (t .two) ≡ countsOf 2 ms
+  pub three : numbersOf (t .three) ≡ countsOf 3 ms
+
+-- a record entered after the merges that make room for it
+pub record Entered (g : Geometry) (ws : List ℕ) (r : Rec) (live : ℕ) (t : Tally) (out : List ℕ) : Type 0 where
+  pub words : let s = storeAt g ws in let ms = mergesFor g s (r .key) in out ≡ leftWords g ws ms (withRecord r live (afterMerges s ms))
+  pub counts : Counted t (mergesFor g (storeAt g ws) (r .key))

@@ -1,0 +1,138 @@
+// What put and delete do to a store that passes (document 01, "Calls").
+
+ghost use mathlib.Core.Path.{_≡_};
+ghost use mathlib.Core.Bool.{true};
+ghost use mathlib.Core.List.{[]};
+ghost use Rattle.levels.specs.Put.{put, delete};
+ghost use Rattle.words.specs.Layout.{storeAt};
+ghost use Rattle.words.specs.Calls.{Outcome, ChangeAnswer, changeOutcome};
+ghost use Rattle.form.specs.declared.Checked.the-variants.{Ready};
+ghost use Rattle.form.specs.Checked.{checkedOf};
+ghost use Rattle.top.specs.Top.{TopReady};
+ghost use Rattle.writer.specs.Answers.{changedAnswer};
+ghost use Rattle.writer.specs.Change.{liveFound, hasRoom, withEntered, Counted, Entered};
+use cascade::Counts;
+use cascade::Tally;
+use geometry::Geometry;
+use search::Found;
+use top::Spot;
+
+// What a put or delete did: live says if the key was live, the tally what was merged and written for it.
+pub struct Change {
+    pub live: bool,
+    pub tally: Tally,
+}
+
+// What a put or delete did, or the reason that it is turned down for.
+pub enum Changed {
+    Done(Change),
+    Refused(u32),
+}
+
+// v for k, over what k had, in a store that passes.
+pub fn put_ready(s: &mut [u32], g: Geometry, k: u32, v: u32) -> Changed
+    requires { ⌜ checkedOf (now s) ≡ Ready g ⌝ }
+    ensures { λ r. ⌜ _≡_ {A = Outcome ChangeAnswer} (record { answer = changedAnswer r; words = now (s .exit) })
+        (changeOutcome g (now (s .entry)) (put g (storeAt g (now (s .entry))) k v)) ⌝ }
+{
+    let was = is_live(reader::find_key(s, g, k as usize));
+    let live = s[6];
+    if was {
+        let t = enter_record(s, g, k, false, v, live);
+        return Changed::Done(Change {
+            live: true,
+            tally: t,
+        });
+    }
+    if live as usize == g.key_limit() {
+        return Changed::Refused(5);
+    }
+    let t = enter_record(s, g, k, false, v, live + 1);
+    Changed::Done(Change {
+        live: false,
+        tally: t,
+    })
+}
+
+// k out of the map, of a store that passes.
+pub fn delete_ready(s: &mut [u32], g: Geometry, k: u32) -> Changed
+    requires { ⌜ checkedOf (now s) ≡ Ready g ⌝ }
+    ensures { λ r. ⌜ _≡_ {A = Outcome ChangeAnswer} (record { answer = changedAnswer r; words = now (s .exit) })
+        (changeOutcome g (now (s .entry)) (delete g (storeAt g (now (s .entry))) k)) ⌝ }
+{
+    let was = is_live(reader::find_key(s, g, k as usize));
+    if was {
+        let live = s[6];
+        let t = enter_record(s, g, k, true, 0, live - 1);
+        return Changed::Done(Change {
+            live: true,
+            tally: t,
+        });
+    }
+    Changed::Done(Change {
+        live: false,
+        tally: no_tally(),
+    })
+}
+
+// A tombstone or no record is not live.
+fn is_live(f: Found) -> bool
+    ensures { λ r. ⌜ r ≡ liveFound f ⌝ }
+{
+    let Found::Here(m, _) = f else {
+        return false;
+    };
+    !m
+}
+
+// The tally of a call that merges nothing.
+fn no_tally() -> Tally
+    ensures { λ r. ⌜ Counted r [] ⌝ }
+{
+    let none = Counts {
+        merges: 0,
+        written: 0,
+        compacted: 0,
+    };
+    Tally {
+        one: none,
+        two: none,
+        three: none,
+    }
+}
+
+// A record into level 0, after the merges that make room for it there.
+fn enter_record(s: &mut [u32], g: Geometry, k: u32, mark: bool, v: u32, live: u32) -> Tally
+    requires { ⌜ checkedOf (now s) ≡ Ready g ⌝ }
+    ensures { λ r. ⌜ Entered g (now (s .entry)) (record { key = k; tombstone = mark; pay = v }) live r (now (s .exit)) ⌝ }
+{
+    if has_room(s, g, k) {
+        place_record(s, g, k, mark, v, live);
+        return no_tally();
+    }
+    let t = cascade::merge_all(s, g);
+    place_record(s, g, k, mark, v, live);
+    t
+}
+
+// A record of this key is overwritten in level 0, or there is room for one more.
+fn has_room(s: &[u32], g: Geometry, k: u32) -> bool
+    requires { ⌜ TopReady g (now s) ⌝ }
+    ensures { λ r. ⌜ r ≡ hasRoom g (now (s .entry)) k ⌝ }
+{
+    let Spot::Found(_) = top::locate(s, g, k) else {
+        let room = g.top_capacity();
+        return (s[8] as usize) < room;
+    };
+    true
+}
+
+// A record into level 0, which has room for it, and live as it is then.
+fn place_record(s: &mut [u32], g: Geometry, k: u32, mark: bool, v: u32, live: u32)
+    requires { ⌜ TopReady g (now s) × (hasRoom g (now s) k ≡ true) ⌝ }
+    ensures { λ _. ⌜ now (s .exit) ≡ withEntered g (now (s .entry)) (record { key = k; tombstone = mark; pay = v }) live ⌝ }
+{
+    let at = top::locate(s, g, k);
+    top::enter(s, g, at, k, mark, v);
+    s[6] = live;
+}
