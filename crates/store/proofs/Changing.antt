@@ -29,7 +29,7 @@ use Rattle.search.specs.Search.{foundOf}
 use Rattle.form.specs.declared.Checked.the-variants.{Ready, Refused}
 use Rattle.form.specs.Checked.{checkedOf}
 use Rattle.form.proofs.Ready.{checked-ready, checked-refused}
-use Rattle.cascade.specs.declared.Tally.{Tally}
+use Rattle.steps.specs.declared.Tally.{Tally}
 use Rattle.store.specs.declared.Changed.{Changed}
 use Rattle.store.specs.declared.Changed.the-variants as changed
 use Rattle.store.specs.Answers.{changedAnswer}

@@ -11,7 +11,7 @@ use Rattle.store.specs.declared.Nexted.{Nexted}
 use Rattle.store.specs.declared.Nexted.the-variants as nexted
 use Rattle.store.specs.declared.Changed.{Changed}
 use Rattle.store.specs.declared.Changed.the-variants as changed
-use Rattle.cascade.specs.Running.{numbersOf}
+use Rattle.steps.specs.Running.{numbersOf}
 
 abbrev pub formatAnswer : Formatted → FormatAnswer
 formatAnswer (Done n) = record { reason = 0; limit = n }

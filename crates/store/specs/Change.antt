@@ -22,9 +22,9 @@ use Rattle.words.specs.Demand.{Demand, ownPut, ownDelete}
 use Rattle.search.specs.declared.Found.{Found}
 use Rattle.search.specs.declared.Found.the-variants as found
 use Rattle.top.specs.Top.{withTop}
-use Rattle.cascade.specs.declared.Tally.{Tally}
+use Rattle.steps.specs.declared.Tally.{Tally}
 use Rattle.store.specs.declared.Changed.{Changed}
-use Rattle.cascade.specs.Running.{numbersOf}
+use Rattle.steps.specs.Running.{numbersOf}
 use Rattle.store.specs.Answers.{changedAnswer}
 
 -- What a put of k, v on the words ws, all words and all arguments, has answered and left.
