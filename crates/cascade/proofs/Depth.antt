@@ -10,7 +10,7 @@ use Rattle.geometry.specs.declared.Geometry.{Geometry}
 use Rattle.geometry.specs.Geometry.{Ranged, capacityOf}
 use Rattle.levels.specs.Store.{Store}
 use Rattle.levels.specs.Call.{deepestOver}
-use Rattle.cascade.specs.Running.{deepestFor}
+use Rattle.cascade.specs.Cascade.{deepestFor}
 
 deepest-at : (g : Geometry) (t : Store) (h : ℕ) → 1 ≤ h → h ≤ 3 → deepestFor g h (length (getD (t .levels) 0 [])) (length (getD (t .levels) 1 [])) ≡ deepestOver g (h - 1) t
 unfolding deepestFor deepestOver

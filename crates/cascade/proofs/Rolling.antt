@@ -24,11 +24,12 @@ use Rattle.levels.proofs.MergeBounds.{merge-written}
 use Rattle.words.specs.Layout.{areaOf, writeBlocks}
 use Rattle.words.specs.Calls.{compactedBlocks, writtenBlocks}
 use Rattle.words.proofs.Blocks.{writes-append}
-use Rattle.cascade.specs.declared.Counts.{Counts}
-use Rattle.cascade.specs.declared.Tally.{Tally}
-use Rattle.cascade.specs.declared.Run.{Run}
-use Rattle.cascade.specs.Running.{storeOf, Stands, numbersOf, plus, Few, Small, Grown, Leaving, StepReady, stepCounts, deepestFor, Rolling, listCounts}
-use Rattle.cascade.proofs.Chaining.{grown-small, small-more, plus-assoc}
+use Rattle.steps.specs.declared.Counts.{Counts}
+use Rattle.steps.specs.declared.Tally.{Tally}
+use Rattle.steps.specs.declared.Run.{Run}
+use Rattle.steps.specs.Running.{storeOf, Stands, numbersOf, plus, Few, Small, Grown, Leaving, StepReady, stepCounts}
+use Rattle.cascade.specs.Cascade.{deepestFor, Rolling, listCounts}
+use Rattle.steps.proofs.Chaining.{grown-small, small-more, plus-assoc}
 use Rattle.cascade.proofs.Depth.{deepest-is}
 
 -- the counts of a merge and those after it

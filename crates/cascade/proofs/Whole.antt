@@ -32,12 +32,13 @@ use Rattle.lists.specs.Holds.{HoldsBut}
 use Rattle.lists.proofs.Room.{room-level}
 use Rattle.lists.proofs.Laws.{placesIn, but-held, lists-back}
 use Rattle.lists.proofs.Arrays.{three-places, count-held, count-room, places-listed}
-use Rattle.cascade.specs.declared.Tally.{Tally}
-use Rattle.cascade.specs.declared.Run.{Run}
-use Rattle.cascade.specs.Running.{storeOf, Listed, Stands, numbersOf, plus, Few, Small, Grown, Leaving, StepReady, stepCounts, Rolling, listCounts, FullStore, Loaded, MergedAll}
-use Rattle.cascade.proofs.Standing.{stand}
-use Rattle.cascade.proofs.Stepping.{top-fits}
-use Rattle.cascade.proofs.Chaining.{grown-small, leaving-chain}
+use Rattle.steps.specs.declared.Tally.{Tally}
+use Rattle.steps.specs.declared.Run.{Run}
+use Rattle.steps.specs.Running.{storeOf, Listed, Stands, numbersOf, plus, Few, Small, Grown, Leaving, StepReady, stepCounts}
+use Rattle.cascade.specs.Cascade.{Rolling, listCounts, FullStore, Loaded, MergedAll}
+use Rattle.steps.proofs.Standing.{stand}
+use Rattle.steps.proofs.Stepping.{top-fits}
+use Rattle.steps.proofs.Chaining.{grown-small, leaving-chain}
 use Rattle.cascade.proofs.Rolling.{counts-cons, step-low}
 
 module _ (g : Geometry) (ws : List ℕ) (k : FullStore g ws) where

@@ -9,7 +9,7 @@ use Rattle.geometry.specs.declared.Built.the-variants.{Legal, Broken}
 use Rattle.geometry.specs.Geometry.{isLegal, builtOf, storeLength}
 use Rattle.geometry.proofs.Laws.{built-valid, built-broken, valid-legal}
 use Rattle.words.specs.Calls.{Outcome, FormatAnswer, ChangeAnswer}
-use Rattle.cascade.specs.Running.{numbersOf}
+use Rattle.steps.specs.Running.{numbersOf}
 use Rattle.writer.specs.declared.Change.{Change}
 use Rattle.writer.specs.declared.Changed as changed
 use Rattle.writer.specs.declared.Changed.the-variants.{Done}

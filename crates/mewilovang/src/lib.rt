@@ -7,7 +7,7 @@ ghost use Rattle.writer.specs.Answers.{changedAnswer};
 ghost use Rattle.store.specs.Answers.{formatAnswer};
 ghost use Rattle.store.specs.Change.{SumsFit};
 ghost use Rattle.store.specs.Show.{showPart};
-ghost use Rattle.cascade.specs.Running.{numbersOf};
+ghost use Rattle.steps.specs.Running.{numbersOf};
 ghost use Rattle.mewilovang.specs.declared.Formatted.{Formatted};
 ghost use Rattle.mewilovang.specs.Answers.{wordsOf, formattedReply, formattedOutcome, lookedReply, nextedReply, partReply, CountsFit, countsReply, changedReply, PutReplied, DeleteReplied};
 use geometry::Built;
@@ -124,7 +124,7 @@ fn next_reply(n: reader::Nexted) -> Nexted
     }
 }
 
-fn counts_reply(c: cascade::Counts) -> Counts
+fn counts_reply(c: steps::Counts) -> Counts
     requires { ⌜ CountsFit (numbersOf c) ⌝ }
     ensures { λ r. ⌜ r ≡ countsReply (numbersOf c) ⌝ }
 {

@@ -20,7 +20,7 @@ use Rattle.words.specs.Layout.{liveAt, storeAt}
 use Rattle.words.specs.Calls.{Outcome, ChangeAnswer, changeOutcome}
 use Rattle.search.specs.declared.Found.{Found}
 use Rattle.search.specs.Search.{foundOf}
-use Rattle.cascade.specs.declared.Tally.{Tally}
+use Rattle.steps.specs.declared.Tally.{Tally}
 use Rattle.writer.specs.declared.Changed.the-variants as changed
 use Rattle.writer.specs.Answers.{changedAnswer}
 use Rattle.writer.specs.Change.{liveFound, Counted, Entered}

@@ -36,8 +36,8 @@ use Rattle.top.specs.declared.Spot.the-variants.{Found, Gap}
 use Rattle.top.specs.Top.{TopReady, Room, spotOf, withTop}
 use Rattle.top.proofs.Spots.{spot-is}
 use Rattle.top.proofs.Laws.{with-top-words, top-count-back, top-back, words-ready, top-rises, set-live}
-use Rattle.cascade.specs.declared.Tally.{Tally}
-use Rattle.cascade.specs.Running.{FullStore, MergedAll}
+use Rattle.steps.specs.declared.Tally.{Tally}
+use Rattle.cascade.specs.Cascade.{FullStore, MergedAll}
 use Rattle.writer.specs.Change.{hasRoom, withEntered, Counted, Entered}
 
 -- all that is known of a store that passes

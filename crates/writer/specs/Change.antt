@@ -18,8 +18,8 @@ use Rattle.words.specs.Calls.{leftWords}
 use Rattle.search.specs.declared.Found.{Found}
 use Rattle.search.specs.declared.Found.the-variants as found
 use Rattle.top.specs.Top.{withTop}
-use Rattle.cascade.specs.declared.Tally.{Tally}
-use Rattle.cascade.specs.Running.{numbersOf}
+use Rattle.steps.specs.declared.Tally.{Tally}
+use Rattle.steps.specs.Running.{numbersOf}
 
 -- a tombstone or no record is not live
 abbrev pub liveFound : Found → Bool

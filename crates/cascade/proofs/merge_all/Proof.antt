@@ -7,7 +7,7 @@ use Rattle.cascade.proofs.merge_all.Reads as reads
 use Rattle.cascade.proofs.merge_all.Lts as lts
 use Rattle.cascade.proofs.load_run.Reads as load-run-reads
 use Rattle.cascade.proofs.merge_below.Reads as merge-below-reads
-use Rattle.cascade.proofs.merge_step.Reads as merge-step-reads
+use Rattle.steps.proofs.merge_step.Reads as merge-step-reads
 use Rattle.lists.proofs.store_back.Reads as store-back-reads
 
 -- src/lib.rt:447:9

@@ -3,14 +3,14 @@ use mathlib.Core.Path.{_≡_, refl, sym, _∙_}
 use native.Mathlib.Omega.{arith}
 use Rattle.levels.specs.Store.{rows}
 use Rattle.levels.specs.Inside.{load}
-use Rattle.cascade.specs.Running.{storeOf}
+use Rattle.steps.specs.Running.{storeOf}
 use Rattle.cascade.proofs.Rolling.{Goes, goes-first, goes-last, goes-asks, goes-less, goes-on}
 use Rattle.cascade.proofs.merge_below.Statement.{statement}
 use Rattle.cascade.proofs.merge_below.Tie as tie
 use Rattle.cascade.proofs.merge_below.Reads as reads
 use Rattle.cascade.proofs.merge_below.Lts as lts
 use Rattle.cascade.proofs.deepest.Reads as deepest-reads
-use Rattle.cascade.proofs.merge_step.Reads as merge-step-reads
+use Rattle.steps.proofs.merge_step.Reads as merge-step-reads
 
 abbrev Inv-loop : tie.InvT-loop
 Inv-loop s₀ one₀ two₀ three₀ g v₀ s one two three v = Goes 98304 g s₀ one₀ two₀ three₀ v₀ s one two three v

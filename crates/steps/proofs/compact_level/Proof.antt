@@ -1,0 +1,106 @@
+use mathlib.Core.Path.{_≡_, refl}
+use native.Mathlib.Omega.{arith}
+use Rattle.steps.proofs.Standing.{markable}
+use Rattle.steps.proofs.Stepping.{one-asks, compacted-first, compacted-second, compacted-third}
+use borrow.Author.Needs.{needs}
+use Rattle.steps.proofs.compact_level.Statement.{statement}
+use Rattle.steps.proofs.compact_level.Tie as tie
+use Rattle.steps.proofs.compact_level.Reads as reads
+use Rattle.steps.proofs.compact_level.Lts as lts
+use Rattle.steps.proofs.compact_one.Reads as compact-one-reads
+use Rattle.steps.proofs.marks.Reads as marks-reads
+use Rattle.steps.proofs.relist.Reads as relist-reads
+
+-- src/lib.rt:214:20
+marks-requires : tie.Need-marks-requires
+marks-requires c κs = let p = c .before .before .before .before .pre .0 in markable _ _ _ _ _ _ _ _ (p .valid) (p .inside) (p .stands)
+
+-- src/lib.rt:218:13
+compact-one-requires : tie.Need-compact-one-requires
+compact-one-requires c κs =
+    let p = c .before .before .before .before .before .before .before .before .before .before .pre in
+    let k = p .0 in
+    let m = c .before .before .before .before .before .marks .ensures in
+    record { entry = k .entry; store = _; ready = one-asks _ _ _ _ _ _ k _ (m .0) (m .1) 0 _ _ (omega (arith, p .1 .0, p .1 .1)) (k .stands .first) }
+
+-- src/lib.rt:219:9
+relist-requires : tie.Need-relist-requires
+relist-requires c κs = search needs
+
+-- src/lib.rt:219:9
+same-length : tie.Need-same-length
+same-length c = search needs
+
+-- src/lib.rt:219:9
+returns : tie.Need-returns
+returns c =
+    let p = c .before .before .before .before .before .before .before .before .before .before .before .before .before .before .pre in
+    let k = p .0 in
+    let m = c .before .before .before .before .before .before .before .before .before .marks .ensures in
+    λ t e. compacted-first _ _ _ _ _ _ k t e _ _ _ _ _ (c .before .before .before .before .before .before .before .if1 .taken) (omega (arith, p .1 .0, p .1 .1)) (c .relist .ensures) (rw e (c .before .before .before .compact-one .ensures (k .entry) _ (one-asks _ _ _ _ _ _ k _ (m .0) (m .1) 0 _ _ (omega (arith, p .1 .0, p .1 .1)) (k .stands .first))))
+
+-- src/lib.rt:222:13
+compact-one-requires-2 : tie.Need-compact-one-requires-2
+compact-one-requires-2 c κs =
+    let p = c .before .before .before .before .before .before .before .before .before .before .before .pre in
+    let k = p .0 in
+    let m = c .before .before .before .before .before .before .marks .ensures in
+    record { entry = k .entry; store = _; ready = one-asks _ _ _ _ _ _ k _ (m .0) (m .1) 1 _ _ (omega (arith, p .1 .1, c .before .before .before .if2 .taken)) (k .stands .second) }
+
+-- src/lib.rt:223:9
+relist-requires-2 : tie.Need-relist-requires-2
+relist-requires-2 c κs = search needs
+
+-- src/lib.rt:223:9
+same-length-2 : tie.Need-same-length-2
+same-length-2 c = search needs
+
+-- src/lib.rt:223:9
+returns-2 : tie.Need-returns-2
+returns-2 c =
+    let p = c .before .before .before .before .before .before .before .before .before .before .before .before .before .before .before .pre in
+    let k = p .0 in
+    let m = c .before .before .before .before .before .before .before .before .before .before .marks .ensures in
+    λ t e. compacted-second _ _ _ _ _ _ k t e _ _ _ _ _ (c .before .before .before .before .before .before .before .if2 .taken) (omega (arith, p .1 .1, c .before .before .before .before .before .before .before .if2 .taken)) (c .relist2 .ensures) (rw e (c .before .before .before .compact-one2 .ensures (k .entry) _ (one-asks _ _ _ _ _ _ k _ (m .0) (m .1) 1 _ _ (omega (arith, p .1 .1, c .before .before .before .before .before .before .before .if2 .taken)) (k .stands .second))))
+
+-- src/lib.rt:225:9
+compact-one-requires-3 : tie.Need-compact-one-requires-3
+compact-one-requires-3 c κs =
+    let p = c .before .before .before .before .before .before .before .before .before .before .before .pre in
+    let k = p .0 in
+    let m = c .before .before .before .before .before .before .marks .ensures in
+    record { entry = k .entry; store = _; ready = one-asks _ _ _ _ _ _ k _ (m .0) (m .1) 2 _ _ (omega (arith, p .1 .0, p .1 .1, c .before .before .before .if2 .left, c .before .before .before .before .if1 .left)) (k .stands .third) }
+
+-- src/lib.rt:226:5
+relist-requires-3 : tie.Need-relist-requires-3
+relist-requires-3 c κs = search needs
+
+-- src/lib.rt:201:1
+same-length-3 : tie.Need-same-length-3
+same-length-3 c = search needs
+
+-- src/lib.rt:201:1
+returns-3 : tie.Need-returns-3
+returns-3 c =
+    let p = c .before .before .before .before .before .before .before .before .before .before .before .before .before .before .before .pre in
+    let k = p .0 in
+    let m = c .before .before .before .before .before .before .before .before .before .before .marks .ensures in
+    λ t e. compacted-third _ _ _ _ _ _ k t e _ _ _ _ _ (omega (arith, p .1 .0, p .1 .1, k .valid .ranged .h-high, c .before .before .before .before .before .before .before .if2 .left, c .before .before .before .before .before .before .before .before .if1 .left)) (omega (arith, p .1 .0, p .1 .1, c .before .before .before .before .before .before .before .if2 .left, c .before .before .before .before .before .before .before .before .if1 .left)) (c .relist3 .ensures) (rw e (c .before .before .before .compact-one3 .ensures (k .entry) _ (one-asks _ _ _ _ _ _ k _ (m .0) (m .1) 2 _ _ (omega (arith, p .1 .0, p .1 .1, c .before .before .before .before .before .before .before .if2 .left, c .before .before .before .before .before .before .before .before .if1 .left)) (k .stands .third))))
+
+pub compact-level-spec : {M : Type 1} → statement M
+compact-level-spec =
+    tie.close
+    (tie.spec
+    marks-requires
+    compact-one-requires
+    relist-requires
+    same-length
+    returns
+    compact-one-requires-2
+    relist-requires-2
+    same-length-2
+    returns-2
+    compact-one-requires-3
+    relist-requires-3
+    same-length-3
+    returns-3)

@@ -1,0 +1,55 @@
+use mathlib.Core.Path.{refl, sym}
+use native.Mathlib.Omega.{arith}
+use Rattle.levels.specs.Store.{allocationOf}
+use Rattle.steps.proofs.Paging.{page-ready, gap-ready, page-few, page-left}
+use borrow.Author.Needs.{needs}
+use Rattle.steps.proofs.merge_top.Statement.{statement}
+use Rattle.steps.proofs.merge_top.Tie as tie
+use Rattle.steps.proofs.merge_top.Reads as reads
+use Rattle.steps.proofs.merge_top.Lts as lts
+use Rattle.steps.proofs.count.Reads as count-reads
+use Rattle.geometry.proofs.Geometry.window.Reads as window-reads
+use Rattle.pair.proofs.merge_pages.Reads as merge-pages-reads
+use Rattle.top.proofs.close_gap.Reads as close-gap-reads
+
+-- src/lib.rt:283:9
+merge-pages-requires : tie.Need-merge-pages-requires
+merge-pages-requires c κs = let p = c .before .before .before .before .pre in page-ready _ _ _ _ _ _ _ _ _ (p .ready)
+
+-- src/lib.rt:284:9
+window-requires : tie.Need-window-requires
+window-requires c κs = search needs
+
+-- src/lib.rt:285:5
+close-gap-requires : tie.Need-close-gap-requires
+close-gap-requires c κs =
+    let p = c .before .before .before .before .before .before .before .before .before .pre in
+    let k = p .ready in
+    gap-ready _ (p .store) _ _ _ _ _ _ _ k _ _ _ _ (c .before .before .before .before .merge-pages .ensures (allocationOf (p .store)) (sym (k .cursor-is)) (k .marks)) _ (c .before .window .ensures)
+
+-- src/lib.rt:291:9
+count-requires : tie.Need-count-requires
+count-requires c κs =
+    let p = c .before .before .before .before .before .before .before .before .before .before .before .before .pre in
+    let k = p .ready in
+    (k .small, record { merges = omega arith; written = page-few _ (p .store) _ _ _ _ _ _ _ k _ _ _ _ (c .before .before .before .before .before .before .before .merge-pages .ensures (allocationOf (p .store)) (sym (k .cursor-is)) (k .marks)); compacted = omega arith })
+
+-- src/lib.rt:270:1
+same-length : tie.Need-same-length
+same-length c = search needs
+
+-- src/lib.rt:270:1
+returns : tie.Need-returns
+returns c =
+    λ e t k. page-left e t _ _ _ _ _ _ _ k _ _ _ _ (c .before .before .before .before .before .before .before .before .merge-pages .ensures (allocationOf t) (sym (k .cursor-is)) (k .marks)) _ _ _ _ (c .before .before .before .before .before .window .ensures) (c .before .before .before .close-gap .ensures) (c .count .ensures) refl
+
+pub merge-top-spec : {M : Type 1} → statement M
+merge-top-spec =
+    tie.close
+    (tie.spec
+    merge-pages-requires
+    window-requires
+    close-gap-requires
+    count-requires
+    same-length
+    returns)

@@ -1,0 +1,361 @@
+// One merge of a call with its step 5: while the merges run, the place lists stand in work arrays apart from the words.
+
+ghost use mathlib.Core.Path.{_≡_};
+ghost use Prim.Native.Nat.{ℕ, suc, _+_, _≤_};
+ghost use lib.ListN.{length, take};
+ghost use mathlib.Core.List.{map, _++_};
+ghost use Rattle.levels.specs.Waste as waste;
+ghost use Rattle.levels.specs.Place.{Allocation, settle};
+ghost use Rattle.words.specs.Layout.{blockAt};
+ghost use Rattle.merging.specs.Contract.{Leaves};
+ghost use Rattle.pair.specs.Contract.{InUse};
+ghost use Rattle.compaction.specs.Machine.{Compactable};
+ghost use Rattle.levels.specs.Store.{Store};
+ghost use Rattle.levels.specs.Call.{compactIfNeeded, afterCompactions, mergeLevel, afterMerge};
+ghost use Rattle.words.specs.Calls.{compactedBlocks};
+ghost use Rattle.blocks.specs.Blocks.{Marks};
+ghost use Rattle.steps.specs.Running.{namedIn, storeOf, Markable, sumOf, counted, Few, Small, Leaving, Running, compactedCounts, OneReady, OneAsked, OneLeft, relisted, mergedCounts, TwoReady, TwoAsked, TwoLeft, PageReady, PageAsked, StepReady, stepCounts};
+use geometry::Geometry;
+use merging::Merged;
+
+// Of one level: merges into it, blocks written by them, blocks written compacting it.
+pub struct Counts {
+    pub merges: usize,
+    pub written: usize,
+    pub compacted: usize,
+}
+
+// The counts of levels 1 to 3.
+pub struct Tally {
+    pub one: Counts,
+    pub two: Counts,
+    pub three: Counts,
+}
+
+// The lengths of the three lists, the allocation cursor, and the counts so far.
+pub struct Run {
+    pub n1: usize,
+    pub n2: usize,
+    pub n3: usize,
+    pub cursor: usize,
+    pub tally: Tally,
+}
+
+// The length of one list, the cursor and the counts, after step 5 for its level.
+struct One {
+    n: usize,
+    cursor: usize,
+    tally: Tally,
+}
+
+// The lengths of two lists, the cursor and the counts, after a merge of their levels.
+struct Two {
+    a: usize,
+    n: usize,
+    cursor: usize,
+    tally: Tally,
+}
+
+fn sum(a: Counts, b: Counts) -> Counts
+    requires { ⌜ Few 2000000000 a × Few 8192 b ⌝ }
+    ensures { λ r. ⌜ r ≡ sumOf a b ⌝ }
+{
+    Counts {
+        merges: a.merges + b.merges,
+        written: a.written + b.written,
+        compacted: a.compacted + b.compacted,
+    }
+}
+
+// c more for a level.
+fn count(t: Tally, level: usize, c: Counts) -> Tally
+    requires { ⌜ Small 2000000000 t × Few 8192 c ⌝ }
+    ensures { λ r. ⌜ r ≡ counted t level c ⌝ }
+{
+    let one = t.one;
+    let two = t.two;
+    let three = t.three;
+    if level == 1 {
+        let d = sum(one, c);
+        return Tally {
+            one: d,
+            two: two,
+            three: three,
+        };
+    }
+    if level == 2 {
+        let d = sum(two, c);
+        return Tally {
+            one: one,
+            two: d,
+            three: three,
+        };
+    }
+    let d = sum(three, c);
+    Tally {
+        one: one,
+        two: two,
+        three: d,
+    }
+}
+
+// The marks of the places in use.
+fn marks(one: &[u32; 4096], two: &[u32; 4096], three: &[u32; 4096], r: Run) -> [bool; 8192]
+    requires { ⌜ Markable (now one) (now two) (now three) r ⌝ }
+    ensures { λ used. ⌜ Marks used (namedIn (now (one .entry)) (now (two .entry)) (now (three .entry)) r) × (length used ≡ 8192) ⌝ }
+{
+    let mut used = [false; 8192];
+    blocks::mark_listed(&mut used, three, r.n3);
+    blocks::mark_listed(&mut used, two, r.n2);
+    blocks::mark_listed(&mut used, one, r.n1);
+    used
+}
+
+// A level anew, in the place of its list.
+fn compact_list(
+    s: &mut [u32],
+    used: &mut [bool; 8192],
+    list: &mut [u32; 4096],
+    g: Geometry,
+    n: usize,
+    cursor: usize,
+) -> Merged
+    requires { ⌜ InUse (now used) × Compactable g (now s) (now used) (now list) (now list) n cursor ⌝ }
+    ensures { λ r. ⌜ ((a : Allocation) → a .cursor ≡ cursor → Marks (now (used .entry)) (a .used)
+        → Leaves g (settle (g .p) a (waste.compact (g .b) (map (blockAt g (now (s .entry))) (take n (now (list .entry)))))) (now (s .entry)) (now (s .exit)) (now (used .exit)) (now (list .exit)) r) ⌝ }
+{
+    let mut out = [0u32; 4096];
+    let r = compaction::compact(s, used, &mut out, list, g, n, cursor);
+    let m = r.count;
+    joins::copy_entries(list, &out, 0, 0, m);
+    r
+}
+
+// Step 5 for level j + 1, whose list this is: it is compacted if needed.
+fn compact_one(
+    s: &mut [u32],
+    used: &mut [bool; 8192],
+    list: &mut [u32; 4096],
+    g: Geometry,
+    j: usize,
+    n: usize,
+    cursor: usize,
+    tally: Tally,
+) -> One
+    requires { ⌜ OneAsked g (now s) (now used) (now list) j n cursor tally ⌝ }
+    ensures { λ r. ⌜ ((e t : Store) → OneReady e t g (now (s .entry)) (now (used .entry)) (now (list .entry)) j n cursor tally
+        → OneLeft (afterCompactions t (compactIfNeeded g (suc j) t)) (compactedBlocks (compactIfNeeded g (suc j) t)) (compactedCounts (compactIfNeeded g (suc j) t)) g (now (s .entry)) (now (s .exit)) (now (list .exit)) j tally r) ⌝ }
+{
+    if !compaction::needs_compacting(s, list, g, n) {
+        return One {
+            n: n,
+            cursor: cursor,
+            tally: tally,
+        };
+    }
+    let m = compact_list(s, used, list, g, n, cursor);
+    let c = Counts {
+        merges: 0,
+        written: 0,
+        compacted: m.writes,
+    };
+    let more = count(tally, j + 1, c);
+    One {
+        n: m.count,
+        cursor: m.cursor,
+        tally: more,
+    }
+}
+
+// The numbers of level j + 1 anew.
+fn relist(r: Run, j: usize, d: One) -> Run
+    ensures { λ u. ⌜ u ≡ relisted r j d ⌝ }
+{
+    let n1 = r.n1;
+    let n2 = r.n2;
+    let n3 = r.n3;
+    let n = d.n;
+    let cursor = d.cursor;
+    let tally = d.tally;
+    if j == 0 {
+        return Run {
+            n1: n,
+            n2: n2,
+            n3: n3,
+            cursor: cursor,
+            tally: tally,
+        };
+    }
+    if j == 1 {
+        return Run {
+            n1: n1,
+            n2: n,
+            n3: n3,
+            cursor: cursor,
+            tally: tally,
+        };
+    }
+    Run {
+        n1: n1,
+        n2: n2,
+        n3: n,
+        cursor: cursor,
+        tally: tally,
+    }
+}
+
+// Step 5 for one level, by its number.
+fn compact_level(
+    s: &mut [u32],
+    one: &mut [u32; 4096],
+    two: &mut [u32; 4096],
+    three: &mut [u32; 4096],
+    g: Geometry,
+    level: usize,
+    r: Run,
+) -> Run
+    requires { ⌜ Running 2000000000 g (now s) (now one) (now two) (now three) r × ((1 ≤ level) × (level ≤ g .h)) ⌝ }
+    ensures { λ u. ⌜ ((t : Store) → t ≡ storeOf g (now (s .entry)) (now (one .entry)) (now (two .entry)) (now (three .entry)) r
+        → Leaving g (afterCompactions t (compactIfNeeded g level t)) (compactedBlocks (compactIfNeeded g level t)) (compactedCounts (compactIfNeeded g level t)) (now (s .entry)) r (now (s .exit)) (now (one .exit)) (now (two .exit)) (now (three .exit)) u) ⌝ }
+{
+    let mut used = marks(one, two, three, r);
+    let cursor = r.cursor;
+    let tally = r.tally;
+    if level == 1 {
+        let d = compact_one(s, &mut used, one, g, 0, r.n1, cursor, tally);
+        return relist(r, 0, d);
+    }
+    if level == 2 {
+        let d = compact_one(s, &mut used, two, g, 1, r.n2, cursor, tally);
+        return relist(r, 1, d);
+    }
+    let d = compact_one(s, &mut used, three, g, 2, r.n3, cursor, tally);
+    relist(r, 2, d)
+}
+
+// A merge from a listed level to the next without its step 5.
+fn merge_two(
+    s: &mut [u32],
+    used: &mut [bool; 8192],
+    upper: &mut [u32; 4096],
+    lower: &mut [u32; 4096],
+    g: Geometry,
+    level: usize,
+    a: usize,
+    n: usize,
+    cursor: usize,
+    tally: Tally,
+) -> Two
+    requires { ⌜ TwoAsked g (now s) (now used) (now upper) (now lower) level a n cursor tally ⌝ }
+    ensures { λ r. ⌜ ((e t : Store) (j : ℕ) → TwoReady e t j g (now (s .entry)) (now (used .entry)) (now (upper .entry)) (now (lower .entry)) level a n cursor tally
+        → TwoLeft (mergeLevel g (suc j) t .finish) (mergeLevel g (suc j) t .written) (mergedCounts (mergeLevel g (suc j) t)) j g (now (s .entry)) (now (s .exit)) (now (upper .exit)) (now (lower .exit)) tally r) ⌝ }
+{
+    let m = pair::merge_pair(s, used, upper, lower, g, level, a, n, cursor);
+    let c = Counts {
+        merges: 1,
+        written: m.writes,
+        compacted: 0,
+    };
+    let more = count(tally, level + 1, c);
+    Two {
+        a: m.above,
+        n: m.under,
+        cursor: m.cursor,
+        tally: more,
+    }
+}
+
+// A merge out of level 0, which is full, without its step 5.
+fn merge_top(
+    s: &mut [u32],
+    used: &mut [bool; 8192],
+    list: &mut [u32; 4096],
+    g: Geometry,
+    n: usize,
+    cursor: usize,
+    tally: Tally,
+) -> One
+    requires { ⌜ PageAsked g (now s) (now used) (now list) n cursor tally ⌝ }
+    ensures { λ r. ⌜ ((e t : Store) → PageReady e t g (now (s .entry)) (now (used .entry)) (now (list .entry)) n cursor tally
+        → OneLeft (mergeLevel g 0 t .finish) (mergeLevel g 0 t .written) (mergedCounts (mergeLevel g 0 t)) g (now (s .entry)) (now (s .exit)) (now (list .exit)) 0 tally r) ⌝ }
+{
+    let m = pair::merge_pages(s, used, list, g, n, cursor);
+    let w = g.window(0);
+    top::close_gap(s, g, m.first, w);
+    let c = Counts {
+        merges: 1,
+        written: m.writes,
+        compacted: 0,
+    };
+    let more = count(tally, 1, c);
+    One {
+        n: m.under,
+        cursor: m.cursor,
+        tally: more,
+    }
+}
+
+// A merge out of a level without its step 5.
+fn merge_level(
+    s: &mut [u32],
+    one: &mut [u32; 4096],
+    two: &mut [u32; 4096],
+    three: &mut [u32; 4096],
+    g: Geometry,
+    level: usize,
+    r: Run,
+) -> Run
+    requires { ⌜ StepReady 2000000000 g (now s) (now one) (now two) (now three) level r ⌝ }
+    ensures { λ u. ⌜ ((t : Store) → t ≡ storeOf g (now (s .entry)) (now (one .entry)) (now (two .entry)) (now (three .entry)) r
+        → Leaving g (mergeLevel g level t .finish) (mergeLevel g level t .written) (mergedCounts (mergeLevel g level t)) (now (s .entry)) r (now (s .exit)) (now (one .exit)) (now (two .exit)) (now (three .exit)) u) ⌝ }
+{
+    let mut used = marks(one, two, three, r);
+    let cursor = r.cursor;
+    let tally = r.tally;
+    if level == 0 {
+        let d = merge_top(s, &mut used, one, g, r.n1, cursor, tally);
+        return relist(r, 0, d);
+    }
+    if level == 1 {
+        let d = merge_two(s, &mut used, one, two, g, 1, r.n1, r.n2, cursor, tally);
+        let more = d.tally;
+        return Run {
+            n1: d.a,
+            n2: d.n,
+            n3: r.n3,
+            cursor: d.cursor,
+            tally: more,
+        };
+    }
+    let d = merge_two(s, &mut used, two, three, g, 2, r.n2, r.n3, cursor, tally);
+    let more = d.tally;
+    Run {
+        n1: r.n1,
+        n2: d.a,
+        n3: d.n,
+        cursor: d.cursor,
+        tally: more,
+    }
+}
+
+// A merge out of a level, and its step 5: that level, if it is a listed one, then the next.
+pub fn merge_step(
+    s: &mut [u32],
+    one: &mut [u32; 4096],
+    two: &mut [u32; 4096],
+    three: &mut [u32; 4096],
+    g: Geometry,
+    level: usize,
+    r: Run,
+) -> Run
+    requires { ⌜ StepReady 1900000000 g (now s) (now one) (now two) (now three) level r ⌝ }
+    ensures { λ u. ⌜ ((t : Store) → t ≡ storeOf g (now (s .entry)) (now (one .entry)) (now (two .entry)) (now (three .entry)) r
+        → Leaving g (afterMerge (mergeLevel g level t)) (mergeLevel g level t .written ++ compactedBlocks (mergeLevel g level t .compactions)) (stepCounts (mergeLevel g level t)) (now (s .entry)) r (now (s .exit)) (now (one .exit)) (now (two .exit)) (now (three .exit)) u) ⌝ }
+{
+    let a = merge_level(s, one, two, three, g, level, r);
+    if level == 0 {
+        return compact_level(s, one, two, three, g, 1, a);
+    }
+    let b = compact_level(s, one, two, three, g, level, a);
+    compact_level(s, one, two, three, g, level + 1, b)
+}
