@@ -14,7 +14,7 @@ use Rattle.levels.specs.Record.{Rec, rising, cleanTombstones}
 use Rattle.words.specs.Layout.{word, slotsAt}
 use Rattle.chunks.specs.declared.Rise.{Rise}
 use Rattle.chunks.specs.declared.Rise.the-variants.{To, Broken}
-use Rattle.chunks.specs.Chunks.{zerosAt, nextLow, riseOf}
+use Rattle.chunks.specs.Chunks.{zerosAt, nextLow, riseOf, cleanOf}
 
 -- one word of `zeros`
 module _ (ws : List ℕ) (start n i : ℕ) where
@@ -36,19 +36,11 @@ module _ (ws : List ℕ) (start n i : ℕ) where
 pub zeros-start : (ws : List ℕ) (start n : ℕ) → zerosAt ws (start + 0) (n - 0) ≡ zerosAt ws start n
 zeros-start ws start n = let p : start + 0 ≡ start = omega arith in let q : n - 0 ≡ n = omega arith in rw (p, q)
 
--- an answer for mark word 0 is one for a mark word that is 0
-pub rise-zero : (ws : List ℕ) (m k v n low : ℕ) (r : Rise) → m ≡ 0 → r ≡ riseOf ws 0 k v n low → r ≡ riseOf ws m k v n low
-rise-zero ws m k v n low r e q = rw e q
-
--- one record of `rise_over`
+-- one record of the pass
 module _ (ws : List ℕ) (m k v n j low : ℕ) (l : j < n) where
   pub rise-low : word ws (k + j) < low → riseOf ws m (k + j) (v + j) (n - j) low ≡ Broken
   unfolding riseOf
   rise-low h = let p : n - j ≡ suc (n - (j + 1)) = omega arith in rw (p, lt-leb _ _ h)
-
-  pub rise-dirty : (eqb (m % 2) 1 && not (eqb (word ws (v + j)) 0)) ≡ true → low ≤ word ws (k + j) → riseOf ws m (k + j) (v + j) (n - j) low ≡ Broken
-  unfolding riseOf
-  rise-dirty e h = let p : n - j ≡ suc (n - (j + 1)) = omega arith in rw (p, le-leb _ _ h, e)
 
   pub rise-next : (eqb (m % 2) 1 && not (eqb (word ws (v + j)) 0)) ≡ false → low ≤ word ws (k + j) → riseOf ws m (k + j) (v + j) (n - j) low ≡ riseOf ws (m / 2) (k + (j + 1)) (v + (j + 1)) (n - (j + 1)) (word ws (k + j) + 1)
   unfolding riseOf
@@ -66,10 +58,6 @@ module _ (ws : List ℕ) (m k v n j low : ℕ) (h : n ≤ j) where
   unfolding riseOf
   rise-end e = let p : n - j ≡ 0 = omega arith in rw (p, eq-eqb _ _ e)
 
-  pub rise-extra : (m ≡ 0 → ⊥) → riseOf ws m (k + j) (v + j) (n - j) low ≡ Broken
-  unfolding riseOf
-  rise-extra e = let p : n - j ≡ 0 = omega arith in rw (p, ne-eqb _ _ e)
-
 -- two records of `rise_plain`, or the last one
 module _ (ws : List ℕ) (k v n j low : ℕ) (h : low ≤ word ws (k + j)) where
   pub rise-two : j + 1 < n → word ws (k + j) < word ws (k + (j + 1)) → riseOf ws 0 (k + j) (v + j) (n - j) low ≡ riseOf ws 0 (k + (j + 2)) (v + (j + 2)) (n - (j + 2)) (word ws (k + (j + 1)) + 1)
@@ -82,6 +70,42 @@ module _ (ws : List ℕ) (k v n j low : ℕ) (h : low ≤ word ws (k + j)) where
 
   pub rise-last : j < n → n ≤ j + 1 → riseOf ws 0 (k + j) (v + j) (n - j) low ≡ To (word ws (k + j) + 1)
   rise-last l g = rise-next ws 0 k v n j low l refl h ∙ rise-end ws 0 k v n (j + 1) (word ws (k + j) + 1) g refl
+
+-- one record of `clean`, with what the records before it said
+module _ (ws : List ℕ) (ok : Bool) (m v n j : ℕ) where
+  pub clean-next : j < n → (ok && cleanOf ws m (v + j) (n - j)) ≡ ((ok && not (eqb (m % 2) 1 && not (eqb (word ws (v + j)) 0))) && cleanOf ws (m / 2) (v + (j + 1)) (n - (j + 1)))
+  unfolding cleanOf
+  clean-next l =
+      let p : n - j ≡ suc (n - (j + 1)) = omega arith in
+      let q : v + (j + 1) ≡ suc (v + j) = omega arith in
+      rw (p, q) (sym (and-assoc ok (not (eqb (m % 2) 1 && not (eqb (word ws (v + j)) 0))) (cleanOf ws (m / 2) (suc (v + j)) (n - (j + 1)))))
+
+  pub clean-end : n ≤ j → (ok && cleanOf ws m (v + j) (n - j)) ≡ (ok && eqb m 0)
+  unfolding cleanOf
+  clean-end h = let p : n - j ≡ 0 = omega arith in rw p
+
+pub clean-start : (ws : List ℕ) (m v n : ℕ) → (true && cleanOf ws m (v + 0) (n - 0)) ≡ cleanOf ws m v n
+clean-start ws m v n = let p : v + 0 ≡ v = omega arith in let q : n - 0 ≡ n = omega arith in rw (p, q)
+
+-- mark word 0 is clean
+pub clean-zero : (ws : List ℕ) (v n : ℕ) → cleanOf ws 0 v n ≡ true
+unfolding cleanOf
+clean-zero ws v zero = refl
+clean-zero ws v (suc n) = clean-zero ws (suc v) n
+
+-- the pass is one over the payloads and mark bits, and then one over the keys
+pub rise-clean : (ws : List ℕ) (m k v n low : ℕ) → riseOf ws m k v n low ≡ (if cleanOf ws m v n then riseOf ws 0 k v n low else Broken)
+unfolding riseOf cleanOf
+rise-clean ws m k v zero low = refl
+rise-clean ws m k v (suc n) low =
+    rw (rise-clean ws (m / 2) (suc k) (suc v) n (suc (word ws k))) (go (leb low (word ws k)) (eqb (m % 2) 1 && not (eqb (word ws v) 0)) (cleanOf ws (m / 2) (suc v) n) (riseOf ws 0 (suc k) (suc v) n (suc (word ws k))))
+  where
+    go : (a d c : Bool) (x : Rise) → (if a && not d then (if c then x else Broken) else Broken) ≡ (if not d && c then (if a && true then x else Broken) else Broken)
+    go true true c x = refl
+    go false true c x = refl
+    go true false c x = refl
+    go false false true x = refl
+    go false false false x = refl
 
 -- bits past the first are those of the halved word past one fewer
 pub shift-suc : (m n : ℕ) → m / 2 ^ suc n ≡ m / 2 / 2 ^ n

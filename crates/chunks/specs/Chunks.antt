@@ -35,3 +35,8 @@ unfoldable pub riseOf : List ℕ → ℕ → ℕ → ℕ → ℕ → ℕ → Ris
 riseOf ws m k v zero low = if eqb m 0 then To low else Broken
 riseOf ws m k v (suc n) low =
     if leb low (word ws k) && not (eqb (m % 2) 1 && not (eqb (word ws v) 0)) then riseOf ws (m / 2) (suc k) (suc v) n (suc (word ws k)) else Broken
+
+-- what the code's pass over the payloads and mark bits of those records finds: the payload of a tombstone is 0, and no bit is set past the count; `rise-clean` says how it and the keys make up `riseOf`
+unfoldable pub cleanOf : List ℕ → ℕ → ℕ → ℕ → Bool
+cleanOf ws m v zero = eqb m 0
+cleanOf ws m v (suc n) = not (eqb (m % 2) 1 && not (eqb (word ws v) 0)) && cleanOf ws (m / 2) (suc v) n

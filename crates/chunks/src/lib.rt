@@ -5,7 +5,7 @@ ghost use mathlib.Core.Path.{_≡_};
 ghost use Prim.Native.Nat.{_+_, _≤_, _<_};
 ghost use lib.ListN.{length};
 ghost use Rattle.words.specs.Layout.{word};
-ghost use Rattle.chunks.specs.Chunks.{Inside, riseOf, zerosAt};
+ghost use Rattle.chunks.specs.Chunks.{Inside, riseOf, cleanOf, zerosAt};
 
 // Records in a row: their mark word, the words where their keys and their payloads start, and how many they are.
 pub struct Chunk {
@@ -34,8 +34,8 @@ pub fn zeros(s: &[u32], start: usize, n: usize) -> bool
     true
 }
 
-// The same as `rise_over`, for a chunk with no mark bit set, as most are: it leaves the payloads alone, and
-// takes two keys at a time.
+// The keys of a chunk rise strictly from `low` on: what `rise_over` finds where no mark bit is set. It leaves
+// the payloads alone, and takes two keys at a time.
 fn rise_plain(s: &[u32], chunk: Chunk, low: usize) -> Rise
     requires { ⌜ Inside chunk (now s) ⌝ }
     ensures { λ t. ⌜ t ≡ riseOf (now (s .entry)) 0 (chunk .keys) (chunk .pays) (chunk .count) low ⌝ }
@@ -66,35 +66,33 @@ fn rise_plain(s: &[u32], chunk: Chunk, low: usize) -> Rise
     Rise::To(last + 1)
 }
 
+// The payload of a tombstone is 0, and no mark bit is set past the count. The mark word is halved with each
+// record, so that what is left of it at the end is the bits past the count. Marks come in no order that could
+// be foreseen, so nothing in the loop branches on one.
+fn clean(s: &[u32], marks: u32, pays: usize, count: usize) -> bool
+    requires { ⌜ pays + count ≤ length (now s) ⌝ }
+    ensures { λ t. ⌜ t ≡ cleanOf (now (s .entry)) marks pays count ⌝ }
+{
+    if marks == 0 {
+        return true;
+    }
+    let mut m = marks;
+    let mut ok = true;
+    for j in 0..count {
+        ok = ok & !((m % 2 == 1) & (s[pays + j] != 0));
+        m = m / 2;
+    }
+    ok & (m == 0)
+}
+
 // The keys of a chunk rise strictly from `low` on, the payload of a tombstone is 0, and no mark bit is
-// set past the count. The mark word is halved with each record, so that what is left of it at the end
-// is the bits past the count.
+// set past the count.
 pub fn rise_over(s: &[u32], chunk: Chunk, low: usize) -> Rise
     requires { ⌜ Inside chunk (now s) ⌝ }
     ensures { λ t. ⌜ t ≡ riseOf (now (s .entry)) (chunk .marks) (chunk .keys) (chunk .pays) (chunk .count) low ⌝ }
 {
-    if chunk.marks == 0 {
+    if clean(s, chunk.marks, chunk.pays, chunk.count) {
         return rise_plain(s, chunk, low);
-    }
-    let k = chunk.keys;
-    let v = chunk.pays;
-    let n = chunk.count;
-    let mut m = chunk.marks;
-    let mut least = low;
-    for j in 0..n {
-        let key = s[k + j] as usize;
-        if key < least {
-            return Rise::Broken;
-        }
-        let dirty = (m % 2 == 1) & (s[v + j] != 0);
-        if dirty {
-            return Rise::Broken;
-        }
-        m = m / 2;
-        least = key + 1;
-    }
-    if m == 0 {
-        return Rise::To(least);
     }
     Rise::Broken
 }
