@@ -137,10 +137,6 @@ shows-at z ws c (suc j) f l =
           marks = λ w. absurd (true≢false (sym w ∙ u));
         })
 
-pub if-true : {A : Type 0} (t : Bool) (a b : A) → t ≡ true → (if t then a else b) ≡ a
-if-true true a b e = refl
-if-true false a b e = absurd (true≢false (sym e))
-
 ends-same : (k : ℕ) (o : Head) (l : Level) → Sees o l → endsBelow k l ≡ (not (o .some) || ltb k (o .key))
 ends-same k o [] (nothing e) = rw e
 ends-same k o (b ∷ bs) (block s) = rw (s .there, s .key)

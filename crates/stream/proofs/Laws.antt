@@ -4,7 +4,6 @@ use mathlib.Core.Path.{_≡_, sym, ap, _∙_, refl}
 use mathlib.Core.Bool.{Bool, true, false, not, _&&_, _||_, true≢false}
 use mathlib.Core.List.{List, [], _∷_}
 use native.Mathlib.Nat.{mul-le-mul-right}
-use native.Mathlib.Numerals.{add-one}
 use native.Mathlib.Omega.{arith}
 use lib.Dec.{ltb, leb, eqb}
 use borrow.Author.Tests.{leb-true, leb-false, le-leb, lt-leb}
@@ -29,15 +28,32 @@ pub flushed-m : (z : Layout) (a : Memory) → flushed z a .st .m ≤ a .st .m + 
 unfolding flushed
 flushed-m z a = if-either (λ (b : Memory). b .st .m ≤ a .st .m + 1) (eqb (a .st .buf .n) 0) a (writtenAt z a (nextMark (z .p) (a .used) (a .st .cursor))) (omega arith) (omega arith)
 
+-- one branch, where the test is known
+pub if-true : {A : Type 0} (t : Bool) (a b : A) → t ≡ true → (if t then a else b) ≡ a
+if-true true a b e = refl
+if-true false a b e = absurd (true≢false (sym e))
+
+pub if-false : {A : Type 0} (t : Bool) (a b : A) → t ≡ false → (if t then a else b) ≡ b
+if-false true a b e = absurd (true≢false e)
+if-false false a b e = refl
+
+-- The turns are counted outside the machine's text: `rw` in a goal that holds an open turn took 2.3 GB.
 module _ (z : Layout) (t : Inputs) (xs ys : List ℕ) where
   pub turns-more : (i : ℕ) (a : Memory) → idle z t xs ys (turns z t xs ys i a) ≡ false → turn z t xs ys (turns z t xs ys i a) ≡ turns z t xs ys (i + 1) a
   unfolding turns
-  turns-more i a e = rw (add-one i, e)
+  turns-more i a e =
+      let b : Memory = turns z t xs ys i a in
+      let h : suc i ≡ i + 1 = omega arith in
+      sym (if-false (idle z t xs ys b) b (turn z t xs ys b) e) ∙ ap (λ (n : ℕ). turns z t xs ys n a) h
 
   pub turns-idle : (d i : ℕ) (a : Memory) → idle z t xs ys (turns z t xs ys i a) ≡ true → turns z t xs ys (i + d) a ≡ turns z t xs ys i a
   unfolding turns
-  turns-idle zero i a e = let h : i + zero ≡ i = omega arith in rw h
-  turns-idle (suc d) i a e = let h : i + suc d ≡ suc (i + d) = omega arith in rw (h, turns-idle d i a e, e)
+  turns-idle zero i a e = let h : i + zero ≡ i = omega arith in ap (λ (n : ℕ). turns z t xs ys n a) h
+  turns-idle (suc d) i a e =
+      let h : i + suc d ≡ suc (i + d) = omega arith in
+      let b : Memory = turns z t xs ys (i + d) a in
+      let s : b ≡ turns z t xs ys i a = turns-idle d i a e in
+      ap (λ (n : ℕ). turns z t xs ys n a) h ∙ (if-true (idle z t xs ys b) b (turn z t xs ys b) (ap (idle z t xs ys) s ∙ e) ∙ s)
 
 -- the places, the buffer and the list are not touched by a move of a side
 pub same-movable : (z : Layout) (xs : List ℕ) (used : List Bool) (v w : Progress) → v .m ≡ w .m → v .writes ≡ w .writes → v .cursor ≡ w .cursor → v .buf ≡ w .buf → Movable z xs used w → Movable z xs used v
