@@ -20,9 +20,9 @@ use Rattle.levels.specs.Merge.{Out, State, headRec, endsBelow, apart, mayFollow
 use Rattle.blocks.specs.declared.Layout.{Layout}
 use Rattle.blocks.specs.declared.Buffer.{Buffer}
 use Rattle.blocks.specs.Blocks.{Sized, startOf}
-use Rattle.stream.specs.declared.Chunk.{Chunk}
-use Rattle.stream.specs.declared.Head.{Head}
-use Rattle.stream.specs.Machine.{chunkOf, headOf, headAt, noHead, first, follows}
+use Rattle.sides.specs.declared.Chunk.{Chunk}
+use Rattle.sides.specs.declared.Head.{Head}
+use Rattle.sides.specs.Sides.{chunkOf, headOf, headAt, noHead, first, follows}
 use Rattle.merging.specs.Relation.{Formed, headSize}
 use Rattle.merging.specs.Blocks.{recAt, recsFrom, blockOf, blocks, begun, beginWith, side}
 
