@@ -19,13 +19,13 @@ ghost use Rattle.store.specs.Answers.{formatAnswer, lookedAnswer, looked
 ghost use Rattle.store.specs.Change.{liveFound, hasRoom, withEntered, Counted, Entered, PutDone, DeleteDone};
 ghost use Rattle.store.specs.Format.{headed};
 ghost use Rattle.store.specs.Show.{showPartIn, showPart};
-use steps::Counts;
-use steps::Tally;
 use entry::Opened;
 use form::Checked;
 use geometry::Geometry;
 use search::Enclosed;
 use search::Found;
+use steps::Counts;
+use steps::Tally;
 use top::Spot;
 use walk::Following;
 
