@@ -16,7 +16,7 @@ use Rattle.words.specs.Layout.{blockAt}
 use Rattle.blocks.specs.declared.Layout.{Layout}
 use Rattle.blocks.specs.Blocks.{layoutOf, startOf}
 use Rattle.blocks.proofs.Laws.{sized-of, start-place}
-use Rattle.stream.specs.Machine.{blockChunk}
+use Rattle.sides.specs.Sides.{blockChunk}
 use Rattle.merging.specs.Blocks.{recsFrom, countAt, storedAt, blocks}
 use Rattle.merging.proofs.Heads.{recs-length}
 use Rattle.merging.proofs.Begin.{no-blocks, blocks-snoc}

@@ -11,9 +11,10 @@ use Rattle.levels.specs.Record.{Rec}
 use Rattle.blocks.specs.declared.Layout.{Layout}
 use Rattle.blocks.specs.Blocks.{Sized, SomeFree, bufferOf}
 use Rattle.blocks.proofs.Laws.{free-found}
-use Rattle.stream.specs.declared.Chunk.{Chunk}
-use Rattle.stream.specs.declared.Head.{Head}
-use Rattle.stream.specs.Machine.{Memory, blockChunk, headAt, gathered}
+use Rattle.sides.specs.declared.Chunk.{Chunk}
+use Rattle.sides.specs.declared.Head.{Head}
+use Rattle.sides.specs.Sides.{blockChunk, headAt}
+use Rattle.stream.specs.Machine.{Memory, gathered}
 use Rattle.merging.specs.Contract.{countMarks}
 use Rattle.merging.specs.Blocks.{recAt, recsFrom, countAt}
 use Rattle.merging.specs.Relation.{Holds, start}

@@ -8,8 +8,9 @@ use native.Mathlib.Omega.{arith}
 use lib.ListN.{length, getD}
 use Rattle.blocks.specs.declared.Layout.{Layout}
 use Rattle.blocks.proofs.Laws.{ends}
-use Rattle.stream.specs.declared.Chunk.{Chunk}
-use Rattle.stream.specs.Machine.{Memory, blockChunk, headAt, gathered}
+use Rattle.sides.specs.declared.Chunk.{Chunk}
+use Rattle.sides.specs.Sides.{blockChunk, headAt}
+use Rattle.stream.specs.Machine.{Memory, gathered}
 use Rattle.compaction.specs.Machine.{recordsGathered, chunkGathered, blocksGathered, Roomy, Gathering}
 
 pub records-more : (z : Layout) (c : Chunk) (j : ℕ) (a b : Memory) → b ≡ recordsGathered z c j a → gathered z false b (headAt (b .words) c j) ≡ recordsGathered z c (j + 1) a

@@ -15,7 +15,8 @@ use Rattle.words.specs.Layout.{blockAt}
 use Rattle.blocks.specs.declared.Layout.{Layout}
 use Rattle.blocks.specs.Blocks.{Sized, layoutOf, Marks}
 use Rattle.blocks.proofs.Laws.{sized-of, start-place}
-use Rattle.stream.specs.Machine.{Memory, Flushable, lastSize, blockChunk, flushed}
+use Rattle.sides.specs.Sides.{lastSize, blockChunk}
+use Rattle.stream.specs.Machine.{Memory, Flushable, flushed}
 use Rattle.stream.proofs.Laws.{flushed-m}
 use Rattle.merging.specs.Blocks.{recsFrom, countAt, blocks, layAll, layDone}
 use Rattle.merging.specs.Relation.{flashOf, start}

@@ -9,9 +9,10 @@ use Rattle.geometry.specs.Geometry.{Valid, storeLength}
 use Rattle.words.specs.Layout.{recordCount}
 use Rattle.blocks.specs.declared.Layout.{Layout}
 use Rattle.blocks.specs.Blocks.{Sized, startOf, emptyBuffer}
-use Rattle.stream.specs.declared.Chunk.{Chunk}
+use Rattle.sides.specs.declared.Chunk.{Chunk}
 use Rattle.stream.specs.declared.Progress.{Progress}
-use Rattle.stream.specs.Machine.{Memory, Flushable, Gatherable, blockChunk, headAt, gathered}
+use Rattle.sides.specs.Sides.{blockChunk, headAt}
+use Rattle.stream.specs.Machine.{Memory, Flushable, Gatherable, gathered}
 use Rattle.merging.specs.Contract.{countMarks, ListedBlock}
 
 -- the first j records of a chunk are gathered: each is read when its turn comes

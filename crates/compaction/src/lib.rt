@@ -30,11 +30,11 @@ fn gather_chunk(
     requires { ⌜ Gathering z q (record { words = now s; used = now used; out = now out; st = w }) ⌝ }
     ensures { λ r. ⌜ _≡_ {A = Memory} (record { words = now (s .exit); used = now (used .exit); out = now (out .exit); st = r }) (chunkGathered z q (record { words = now (s .entry); used = now (used .entry); out = now (out .entry); st = w })) ⌝ }
 {
-    let c = stream::block_chunk(s, z, q);
+    let c = sides::block_chunk(s, z, q);
     let n = c.n;
     let mut v = w;
     for j in 0..n {
-        let h = stream::head_at(s, c, j);
+        let h = sides::head_at(s, c, j);
         v = stream::gather(s, used, out, z, false, v, h);
     }
     v
@@ -55,7 +55,7 @@ fn gather_blocks(
 {
     let mut v = w;
     for i in 0..n {
-        let q = stream::listed(list, i);
+        let q = sides::listed(list, i);
         v = gather_chunk(s, used, out, z, v, q);
     }
     v
@@ -113,9 +113,9 @@ fn record_sum(s: &[u32], list: &[u32; 4096], z: Layout, n: usize) -> usize
 {
     let mut total: usize = 0;
     for k in 0..n {
-        let q = stream::listed(list, k);
+        let q = sides::listed(list, k);
         let at = blocks::place_start(z, q);
-        total = total + stream::word(s, at);
+        total = total + sides::word(s, at);
     }
     total
 }

@@ -12,7 +12,7 @@ use Rattle.blocks.specs.declared.Buffer.{Buffer}
 use Rattle.blocks.specs.Blocks.{Sized, startOf, pushed, emptyBuffer}
 use Rattle.joins.specs.Joins.{Clean, Loadable, appended, joined, Pullable, pulled, Lefts, restedOut}
 use Rattle.stream.specs.declared.Progress.{Progress}
-use Rattle.stream.specs.Machine.{lastSize}
+use Rattle.sides.specs.Sides.{lastSize}
 use Rattle.levels.specs.Basics.{if_then_else_}
 use borrow.Author.Tests.{eqb-false}
 use lib.Dec.{eqb}

@@ -10,7 +10,8 @@ use Rattle.blocks.specs.declared.Layout.{Layout}
 use Rattle.blocks.specs.declared.Buffer.{Buffer}
 use Rattle.blocks.specs.Blocks.{Sized, startOf, pushed, emptyBuffer}
 use Rattle.stream.specs.declared.Progress.{Progress}
-use Rattle.stream.specs.Machine.{Memory, lastSize, withBuffer, skipY, flushed, Flushable}
+use Rattle.sides.specs.Sides.{lastSize}
+use Rattle.stream.specs.Machine.{Memory, withBuffer, skipY, flushed, Flushable}
 
 -- no bits but those of the records
 pub record Clean (a : Buffer) : Type 0 where

@@ -5,7 +5,8 @@ ghost use mathlib.Core.Path.{_≡_};
 ghost use Prim.Native.Nat.{ℕ, _+_, _-_, _*_, _^_, _/_, _%_, _≤_, _<_};
 ghost use lib.ListN.{length, getD, set};
 ghost use Rattle.blocks.specs.Blocks.{Sized, startOf};
-ghost use Rattle.stream.specs.Machine.{Memory, lastSize, Flushable, flushed};
+ghost use Rattle.sides.specs.Sides.{lastSize};
+ghost use Rattle.stream.specs.Machine.{Memory, Flushable, flushed};
 ghost use Rattle.joins.specs.Joins.{Clean, Loadable, appended, joined, Pullable, pulled, Lefts, leftJoined, Afters, afterTaken, afterJoined, restedOut, Closable, closed};
 use blocks::Buffer;
 use blocks::Layout;
@@ -33,7 +34,7 @@ fn append_block(s: &[u32], z: Layout, q: usize, buf: Buffer) -> Buffer
     ensures { λ r. ⌜ r ≡ appended (z .b) (now (s .entry)) (startOf z q) buf (getD (now (s .entry)) (startOf z q) 0) ⌝ }
 {
     let at = blocks::place_start(z, q);
-    let n = stream::word(s, at);
+    let n = sides::word(s, at);
     append_words(s, z, at, n, buf)
 }
 
@@ -61,7 +62,7 @@ fn pull_last(s: &[u32], z: Layout, out: &[u32; 4096], w: Progress) -> Progress
     ensures { λ r. ⌜ r ≡ pulled z (now (s .entry)) (now (out .entry)) w ⌝ }
 {
     let m = w.m - 1;
-    let q = stream::listed(out, m);
+    let q = sides::listed(out, m);
     let none = blocks::empty();
     let last = append_block(s, z, q, none);
     let old = w.buf;
@@ -89,7 +90,7 @@ fn join_left(s: &[u32], z: Layout, out: &[u32; 4096], w: Progress) -> Progress
         return w;
     }
     let m = w.m;
-    let e = stream::last_size(s, z, out, m);
+    let e = sides::last_size(s, z, out, m);
     let b = z.b;
     if e + n <= b {
         return pull_last(s, z, out, w);
@@ -132,15 +133,15 @@ fn join_after(
     if end <= yi {
         return w;
     }
-    let q = stream::listed(ys, yi);
+    let q = sides::listed(ys, yi);
     let at = blocks::place_start(z, q);
-    let size = stream::word(s, at);
+    let size = sides::word(s, at);
     let buf = w.buf;
     let n = buf.n;
     let b = z.b;
     if n == 0 {
         let m = w.m;
-        let e = stream::last_size(s, z, out, m);
+        let e = sides::last_size(s, z, out, m);
         if e + size <= b {
             let v = pull_last(s, z, out, w);
             return take_after(s, z, q, v);

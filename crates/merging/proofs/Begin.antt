@@ -15,7 +15,8 @@ use Rattle.blocks.specs.declared.Layout.{Layout}
 use Rattle.blocks.specs.declared.Buffer.{Buffer}
 use Rattle.blocks.specs.Blocks.{emptyBuffer, bufferOf}
 use Rattle.stream.specs.declared.Progress.{Progress}
-use Rattle.stream.specs.Machine.{Memory, blockChunk, chunkOf, lastSize}
+use Rattle.sides.specs.Sides.{blockChunk, chunkOf, lastSize}
+use Rattle.stream.specs.Machine.{Memory}
 use Rattle.merging.specs.Relation.{headSize, flashOf, Holds, LastIs, start}
 use Rattle.merging.specs.Blocks.{recsFrom, countAt, storedAt, blocks, Flash, lay, layAll, layDone}
 use Rattle.merging.proofs.Heads.{recs-length}

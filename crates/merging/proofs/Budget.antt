@@ -17,8 +17,9 @@ use Rattle.blocks.specs.declared.Buffer.{Buffer}
 use Rattle.blocks.specs.Blocks.{SomeFree, bufferOf}
 use Rattle.stream.specs.declared.Progress.{Progress}
 use Rattle.stream.specs.declared.Inputs.{Inputs}
-use Rattle.stream.specs.Machine.{Memory, chunkOf, headOf, headAt, noHead, lastSize, first, tookX, tookY, tookBoth, turn, idle, turns}
-use Rattle.stream.proofs.Laws.{if-either}
+use Rattle.sides.specs.Sides.{chunkOf, headOf, headAt, noHead, lastSize, first}
+use Rattle.stream.specs.Machine.{Memory, tookX, tookY, tookBoth, turn, idle, turns}
+use Rattle.levels.proofs.Basics.{if-either}
 use Rattle.merging.specs.Contract.{countMarks}
 use Rattle.merging.specs.Relation.{Holds, Listed, Core, Budget, Sim, start}
 use Rattle.merging.specs.Relation as relation

@@ -20,8 +20,10 @@ use Rattle.blocks.specs.declared.Buffer.{Buffer}
 use Rattle.blocks.specs.Blocks.{Sized, startOf, emptyBuffer, bufferOf}
 use Rattle.stream.specs.declared.Progress.{Progress}
 use Rattle.words.specs.Layout.{pad, markWord}
-use Rattle.stream.specs.Machine.{Memory, blockChunk, chunkOf, lastSize, flushed, writtenAt, withProgress}
-use Rattle.stream.proofs.Laws.{if-either, flushed-m}
+use Rattle.sides.specs.Sides.{blockChunk, chunkOf, lastSize}
+use Rattle.stream.specs.Machine.{Memory, flushed, writtenAt, withProgress}
+use Rattle.levels.proofs.Basics.{if-either}
+use Rattle.stream.proofs.Laws.{flushed-m}
 use Rattle.joins.specs.Joins.{appended, joined, pulled, leftJoined, afterTaken, afterJoined, restedOut, rested, joinedUp, closed}
 use Rattle.merging.specs.Relation.{Formed, headSize, nextFree, flashOf, Holds, LastIs}
 use Rattle.merging.specs.Blocks.{recsFrom, storedAt, countAt, blocks, Flash, lay, layAll, layDone}

@@ -15,8 +15,10 @@ use Rattle.blocks.specs.declared.Buffer.{Buffer}
 use Rattle.blocks.specs.Blocks.{Sized, startOf, bufferOf}
 use Rattle.stream.specs.declared.Progress.{Progress}
 use Rattle.stream.specs.declared.Inputs.{Inputs}
-use Rattle.stream.specs.Machine.{Memory, chunkOf, lastSize, flushed, writtenAt, Flushable}
-use Rattle.stream.proofs.Laws.{if-either, flushed-m}
+use Rattle.sides.specs.Sides.{chunkOf, lastSize}
+use Rattle.stream.specs.Machine.{Memory, flushed, writtenAt, Flushable}
+use Rattle.levels.proofs.Basics.{if-either}
+use Rattle.stream.proofs.Laws.{flushed-m}
 use Rattle.joins.specs.Joins.{Clean, appended, pulled, Lefts, leftJoined, afterTaken, Afters, afterJoined, joinedUp, Closable}
 use Rattle.joins.proofs.Laws.{last-pull, pulled-n, pulled-clean, appended-n}
 use Rattle.merging.specs.Relation.{nextFree, flashOf, Holds, Stands, Listed, Core, Budget}

@@ -15,8 +15,8 @@ use Rattle.levels.specs.Record.{Rec, Block, Level, new}
 use Rattle.words.specs.Layout.{word, slotsAt, recordCount, markWordAt, blockSlots, blockAt, each}
 use Rattle.blocks.specs.Blocks.{layoutOf, startOf}
 use Rattle.blocks.proofs.Laws.{start-place}
-use Rattle.stream.specs.declared.Chunk.{Chunk}
-use Rattle.stream.specs.Machine.{blockChunk, pageChunk, chunkOf}
+use Rattle.sides.specs.declared.Chunk.{Chunk}
+use Rattle.sides.specs.Sides.{blockChunk, pageChunk, chunkOf}
 use Rattle.merging.specs.Blocks.{recAt, recsFrom, blockOf, storedAt, countAt, blocks}
 use Rattle.merging.specs.Contract.{pageAt, entriesOf, blocksOf, runOf}
 

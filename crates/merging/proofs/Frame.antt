@@ -20,12 +20,13 @@ use Rattle.blocks.specs.declared.Layout.{Layout}
 use Rattle.blocks.specs.declared.Buffer.{Buffer}
 use Rattle.blocks.specs.Blocks.{Sized, startOf, Free, SomeFree, nextMark, pushed, written}
 use Rattle.blocks.proofs.Laws.{free-low}
-use Rattle.stream.specs.declared.Head.{Head}
+use Rattle.sides.specs.declared.Head.{Head}
 use Rattle.stream.specs.declared.Progress.{Progress}
-use Rattle.stream.specs.Machine.{Memory, chunkOf, pageChunk, blockChunk, flushed, writtenAt, append, gathered, reused, withProgress, withBuffer}
-use Rattle.stream.proofs.Laws.{if-either}
+use Rattle.sides.specs.Sides.{chunkOf, pageChunk, blockChunk}
+use Rattle.stream.specs.Machine.{Memory, flushed, writtenAt, append, gathered, reused, withProgress, withBuffer}
+use Rattle.levels.proofs.Basics.{if-either}
 use Rattle.merging.specs.Relation.{Formed, nextFree, Stands, Listed}
-use Rattle.stream.specs.declared.Chunk.{Chunk}
+use Rattle.sides.specs.declared.Chunk.{Chunk}
 use Rattle.merging.specs.Blocks.{recsFrom, blockOf, storedAt, countAt, blocks, beginWith, side}
 use Rattle.merging.proofs.Words.{written-other, written-low, written-length, recs-agree}
 

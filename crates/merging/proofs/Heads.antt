@@ -20,9 +20,9 @@ use Rattle.levels.specs.Merge.{Out, State, headRec, endsBelow, apart, mayFollow
 use Rattle.blocks.specs.declared.Layout.{Layout}
 use Rattle.blocks.specs.declared.Buffer.{Buffer}
 use Rattle.blocks.specs.Blocks.{Sized, startOf}
-use Rattle.stream.specs.declared.Chunk.{Chunk}
-use Rattle.stream.specs.declared.Head.{Head}
-use Rattle.stream.specs.Machine.{chunkOf, headOf, headAt, noHead, first, follows}
+use Rattle.sides.specs.declared.Chunk.{Chunk}
+use Rattle.sides.specs.declared.Head.{Head}
+use Rattle.sides.specs.Sides.{chunkOf, headOf, headAt, noHead, first, follows}
 use Rattle.merging.specs.Relation.{Formed, headSize}
 use Rattle.merging.specs.Blocks.{recAt, recsFrom, blockOf, blocks, begun, beginWith, side}
 
@@ -136,10 +136,6 @@ shows-at z ws c (suc j) f l =
           n = λ w. absurd (true≢false (sym w ∙ u));
           marks = λ w. absurd (true≢false (sym w ∙ u));
         })
-
-pub if-true : {A : Type 0} (t : Bool) (a b : A) → t ≡ true → (if t then a else b) ≡ a
-if-true true a b e = refl
-if-true false a b e = absurd (true≢false (sym e))
 
 ends-same : (k : ℕ) (o : Head) (l : Level) → Sees o l → endsBelow k l ≡ (not (o .some) || ltb k (o .key))
 ends-same k o [] (nothing e) = rw e

@@ -15,8 +15,8 @@ use Rattle.blocks.specs.declared.Buffer.{Buffer}
 use Rattle.blocks.specs.Blocks.{startOf, pushed, emptyBuffer, bufferOf}
 use Rattle.joins.specs.Joins.{appended, joined}
 use Rattle.words.specs.Layout.{bit, markWord, pad, keysOf, paysOf}
-use Rattle.stream.specs.declared.Chunk.{Chunk}
-use Rattle.stream.specs.Machine.{blockChunk}
+use Rattle.sides.specs.declared.Chunk.{Chunk}
+use Rattle.sides.specs.Sides.{blockChunk}
 use Rattle.merging.specs.Blocks.{recAt, recsFrom}
 use Rattle.merging.proofs.Heads.{recs-length}
 use Rattle.merging.proofs.Outs.{buffer-push, bit-eqb}

@@ -21,10 +21,11 @@ use Rattle.blocks.specs.declared.Layout.{Layout}
 use Rattle.blocks.specs.declared.Buffer.{Buffer}
 use Rattle.blocks.specs.Blocks.{Sized, layoutOf, startOf, Free, Marks, emptyBuffer}
 use Rattle.blocks.proofs.Laws.{sized-of, start-place, free-found}
-use Rattle.stream.specs.declared.Chunk.{Chunk}
+use Rattle.sides.specs.declared.Chunk.{Chunk}
 use Rattle.stream.specs.declared.Progress.{Progress}
 use Rattle.stream.specs.declared.Inputs.{Inputs}
-use Rattle.stream.specs.Machine.{Memory, blockChunk, pageChunk, chunkOf, Ready, turns, idle}
+use Rattle.sides.specs.Sides.{blockChunk, pageChunk, chunkOf}
+use Rattle.stream.specs.Machine.{Memory, Ready, turns, idle}
 use Rattle.joins.specs.Joins.{restedOut, rested, joinedUp, closed, Closable}
 use Rattle.merging.specs.declared.Cut.{Cut}
 use Rattle.merging.specs.declared.Merged.{Merged}

@@ -11,8 +11,8 @@ use Rattle.levels.specs.Basics.{if_then_else_}
 use Rattle.levels.specs.Record.{Rec, Block, Level, new, size}
 use Rattle.levels.specs.Merge.{flush, rest}
 use Rattle.blocks.specs.declared.Layout.{Layout}
-use Rattle.stream.specs.declared.Chunk.{Chunk}
-use Rattle.stream.specs.Machine.{chunkOf}
+use Rattle.sides.specs.declared.Chunk.{Chunk}
+use Rattle.sides.specs.Sides.{chunkOf}
 use Rattle.merging.specs.Blocks.{recAt, recsFrom, blockOf, blocks, begun, beginWith, side}
 use Rattle.merging.proofs.Heads.{recs-drop}
 

@@ -20,9 +20,10 @@ use Rattle.blocks.specs.declared.Layout.{Layout}
 use Rattle.blocks.specs.declared.Buffer.{Buffer}
 use Rattle.blocks.specs.Blocks.{Sized, startOf, nextMark, pushed, emptyBuffer, bufferOf, written}
 use Rattle.blocks.proofs.Laws.{free-low}
-use Rattle.stream.specs.declared.Head.{Head}
+use Rattle.sides.specs.declared.Head.{Head}
 use Rattle.stream.specs.declared.Progress.{Progress}
-use Rattle.stream.specs.Machine.{Memory, lastSize, flushed, writtenAt, append, gathered, withProgress, withBuffer}
+use Rattle.sides.specs.Sides.{lastSize}
+use Rattle.stream.specs.Machine.{Memory, flushed, writtenAt, append, gathered, withProgress, withBuffer}
 use Rattle.merging.specs.Relation.{headSize, nextFree, flashOf, Holds}
 use Rattle.words.specs.Layout.{bit, markWord, pad, keysOf, paysOf}
 use Rattle.merging.specs.Blocks.{Flash, layAt, lay, layAll, layDone, countAt}

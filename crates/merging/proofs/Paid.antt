@@ -16,12 +16,13 @@ use Rattle.words.specs.Layout.{bit}
 use Rattle.blocks.specs.declared.Layout.{Layout}
 use Rattle.blocks.specs.declared.Buffer.{Buffer}
 use Rattle.blocks.specs.Blocks.{SomeFree, nextMark, pushed}
-use Rattle.stream.specs.declared.Chunk.{Chunk}
-use Rattle.stream.specs.declared.Head.{Head}
+use Rattle.sides.specs.declared.Chunk.{Chunk}
+use Rattle.sides.specs.declared.Head.{Head}
 use Rattle.stream.specs.declared.Progress.{Progress}
 use Rattle.stream.specs.declared.Inputs.{Inputs}
-use Rattle.stream.specs.Machine.{Memory, chunkOf, headOf, headAt, noHead, lastSize, first, follows, flushed, writtenAt, append, gathered, reused, withProgress, withBuffer, skipX, skipY, passX, passY, tookX, tookY, tookBoth, turn, idle}
-use Rattle.stream.proofs.Laws.{if-either}
+use Rattle.sides.specs.Sides.{chunkOf, headOf, headAt, noHead, lastSize, first, follows}
+use Rattle.stream.specs.Machine.{Memory, flushed, writtenAt, append, gathered, reused, withProgress, withBuffer, skipX, skipY, passX, passY, tookX, tookY, tookBoth, turn, idle}
+use Rattle.levels.proofs.Basics.{if-either}
 use Rattle.merging.specs.Contract.{countMarks}
 use Rattle.merging.specs.Relation.{nextFree}
 use Rattle.merging.proofs.Sim.{and-left, and-right, pass-x-same, pass-y-same}

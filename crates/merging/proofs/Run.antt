@@ -17,7 +17,8 @@ use Rattle.blocks.specs.declared.Buffer.{Buffer}
 use Rattle.blocks.specs.Blocks.{Sized, bufferOf}
 use Rattle.stream.specs.declared.Progress.{Progress}
 use Rattle.stream.specs.declared.Inputs.{Inputs}
-use Rattle.stream.specs.Machine.{Memory, Readable, Flushable, Gatherable, Movable, Ready, turn, idle, turns}
+use Rattle.sides.specs.Sides.{Readable}
+use Rattle.stream.specs.Machine.{Memory, Flushable, Gatherable, Movable, Ready, turn, idle, turns}
 use Rattle.merging.specs.Relation.{Holds, Listed, Core, Budget, Sim, Begun, start, first}
 use Rattle.merging.specs.Blocks.{side, Flash}
 use Rattle.merging.proofs.Moves.{side-none}

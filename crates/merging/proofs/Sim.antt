@@ -21,12 +21,15 @@ use Rattle.blocks.specs.declared.Layout.{Layout}
 use Rattle.blocks.specs.declared.Buffer.{Buffer}
 use Rattle.blocks.specs.Blocks.{Sized, startOf, Free, SomeFree, nextMark, bufferOf, pushed, written}
 use Rattle.blocks.proofs.Laws.{free-found}
-use Rattle.stream.specs.declared.Chunk.{Chunk}
-use Rattle.stream.specs.declared.Head.{Head}
+use Rattle.sides.specs.declared.Chunk.{Chunk}
+use Rattle.sides.specs.declared.Head.{Head}
 use Rattle.stream.specs.declared.Progress.{Progress}
 use Rattle.stream.specs.declared.Inputs.{Inputs}
-use Rattle.stream.specs.Machine.{Memory, blockChunk, pageChunk, chunkOf, headOf, headAt, noHead, lastSize, first, follows, flushed, writtenAt, append, gathered, reused, withProgress, withBuffer, skipX, skipY, passX, passY, tookX, tookY, tookBoth, stepWith, turn, idle, turns}
-use Rattle.stream.proofs.Laws.{if-either, head-none, flushed-m}
+use Rattle.sides.specs.Sides.{blockChunk, pageChunk, chunkOf, headOf, headAt, noHead, lastSize, first, follows}
+use Rattle.stream.specs.Machine.{Memory, flushed, writtenAt, append, gathered, reused, withProgress, withBuffer, skipX, skipY, passX, passY, tookX, tookY, tookBoth, stepWith, turn, idle, turns}
+use Rattle.levels.proofs.Basics.{if-either}
+use Rattle.sides.proofs.Laws.{head-none}
+use Rattle.stream.proofs.Laws.{flushed-m}
 use Rattle.merging.specs.Relation.{Formed, headSize, nextFree, flashOf, Holds, Stands, Listed, LastIs, Core, Budget, Sim}
 use Rattle.merging.specs.Blocks.{recsFrom, blockOf, storedAt, countAt, blocks, begun, beginWith, side, Flash, layDone}
 use Rattle.merging.proofs.Words.{sized-on}

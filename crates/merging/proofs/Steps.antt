@@ -10,7 +10,7 @@ use borrow.Author.Tests.{leb-true, leb-false}
 use Rattle.levels.specs.Basics.{if_then_else_, iterate}
 use Rattle.levels.specs.Record.{Rec, Block, Level, new, size, placed, records, firstKey}
 use Rattle.levels.specs.Merge.{Out, State, headRec, reusable, flush, rest, reuse, keep, gather, fromUpper, fromLower, fromBoth, stepOn, step, joinLeft, join}
-use Rattle.stream.proofs.Laws.{if-either}
+use Rattle.levels.proofs.Basics.{if-either}
 use Rattle.merging.proofs.Sim.{and-left, and-right}
 use Rattle.merging.proofs.Settle.{NewFit}
 

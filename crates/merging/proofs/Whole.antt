@@ -16,11 +16,12 @@ use Rattle.blocks.specs.declared.Layout.{Layout}
 use Rattle.blocks.specs.declared.Buffer.{Buffer}
 use Rattle.blocks.specs.Blocks.{Sized, startOf, Free}
 use Rattle.blocks.proofs.Laws.{free-found}
-use Rattle.stream.specs.declared.Head.{Head}
+use Rattle.sides.specs.declared.Head.{Head}
 use Rattle.stream.specs.declared.Progress.{Progress}
 use Rattle.stream.specs.declared.Inputs.{Inputs}
-use Rattle.stream.specs.Machine.{Memory, blockChunk, chunkOf, first, follows, headOf, lastSize, flushed, append, gathered, reused, withProgress, skipX, skipY, passX, passY, tookX, tookY, tookBoth, stepWith, turn, idle, turns}
-use Rattle.stream.proofs.Laws.{if-either}
+use Rattle.sides.specs.Sides.{blockChunk, chunkOf, first, follows, headOf, lastSize}
+use Rattle.stream.specs.Machine.{Memory, flushed, append, gathered, reused, withProgress, skipX, skipY, passX, passY, tookX, tookY, tookBoth, stepWith, turn, idle, turns}
+use Rattle.levels.proofs.Basics.{if-either}
 use Rattle.joins.specs.Joins.{closed}
 use Rattle.merging.specs.Relation.{Formed, nextFree, flashOf, Holds, Stands, Listed, Core, Budget, Sim, Begun, start}
 use Rattle.merging.specs.Relation as relation

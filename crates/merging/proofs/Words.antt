@@ -15,7 +15,7 @@ use Rattle.blocks.specs.declared.Layout.{Layout}
 use Rattle.blocks.specs.declared.Buffer.{Buffer}
 use Rattle.blocks.specs.Blocks.{Sized, startOf, freeMark, nextMark, copied, written}
 use Rattle.blocks.proofs.Laws.{in-store, ends, copied-length}
-use Rattle.stream.specs.declared.Chunk.{Chunk}
+use Rattle.sides.specs.declared.Chunk.{Chunk}
 use Rattle.merging.specs.Blocks.{recAt, recsFrom}
 
 pub copied-out : (xs : List ℕ) (to : ℕ) (src : List ℕ) (n k : ℕ) → (to ≤ k → to + n ≤ k) → getD (copied xs to src n) k 0 ≡ getD xs k 0

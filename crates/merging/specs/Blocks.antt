@@ -9,8 +9,8 @@ use Rattle.levels.specs.Basics.{if_then_else_}
 use Rattle.levels.specs.Record.{Rec, Block, Level, new}
 use Rattle.blocks.specs.declared.Layout.{Layout}
 use Rattle.blocks.specs.Blocks.{startOf, nextMark, bufferOf, written}
-use Rattle.stream.specs.declared.Chunk.{Chunk}
-use Rattle.stream.specs.Machine.{blockChunk, chunkOf}
+use Rattle.sides.specs.declared.Chunk.{Chunk}
+use Rattle.sides.specs.Sides.{blockChunk, chunkOf}
 
 -- record j of a chunk
 abbrev pub recAt : List ℕ → Chunk → ℕ → Rec

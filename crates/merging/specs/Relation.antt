@@ -10,10 +10,11 @@ use Rattle.levels.specs.Merge.{Out, State, step, joinLeft, join}
 use Rattle.blocks.specs.declared.Layout.{Layout}
 use Rattle.blocks.specs.declared.Buffer.{Buffer}
 use Rattle.blocks.specs.Blocks.{Sized, startOf, SomeFree, nextMark, bufferOf}
-use Rattle.stream.specs.declared.Chunk.{Chunk}
+use Rattle.sides.specs.declared.Chunk.{Chunk}
 use Rattle.stream.specs.declared.Progress.{Progress}
 use Rattle.stream.specs.declared.Inputs.{Inputs}
-use Rattle.stream.specs.Machine.{Memory, chunkOf, lastSize, turns, idle}
+use Rattle.sides.specs.Sides.{chunkOf, lastSize}
+use Rattle.stream.specs.Machine.{Memory, turns, idle}
 use Rattle.joins.specs.Joins.{Closable}
 use Rattle.merging.specs.Blocks.{storedAt, blocks, side, Flash, layDone}
 

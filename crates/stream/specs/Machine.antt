@@ -1,78 +1,17 @@
 -- The merge as a machine over the words, the marks, the new list and a few numbers: what the code does, step by step.
-use Prim.Native.Nat.{ℕ, zero, suc, _+_, _-_, _*_, _/_, _%_, _^_, _≤_, _<_}
-use mathlib.Core.Path.{_≡_}
-use mathlib.Core.Bool.{Bool, true, false, not, _&&_, _||_}
-use mathlib.Core.List.{List, [], _∷_, _++_}
-use lib.Dec.{ltb, leb, eqb}
-use lib.ListN.{getD, set, length}
+use Prim.Native.Nat.{ℕ, zero, suc, _+_, _^_, _≤_, _<_}
+use mathlib.Core.Bool.{Bool, true, false, _&&_}
+use mathlib.Core.List.{List}
+use lib.Dec.{leb, eqb}
+use lib.ListN.{getD, set}
 use Rattle.levels.specs.Basics.{if_then_else_}
 use Rattle.blocks.specs.declared.Layout.{Layout}
 use Rattle.blocks.specs.declared.Buffer.{Buffer}
-use Rattle.blocks.specs.Blocks.{Sized, startOf, SomeFree, nextMark, pushed, emptyBuffer, written}
-use Rattle.stream.specs.declared.Chunk.{Chunk}
-use Rattle.stream.specs.declared.Head.{Head}
+use Rattle.blocks.specs.Blocks.{Sized, SomeFree, nextMark, pushed, emptyBuffer, written}
+use Rattle.sides.specs.declared.Head.{Head}
+use Rattle.sides.specs.Sides.{Readable, headOf, lastSize, first, follows}
 use Rattle.stream.specs.declared.Progress.{Progress}
 use Rattle.stream.specs.declared.Inputs.{Inputs}
-
--- the block at place q
-abbrev pub blockChunk : Layout → List ℕ → ℕ → Chunk
-blockChunk z xs q = record { marks = startOf z q + 1; keys = startOf z q + 2; pays = startOf z q + 2 + z .b; n = getD xs (startOf z q) 0; place = q; listed = true }
-
--- page i of level 0
-abbrev pub pageChunk : Layout → ℕ → Chunk
-pageChunk z i = record { marks = z .marks + i; keys = z .keys + i * z .b; pays = z .pays + i * z .b; n = z .b; place = 0; listed = false }
-
--- chunk i of a side
-unfoldable pub chunkOf : Layout → Bool → List ℕ → List ℕ → ℕ → Chunk
-chunkOf z pages xs list i = if pages then pageChunk z i else blockChunk z xs (getD list i 0)
-
--- a side has a chunk i: a page of level 0, or a block at a place
-pub record Chunked (z : Layout) (pages : Bool) (xs list : List ℕ) (i : ℕ) : Type 0 where
-  pub sized : Sized z xs
-  pub low : i < 4096
-  pub place : pages ≡ false → getD list i 0 < z .p
-  pub page : pages ≡ true → i < z .top
-
--- chunk i of a side can be read at record j
-pub record Readable (z : Layout) (pages : Bool) (xs list : List ℕ) (i j end : ℕ) : Type 0 where
-  pub sized : Sized z xs
-  pub end-high : end ≤ 4096
-  pub place : i < end → pages ≡ false → getD list i 0 < z .p
-  pub page : i < end → pages ≡ true → i < z .top
-  pub inside : i < end → j < chunkOf z pages xs list i .n
-  pub count : i < end → chunkOf z pages xs list i .n ≤ z .b
-
-abbrev pub noHead : Head
-noHead = record { some = false; whole = false; key = 0; tombstone = 0; pay = 0; last = 0; marks = 0; n = 0; place = 0 }
-
--- record j of a chunk
-abbrev pub headAt : List ℕ → Chunk → ℕ → Head
-headAt xs c j =
-    record {
-      some = true;
-      whole = c .listed && eqb j 0;
-      key = getD xs (c .keys + j) 0;
-      tombstone = getD xs (c .marks) 0 / 2 ^ j % 2;
-      pay = getD xs (c .pays + j) 0;
-      last = getD xs (c .keys + (c .n - 1)) 0;
-      marks = getD xs (c .marks) 0;
-      n = c .n;
-      place = c .place;
-    }
-
-unfoldable pub headOf : Layout → Bool → List ℕ → List ℕ → ℕ → ℕ → ℕ → Head
-headOf z pages xs list i j end = if leb end i then noHead else headAt xs (chunkOf z pages xs list i) j
-
-unfoldable pub lastSize : Layout → List ℕ → List ℕ → ℕ → ℕ
-lastSize z xs out m = if eqb m 0 then z .b else getD xs (startOf z (getD out (m - 1) 0)) 0
-
-abbrev pub first : Head → Head → Bool
-first a b = a .some && (not (b .some) || ltb (a .key) (b .key))
-
-unfoldable pub follows : Layout → Bool → Head → Head → ℕ → ℕ → Bool
-follows z bottom a b n e =
-    if eqb n 0 then (a .whole && (not (b .some) || ltb (a .last) (b .key))) && (not (bottom && not (eqb (a .marks) 0)) && ltb (z .b) (e + a .n))
-    else (a .whole && (not (b .some) || ltb (a .last) (b .key))) && (not (bottom && not (eqb (a .marks) 0)) && (ltb (z .b) (n + a .n) && ltb (z .b) (e + n)))
 
 -- the words, the marks of places in use, the new list, and where the merge stands
 pub record Memory : Type 0 where
@@ -150,11 +89,6 @@ pub record Movable (z : Layout) (xs : List ℕ) (used : List Bool) (w : Progress
   pub flushable : Flushable z xs used w
   pub gatherable : Gatherable z w
   pub room : w .m + 2 ≤ 4096
-
-pub record HeadOk (h : Head) : Type 0 where
-  pub tombstone : h .tombstone < 2
-  pub n : h .n ≤ 16
-  pub place : h .place < 8192
 
 -- a step can be made
 pub record Ready (z : Layout) (t : Inputs) (xs ys : List ℕ) (a : Memory) : Type 0 where

@@ -11,7 +11,7 @@ use Rattle.compaction.proofs.gather_blocks.Tie as tie
 use Rattle.compaction.proofs.gather_blocks.Reads as reads
 use Rattle.compaction.proofs.gather_blocks.Lts as lts
 use Rattle.compaction.proofs.gather_chunk.Reads as gather-chunk-reads
-use Rattle.stream.proofs.listed.Reads as listed-reads
+use Rattle.sides.proofs.listed.Reads as listed-reads
 
 abbrev Inv-loop : tie.InvT-loop
 Inv-loop s₀ used₀ out₀ list z n v₀ i₀ s used out v i = (i ≤ n) × ((length s ≡ length s₀) × (_≡_ {A = Memory} (record { words = s; used = used; out = out; st = v }) (blocksGathered z list i (record { words = s₀; used = used₀; out = out₀; st = v₀ }))))

@@ -3,7 +3,7 @@ use native.Mathlib.Omega.{arith}
 use Prim.Native.Nat.{_≤_, _-_}
 use mathlib.Core.Path.{_≡_, refl, _∙_, ap}
 use lib.ListN.{length}
-use Rattle.stream.specs.declared.Chunk.{Chunk}
+use Rattle.sides.specs.declared.Chunk.{Chunk}
 use Rattle.stream.specs.Machine.{Memory}
 use Rattle.compaction.specs.Machine.{recordsGathered}
 use Rattle.compaction.proofs.Steps.{records-more, roomy-in, head-inside}
@@ -11,9 +11,9 @@ use Rattle.compaction.proofs.gather_chunk.Statement.{statement}
 use Rattle.compaction.proofs.gather_chunk.Tie as tie
 use Rattle.compaction.proofs.gather_chunk.Reads as reads
 use Rattle.compaction.proofs.gather_chunk.Lts as lts
-use Rattle.stream.proofs.block_chunk.Reads as block-chunk-reads
+use Rattle.sides.proofs.block_chunk.Reads as block-chunk-reads
 use Rattle.stream.proofs.gather.Reads as gather-reads
-use Rattle.stream.proofs.head_at.Reads as head-at-reads
+use Rattle.sides.proofs.head_at.Reads as head-at-reads
 
 abbrev Inv-loop : tie.InvT-loop
 Inv-loop s₀ used₀ out₀ z q c n v₀ j₀ s used out v j = (j ≤ n) × ((length s ≡ length s₀) × (_≡_ {A = Memory} (record { words = s; used = used; out = out; st = v }) (recordsGathered z c j (record { words = s₀; used = used₀; out = out₀; st = v₀ }))))

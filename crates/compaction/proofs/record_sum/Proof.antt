@@ -10,8 +10,8 @@ use Rattle.compaction.proofs.record_sum.Tie as tie
 use Rattle.compaction.proofs.record_sum.Reads as reads
 use Rattle.compaction.proofs.record_sum.Lts as lts
 use Rattle.blocks.proofs.place_start.Reads as place-start-reads
-use Rattle.stream.proofs.listed.Reads as listed-reads
-use Rattle.stream.proofs.word.Reads as word-reads
+use Rattle.sides.proofs.listed.Reads as listed-reads
+use Rattle.sides.proofs.word.Reads as word-reads
 
 abbrev Inv-loop : tie.InvT-loop
 Inv-loop s list z n total₀ k₀ total k = (k ≤ n) × (total ≡ recordSum z s list k)

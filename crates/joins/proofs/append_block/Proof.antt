@@ -9,7 +9,7 @@ use Rattle.joins.proofs.append_block.Reads as reads
 use Rattle.joins.proofs.append_block.Lts as lts
 use Rattle.blocks.proofs.place_start.Reads as place-start-reads
 use Rattle.joins.proofs.append_words.Reads as append-words-reads
-use Rattle.stream.proofs.word.Reads as word-reads
+use Rattle.sides.proofs.word.Reads as word-reads
 
 place-start-requires : tie.Need-place-start-requires
 place-start-requires c κs = search needs

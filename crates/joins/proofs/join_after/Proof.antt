@@ -8,7 +8,7 @@ use Rattle.blocks.specs.Blocks.{startOf}
 use Rattle.blocks.proofs.Laws.{in-store}
 use Rattle.joins.specs.Joins.{afterJoined}
 use Rattle.joins.proofs.Laws.{pull-able, pulled-n, pulled-clean, pulled-yi, last-pull}
-use Rattle.stream.proofs.Laws.{last-low}
+use Rattle.sides.proofs.Laws.{last-low}
 use borrow.Author.Needs.{needs}
 use Rattle.joins.proofs.join_after.Statement.{statement}
 use Rattle.joins.proofs.join_after.Tie as tie
@@ -17,9 +17,9 @@ use Rattle.joins.proofs.join_after.Lts as lts
 use Rattle.blocks.proofs.place_start.Reads as place-start-reads
 use Rattle.joins.proofs.pull_last.Reads as pull-last-reads
 use Rattle.joins.proofs.take_after.Reads as take-after-reads
-use Rattle.stream.proofs.last_size.Reads as last-size-reads
-use Rattle.stream.proofs.listed.Reads as listed-reads
-use Rattle.stream.proofs.word.Reads as word-reads
+use Rattle.sides.proofs.last_size.Reads as last-size-reads
+use Rattle.sides.proofs.listed.Reads as listed-reads
+use Rattle.sides.proofs.word.Reads as word-reads
 
 returns : tie.Need-returns
 unfolding afterJoined

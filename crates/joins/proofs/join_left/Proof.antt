@@ -5,14 +5,14 @@ use borrow.Author.Tests.{eq-eqb, ne-eqb, le-leb, lt-leb}
 use native.Mathlib.Nat.{le-refl}
 use Rattle.joins.specs.Joins.{leftJoined}
 use Rattle.joins.proofs.Laws.{pull-able}
-use Rattle.stream.proofs.Laws.{last-low}
+use Rattle.sides.proofs.Laws.{last-low}
 use borrow.Author.Needs.{needs}
 use Rattle.joins.proofs.join_left.Statement.{statement}
 use Rattle.joins.proofs.join_left.Tie as tie
 use Rattle.joins.proofs.join_left.Reads as reads
 use Rattle.joins.proofs.join_left.Lts as lts
 use Rattle.joins.proofs.pull_last.Reads as pull-last-reads
-use Rattle.stream.proofs.last_size.Reads as last-size-reads
+use Rattle.sides.proofs.last_size.Reads as last-size-reads
 
 returns : tie.Need-returns
 unfolding leftJoined

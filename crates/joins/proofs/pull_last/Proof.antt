@@ -13,7 +13,7 @@ use Rattle.joins.proofs.pull_last.Lts as lts
 use Rattle.blocks.proofs.empty.Reads as empty-reads
 use Rattle.joins.proofs.append_block.Reads as append-block-reads
 use Rattle.joins.proofs.append_buffer.Reads as append-buffer-reads
-use Rattle.stream.proofs.listed.Reads as listed-reads
+use Rattle.sides.proofs.listed.Reads as listed-reads
 
 sub-m : tie.Need-sub-m
 sub-m c = search needs

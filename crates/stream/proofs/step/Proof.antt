@@ -3,16 +3,18 @@ use mathlib.Core.Path.{_≡_, _∙_, ap, refl, sym}
 use mathlib.Core.Bool.{true, false, not, _&&_}
 use Prim.Native.Nat.{ℕ, _<_, _^_, _≤_}
 use lib.Dec.{leb}
-use Rattle.stream.specs.Machine.{turn, first, HeadOk, lastSize}
-use Rattle.stream.proofs.Laws.{head-ok, head-some, head-none, and-left, both-some, last-low}
+use Rattle.sides.specs.Sides.{first, HeadOk, lastSize}
+use Rattle.stream.specs.Machine.{turn}
+use Rattle.levels.proofs.Basics.{and-left}
+use Rattle.sides.proofs.Laws.{head-ok, head-some, head-none, both-some, last-low}
 use borrow.Author.Needs.{needs}
 use Rattle.stream.proofs.step.Statement.{statement}
 use Rattle.stream.proofs.step.Tie as tie
 use Rattle.stream.proofs.step.Reads as reads
 use Rattle.stream.proofs.step.Lts as lts
-use Rattle.stream.proofs.before.Reads as before-reads
-use Rattle.stream.proofs.last_size.Reads as last-size-reads
-use Rattle.stream.proofs.peek.Reads as peek-reads
+use Rattle.sides.proofs.before.Reads as before-reads
+use Rattle.sides.proofs.last_size.Reads as last-size-reads
+use Rattle.sides.proofs.peek.Reads as peek-reads
 use Rattle.stream.proofs.take_both.Reads as take-both-reads
 use Rattle.stream.proofs.take_x.Reads as take-x-reads
 use Rattle.stream.proofs.take_y.Reads as take-y-reads

@@ -1,7 +1,7 @@
 use borrow.Author.Needs.{needs}
 use native.Mathlib.Omega.{arith}
 use Prim.Native.Nat.{ℕ, _≤_, _<_, _+_, _-_}
-use mathlib.Core.Path.{_≡_, refl, sym, _∙_, ap}
+use mathlib.Core.Path.{_≡_, refl, sym, _∙_, ap, subst}
 use mathlib.Core.Bool.{true, false}
 use lib.ListN.{length}
 use Rattle.stream.specs.Machine.{Memory, turns, turn, idle, Ready}
@@ -32,12 +32,14 @@ returns c =
     let e = l .inv .1 .1 in
     let w : Memory = record { words = a .s .now; used = a .used .now; out = a .out .now; st = a .w } in
     let n : a .limit ≡ l .k + (a .limit - l .k) = omega arith in
-    rw n (e ∙ sym (turns-idle (a .z) (a .t) (a .xs .now) (a .ys .now) (a .limit - l .k) (l .k) w (rw (← e) (c .if1 .taken))))
+    let i : idle (a .z) (a .t) (a .xs .now) (a .ys .now) (turns (a .z) (a .t) (a .xs .now) (a .ys .now) (l .k) w) ≡ true = ap (idle (a .z) (a .t) (a .xs .now) (a .ys .now)) (sym e) ∙ c .if1 .taken in
+    e ∙ (sym (turns-idle (a .z) (a .t) (a .xs .now) (a .ys .now) (a .limit - l .k) (l .k) w i) ∙ ap (λ (m : ℕ). turns (a .z) (a .t) (a .xs .now) (a .ys .now) m w) (sym n))
 
 step-requires : tie.Need-step-requires Inv-loop μ-loop
 step-requires c κs =
     let e = c .before .before .before .before .before .loop .inv .1 .1 in
-    (rw e (c .before .before .before .before .before .before .before .pre (c .before .before .before .before .before .loop .k) (omega arith)), c .before .before .before .if1 .left)
+    let a = c .before .before .before .before .before .before .before .args in
+    (subst (Ready (a .z) (a .t) (a .xs .now) (a .ys .now)) (sym e) (c .before .before .before .before .before .before .before .pre (c .before .before .before .before .before .loop .k) (omega arith)), c .before .before .before .if1 .left)
 
 add-k : tie.Need-add-k Inv-loop μ-loop
 add-k c = omega arith
@@ -51,7 +53,8 @@ loop-again c =
     let a = c .before .before .before .before .before .before .before .before .before .before .args in
     let e = l .inv .1 .1 in
     let w : Memory = record { words = a .s .now; used = a .used .now; out = a .out .now; st = a .w } in
-    (omega arith, (c .before .before .step .kept .0 ∙ l .inv .1 .0, c .before .before .step .ensures ∙ rw e (turns-more (a .z) (a .t) (a .xs .now) (a .ys .now) (l .k) w (rw (← e) (c .before .before .before .before .before .before .if1 .left)))))
+    let i : idle (a .z) (a .t) (a .xs .now) (a .ys .now) (turns (a .z) (a .t) (a .xs .now) (a .ys .now) (l .k) w) ≡ false = ap (idle (a .z) (a .t) (a .xs .now) (a .ys .now)) (sym e) ∙ c .before .before .before .before .before .before .if1 .left in
+    (omega arith, (c .before .before .step .kept .0 ∙ l .inv .1 .0, c .before .before .step .ensures ∙ (ap (turn (a .z) (a .t) (a .xs .now) (a .ys .now)) e ∙ turns-more (a .z) (a .t) (a .xs .now) (a .ys .now) (l .k) w i)))
 
 same-length-2 : tie.Need-same-length-2 Inv-loop μ-loop
 same-length-2 c = omega arith

@@ -11,7 +11,7 @@ use Rattle.stream.proofs.take_x.Lts as lts
 use Rattle.stream.proofs.Progress.pass_x.Reads as pass-x-reads
 use Rattle.stream.proofs.Progress.skip_x.Reads as skip-x-reads
 use Rattle.stream.proofs.gather.Reads as gather-reads
-use Rattle.stream.proofs.reusable.Reads as reusable-reads
+use Rattle.sides.proofs.reusable.Reads as reusable-reads
 use Rattle.stream.proofs.reuse.Reads as reuse-reads
 
 reusable-requires : tie.Need-reusable-requires

@@ -10,7 +10,7 @@ use Rattle.stream.proofs.take_y.Lts as lts
 use Rattle.stream.proofs.Progress.pass_y.Reads as pass-y-reads
 use Rattle.stream.proofs.Progress.skip_y.Reads as skip-y-reads
 use Rattle.stream.proofs.gather.Reads as gather-reads
-use Rattle.stream.proofs.reusable.Reads as reusable-reads
+use Rattle.sides.proofs.reusable.Reads as reusable-reads
 use Rattle.stream.proofs.reuse.Reads as reuse-reads
 
 reusable-requires : tie.Need-reusable-requires

@@ -1,15 +1,15 @@
 use native.Mathlib.Omega.{arith}
 use Prim.Native.Nat.{_+_, _*_, _≤_, _<_, _-_}
 use borrow.Author.Tests.{le-leb, lt-leb}
-use Rattle.stream.specs.Machine.{headOf}
-use Rattle.stream.proofs.Laws.{readable-chunked, chunk-inside}
+use Rattle.sides.specs.Sides.{headOf}
+use Rattle.sides.proofs.Laws.{readable-chunked, chunk-inside}
 use borrow.Author.Needs.{needs}
-use Rattle.stream.proofs.peek.Statement.{statement}
-use Rattle.stream.proofs.peek.Tie as tie
-use Rattle.stream.proofs.peek.Reads as reads
-use Rattle.stream.proofs.peek.Lts as lts
-use Rattle.stream.proofs.chunk_at.Reads as chunk-at-reads
-use Rattle.stream.proofs.head_at.Reads as head-at-reads
+use Rattle.sides.proofs.peek.Statement.{statement}
+use Rattle.sides.proofs.peek.Tie as tie
+use Rattle.sides.proofs.peek.Reads as reads
+use Rattle.sides.proofs.peek.Lts as lts
+use Rattle.sides.proofs.chunk_at.Reads as chunk-at-reads
+use Rattle.sides.proofs.head_at.Reads as head-at-reads
 
 returns : tie.Need-returns
 unfolding headOf

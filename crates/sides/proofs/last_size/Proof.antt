@@ -3,17 +3,17 @@ use native.Mathlib.Omega.{arith}
 use Prim.Native.Nat.{_+_, _<_, _-_}
 use mathlib.Core.Path.{_∙_, ap}
 use lib.ListN.{getD}
-use Rattle.stream.specs.Machine.{lastSize}
+use Rattle.sides.specs.Sides.{lastSize}
 use Rattle.blocks.specs.Blocks.{startOf}
 use Rattle.blocks.proofs.Laws.{in-store}
 use borrow.Author.Needs.{needs}
-use Rattle.stream.proofs.last_size.Statement.{statement}
-use Rattle.stream.proofs.last_size.Tie as tie
-use Rattle.stream.proofs.last_size.Reads as reads
-use Rattle.stream.proofs.last_size.Lts as lts
+use Rattle.sides.proofs.last_size.Statement.{statement}
+use Rattle.sides.proofs.last_size.Tie as tie
+use Rattle.sides.proofs.last_size.Reads as reads
+use Rattle.sides.proofs.last_size.Lts as lts
 use Rattle.blocks.proofs.place_start.Reads as place-start-reads
-use Rattle.stream.proofs.listed.Reads as listed-reads
-use Rattle.stream.proofs.word.Reads as word-reads
+use Rattle.sides.proofs.listed.Reads as listed-reads
+use Rattle.sides.proofs.word.Reads as word-reads
 
 returns : tie.Need-returns
 unfolding lastSize

@@ -1,13 +1,13 @@
-use Rattle.stream.specs.Machine.{chunkOf}
-use Rattle.stream.proofs.Laws.{page-inside}
+use Rattle.sides.specs.Sides.{chunkOf}
+use Rattle.sides.proofs.Laws.{page-inside}
 use borrow.Author.Needs.{needs}
-use Rattle.stream.proofs.chunk_at.Statement.{statement}
-use Rattle.stream.proofs.chunk_at.Tie as tie
-use Rattle.stream.proofs.chunk_at.Reads as reads
-use Rattle.stream.proofs.chunk_at.Lts as lts
-use Rattle.stream.proofs.block_chunk.Reads as block-chunk-reads
-use Rattle.stream.proofs.listed.Reads as listed-reads
-use Rattle.stream.proofs.page_chunk.Reads as page-chunk-reads
+use Rattle.sides.proofs.chunk_at.Statement.{statement}
+use Rattle.sides.proofs.chunk_at.Tie as tie
+use Rattle.sides.proofs.chunk_at.Reads as reads
+use Rattle.sides.proofs.chunk_at.Lts as lts
+use Rattle.sides.proofs.block_chunk.Reads as block-chunk-reads
+use Rattle.sides.proofs.listed.Reads as listed-reads
+use Rattle.sides.proofs.page_chunk.Reads as page-chunk-reads
 
 page-chunk-requires : tie.Need-page-chunk-requires
 page-chunk-requires c κs = page-inside (c .before .before .args .z) (c .before .before .args .s .now) (c .before .before .args .i) (c .before .before .pre .sized) (c .before .before .pre .page (c .if1 .taken))

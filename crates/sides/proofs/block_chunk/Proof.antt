@@ -5,12 +5,12 @@ use lib.ListN.{length}
 use Rattle.blocks.specs.Blocks.{startOf}
 use Rattle.blocks.proofs.Laws.{ends}
 use borrow.Author.Needs.{needs}
-use Rattle.stream.proofs.block_chunk.Statement.{statement}
-use Rattle.stream.proofs.block_chunk.Tie as tie
-use Rattle.stream.proofs.block_chunk.Reads as reads
-use Rattle.stream.proofs.block_chunk.Lts as lts
+use Rattle.sides.proofs.block_chunk.Statement.{statement}
+use Rattle.sides.proofs.block_chunk.Tie as tie
+use Rattle.sides.proofs.block_chunk.Reads as reads
+use Rattle.sides.proofs.block_chunk.Lts as lts
 use Rattle.blocks.proofs.place_start.Reads as place-start-reads
-use Rattle.stream.proofs.word.Reads as word-reads
+use Rattle.sides.proofs.word.Reads as word-reads
 
 place-start-requires : tie.Need-place-start-requires
 place-start-requires c κs = search needs

@@ -1,10 +1,10 @@
 use borrow.Author.Tests.{eq-eqb, ne-eqb}
-use Rattle.stream.specs.Machine.{follows}
+use Rattle.sides.specs.Sides.{follows}
 use borrow.Author.Needs.{needs}
-use Rattle.stream.proofs.reusable.Statement.{statement}
-use Rattle.stream.proofs.reusable.Tie as tie
-use Rattle.stream.proofs.reusable.Reads as reads
-use Rattle.stream.proofs.reusable.Lts as lts
+use Rattle.sides.proofs.reusable.Statement.{statement}
+use Rattle.sides.proofs.reusable.Tie as tie
+use Rattle.sides.proofs.reusable.Reads as reads
+use Rattle.sides.proofs.reusable.Lts as lts
 
 add-result : tie.Need-add-result
 add-result c = search needs

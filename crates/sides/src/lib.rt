@@ -1,0 +1,191 @@
+// What a side of a merge reads next: a record of a block or of a page of level 0, and whether its block may be reused.
+
+ghost use mathlib.Core.Path.{_≡_};
+ghost use mathlib.Core.Bool.{false};
+ghost use Prim.Native.Nat.{ℕ, _+_, _-_, _*_, _^_, _%_, _≤_, _<_};
+ghost use lib.ListN.{length, getD};
+ghost use Rattle.blocks.specs.Blocks.{Sized};
+ghost use Rattle.sides.specs.Sides.{blockChunk, pageChunk, chunkOf, Chunked, headOf, headAt, Readable, lastSize, follows, first};
+use blocks::Layout;
+
+// Where the records of a block or of a page of level 0 stand: the index of its mark word, of its
+// first key and of its first payload, and how many it has. A page is not listed and has no place.
+pub struct Chunk {
+    pub marks: usize,
+    pub keys: usize,
+    pub pays: usize,
+    pub n: usize,
+    pub place: usize,
+    pub listed: bool,
+}
+
+// What a side of the merge reads next: the next record, and the block that it stands in. `whole`
+// says that the record starts a listed block, which may then be reused.
+pub struct Head {
+    pub some: bool,
+    pub whole: bool,
+    pub key: u32,
+    pub tombstone: u32,
+    pub pay: u32,
+    pub last: u32,
+    pub marks: u32,
+    pub n: usize,
+    pub place: usize,
+}
+
+fn wide(x: u32) -> usize
+    ensures { λ r. ⌜ r ≡ x ⌝ }
+{
+    x as usize
+}
+
+pub fn listed(list: &[u32; 4096], i: usize) -> usize
+    requires { ⌜ i < 4096 ⌝ }
+    ensures { λ r. ⌜ r ≡ getD (now (list .entry)) i 0 ⌝ }
+{
+    wide(list[i])
+}
+
+pub fn word(s: &[u32], i: usize) -> usize
+    requires { ⌜ i < length (now s) ⌝ }
+    ensures { λ r. ⌜ r ≡ getD (now (s .entry)) i 0 ⌝ }
+{
+    wide(s[i])
+}
+
+// The block at place q.
+pub fn block_chunk(s: &[u32], z: Layout, q: usize) -> Chunk
+    requires { ⌜ Sized z (now s) × (q < z .p) ⌝ }
+    ensures { λ r. ⌜ r ≡ blockChunk z (now (s .entry)) q ⌝ }
+{
+    let at = blocks::place_start(z, q);
+    let b = z.b;
+    let n = word(s, at);
+    Chunk {
+        marks: at + 1,
+        keys: at + 2,
+        pays: at + 2 + b,
+        n: n,
+        place: q,
+        listed: true,
+    }
+}
+
+// Page i of level 0. It is full: level 0 is merged only when it has no room.
+fn page_chunk(z: Layout, i: usize) -> Chunk
+    requires { ⌜ (z .marks + i ≤ 1000000) × (z .keys + i * z .b ≤ 1000000) × (z .pays + i * z .b ≤ 1000000) ⌝ }
+    ensures { λ r. ⌜ r ≡ pageChunk z i ⌝ }
+{
+    let b = z.b;
+    Chunk {
+        marks: z.marks + i,
+        keys: z.keys + i * b,
+        pays: z.pays + i * b,
+        n: b,
+        place: 0,
+        listed: false,
+    }
+}
+
+// Chunk i of a side: a page of level 0, or the block at the list's i-th place.
+fn chunk_at(s: &[u32], z: Layout, pages: bool, list: &[u32; 4096], i: usize) -> Chunk
+    requires { ⌜ Chunked z pages (now s) (now list) i ⌝ }
+    ensures { λ r. ⌜ r ≡ chunkOf z pages (now (s .entry)) (now (list .entry)) i ⌝ }
+{
+    if pages {
+        return page_chunk(z, i);
+    }
+    let q = listed(list, i);
+    block_chunk(s, z, q)
+}
+
+// Record j of a chunk.
+pub fn head_at(s: &[u32], c: Chunk, j: usize) -> Head
+    requires { ⌜ (c .marks < length (now s)) × (c .keys + c .n ≤ length (now s)) × (c .pays + c .n ≤ length (now s)) × (j < c .n) × (c .n ≤ 16) ⌝ }
+    ensures { λ r. ⌜ r ≡ headAt (now (s .entry)) c j ⌝ }
+{
+    let n = c.n;
+    let ma = c.marks;
+    let ka = c.keys;
+    let va = c.pays;
+    let m = s[ma];
+    let k = s[ka + j];
+    let v = s[va + j];
+    let l = s[ka + (n - 1)];
+    Head {
+        some: true,
+        whole: c.listed & (j == 0),
+        key: k,
+        tombstone: (m >> j) % 2,
+        pay: v,
+        last: l,
+        marks: m,
+        n: n,
+        place: c.place,
+    }
+}
+
+// The next record of a side: chunk i of it, record j.
+pub fn peek(
+    s: &[u32],
+    z: Layout,
+    pages: bool,
+    list: &[u32; 4096],
+    i: usize,
+    j: usize,
+    end: usize,
+) -> Head
+    requires { ⌜ Readable z pages (now s) (now list) i j end ⌝ }
+    ensures { λ r. ⌜ r ≡ headOf z pages (now (s .entry)) (now (list .entry)) i j end ⌝ }
+{
+    if end <= i {
+        return Head {
+            some: false,
+            whole: false,
+            key: 0,
+            tombstone: 0,
+            pay: 0,
+            last: 0,
+            marks: 0,
+            n: 0,
+            place: 0,
+        };
+    }
+    let c = chunk_at(s, z, pages, list, i);
+    head_at(s, c, j)
+}
+
+// The size of the last block of the list so far; B where there is none.
+pub fn last_size(s: &[u32], z: Layout, out: &[u32; 4096], m: usize) -> usize
+    requires { ⌜ Sized z (now s) × (m ≤ 4096) × ((i : ℕ) → i < m → getD (now out) i 0 < z .p) ⌝ }
+    ensures { λ r. ⌜ r ≡ lastSize z (now (s .entry)) (now (out .entry)) m ⌝ }
+{
+    if m == 0 {
+        return z.b;
+    }
+    let q = listed(out, m - 1);
+    let at = blocks::place_start(z, q);
+    word(s, at)
+}
+
+// a's next record comes before that of b.
+pub fn before(a: Head, b: Head) -> bool
+    ensures { λ r. ⌜ r ≡ first a b ⌝ }
+{
+    a.some & (!b.some | (a.key < b.key))
+}
+
+// a's block may follow as it stands: the buffer has n records, the last block e.
+pub fn reusable(z: Layout, bottom: bool, a: Head, b: Head, n: usize, e: usize) -> bool
+    requires { ⌜ (z .b ≤ 16) × (a .n ≤ 16) × (n ≤ 16) × (e < 2 ^ 32) ⌝ }
+    ensures { λ r. ⌜ r ≡ follows z bottom a b n e ⌝ }
+{
+    let cap = z.b;
+    let size = a.n;
+    let ends = !b.some | (a.last < b.key);
+    let clean = !(bottom & !(a.marks == 0));
+    if n == 0 {
+        return (a.whole & ends) & (clean & (cap < e + size));
+    }
+    (a.whole & ends) & (clean & ((cap < n + size) & (cap < e + n)))
+}
