@@ -2,7 +2,7 @@
 use Prim.Native.Nat.{ℕ, zero, suc, _+_, _-_, _*_, _≤_, _<_}
 use mathlib.Core.Path.{_≡_, sym, ap, _∙_, refl}
 use mathlib.Core.Bool.{Bool, true, false, true≢false}
-use mathlib.Core.List.{List, [], _∷_}
+use mathlib.Core.List.{List, []}
 use mathlib.Core.Logic.{dite}
 use native.Mathlib.Decide.{decLt}
 use native.Mathlib.Nat.{mul-le-mul}
@@ -10,16 +10,13 @@ use native.Mathlib.Numerals.{add-one}
 use native.Mathlib.Omega.{arith}
 use borrow.Author.Tests.{lt-ltb, le-ltb, le-leb, lt-leb}
 use lib.Arith.{digits-lt}
-use lib.Dec.{ltb, leb}
 use lib.ListN.{length, getD, set, length-set}
 use Rattle.geometry.specs.declared.Geometry.{Geometry}
-use Rattle.geometry.specs.Geometry.{Valid, capacityOf, topCapacityOf, blockWidth, placesStart, placeStart, storeLength, keysStart, paysStart, marksStart, listStart}
-use Rattle.geometry.proofs.Laws.{marks-end, keys-end, pays-end, lists-apart, list-inside, store-length-high, places-apart, places-first, lists-end}
-use Rattle.levels.specs.Basics.{if_then_else_}
+use Rattle.geometry.specs.Geometry.{Valid, topCapacityOf, blockWidth, placeStart, storeLength}
+use Rattle.geometry.proofs.Laws.{marks-end, keys-end, pays-end, lists-apart, list-inside, store-length-high}
 use Rattle.levels.specs.Place.{after}
 use Rattle.blocks.specs.declared.Layout.{Layout}
-use Rattle.blocks.specs.declared.Buffer.{Buffer}
-use Rattle.blocks.specs.Blocks.{Sized, layoutOf, startOf, afterBy, Free, SomeFree, freeMark, nextMark, marked, copied, written}
+use Rattle.blocks.specs.Blocks.{Sized, layoutOf, startOf, afterBy, Free, SomeFree, freeMark, nextMark, marked, copied}
 
 -- a place starts where the geometry says
 pub start-place : (g : Geometry) (q : ℕ) → startOf (layoutOf g) q ≡ placeStart g q

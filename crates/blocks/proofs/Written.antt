@@ -1,12 +1,10 @@
 -- What writing a buffer at a place leaves, as levels' and words' definitions say it.
 use Prim.Native.Nat.{ℕ, zero, suc, _+_, _-_, _*_, _≤_, _<_}
-use mathlib.Core.Path.{_≡_, sym, ap, _∙_, refl}
-use mathlib.Core.List.{List, [], _∷_, _++_, map, append-assoc}
-use mathlib.Core.Option.{some}
+use mathlib.Core.Path.{_≡_, ap, _∙_, refl}
+use mathlib.Core.List.{List, [], _∷_, _++_, append-assoc}
 use native.Mathlib.Omega.{arith}
-use native.Mathlib.Nat.{add-assoc}
 use lib.ListN.{length, getD, set, take, drop, replicate, length-append, length-map, length-take, length-replicate}
-use lib.Seq.{sets, sets-eq, length-sets, take-suc, take-append-le, take-append-add, take-add, drop-drop}
+use lib.Seq.{sets, sets-eq, take-suc, take-append-add, take-add, drop-drop}
 use Rattle.geometry.specs.declared.Geometry.{Geometry}
 use Rattle.geometry.specs.Geometry.{placesStart, blockWidth}
 use Rattle.levels.specs.Record.{Rec}

@@ -13,7 +13,7 @@ use Rattle.geometry.specs.declared.Geometry.{Geometry}
 use Rattle.geometry.specs.declared.Built.the-variants.{Legal, Broken}
 use Rattle.geometry.specs.Geometry.{Valid, isLegal, builtOf, storeLength, keyLimitOf}
 use Rattle.geometry.proofs.Laws.{built-valid, built-broken, valid-legal}
-use Rattle.words.specs.Calls.{Outcome, FormatAnswer, LookAnswer, ChangeAnswer, formatWords, formatOf, lookUpOf, putOf, deleteOf}
+use Rattle.words.specs.Calls.{Outcome, FormatAnswer, ChangeAnswer, formatWords, formatOf, lookUpOf, putOf, deleteOf}
 use Rattle.words.proofs.Reason.{size-none}
 use Rattle.lines.specs.declared.Line.{Line}
 use Rattle.lines.specs.declared.Line.the-variants.{Put, Delete, Get, Unreadable}

@@ -1,15 +1,14 @@
 -- The merges out of listed levels, one after the other.
-use Prim.Native.Nat.{ℕ, zero, suc, _+_, _-_, _*_, _≤_, _<_}
+use Prim.Native.Nat.{ℕ, suc, _+_, _-_, _*_, _≤_, _<_}
 use mathlib.Core.Path.{_≡_, refl, sym, ap, _∙_, subst}
 use mathlib.Core.Bool.{Bool, true, false}
 use mathlib.Core.List.{List, [], _∷_, _++_, append-assoc}
 use native.Mathlib.Omega.{arith}
 use lib.Dec.{eqb}
-use lib.ListN.{length, getD}
+use lib.ListN.{length}
 use Rattle.geometry.specs.declared.Geometry.{Geometry}
-use Rattle.geometry.specs.Geometry.{Valid, topCapacityOf}
+use Rattle.geometry.specs.Geometry.{Valid}
 use Rattle.levels.specs.Basics.{if_then_else_, total}
-use Rattle.levels.specs.Record.{Block}
 use Rattle.levels.specs.Store.{Store, rows}
 use Rattle.levels.specs.Call.{Compaction, Merge, mergeLevel, afterMerge, afterMerges, deepestOver, mergesBelow}
 use Rattle.levels.specs.Count.{blocksMerged, blocksCompacted, totalInto, totalCompacted, countsOf}
@@ -25,9 +24,8 @@ use Rattle.words.specs.Layout.{areaOf, writeBlocks}
 use Rattle.words.specs.Calls.{compactedBlocks, writtenBlocks}
 use Rattle.words.proofs.Blocks.{writes-append}
 use Rattle.steps.specs.declared.Counts.{Counts}
-use Rattle.steps.specs.declared.Tally.{Tally}
 use Rattle.steps.specs.declared.Run.{Run}
-use Rattle.steps.specs.Running.{storeOf, Stands, numbersOf, plus, Few, Small, Grown, Leaving, StepReady, stepCounts}
+use Rattle.steps.specs.Running.{storeOf, Stands, numbersOf, plus, Leaving, StepReady, stepCounts}
 use Rattle.cascade.specs.Cascade.{deepestFor, Rolling, listCounts}
 use Rattle.steps.proofs.Chaining.{grown-small, small-more, plus-assoc}
 use Rattle.cascade.proofs.Depth.{deepest-is}

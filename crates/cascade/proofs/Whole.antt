@@ -1,21 +1,19 @@
 -- All merges of a call whose level 0 is full.
-use Prim.Native.Nat.{ℕ, zero, suc, _+_, _-_, _*_, _≤_, _<_}
+use Prim.Native.Nat.{ℕ, suc, _+_, _-_, _≤_, _<_}
 use mathlib.Core.Path.{_≡_, refl, sym, ap, _∙_, subst}
-use mathlib.Core.Bool.{Bool, true, false}
-use mathlib.Core.List.{List, [], _∷_, _++_, map, append-assoc}
+use mathlib.Core.List.{List, [], _∷_, _++_, append-assoc}
 use mathlib.Core.Logic.{dite}
 use native.Mathlib.Decide.{decLt, ℕ-discrete}
 use native.Mathlib.Omega.{arith}
 use lib.ListN.{length, take, getD, List·getD-eq-default}
 use Rattle.geometry.specs.declared.Geometry.{Geometry}
 use Rattle.geometry.specs.Geometry.{Valid, capacityOf, topCapacityOf, storeLength}
-use Rattle.levels.specs.Record.{Block, Level}
 use Rattle.levels.specs.Store.{Store, rows, blocksOf}
 use Rattle.levels.specs.Call.{Merge, mergeLevel, afterMerge, afterMerges, mergesBelow, mergesFrom, enoughSteps}
 use Rattle.levels.specs.Count.{countsOf}
 use Rattle.levels.specs.Count as levels
-use Rattle.levels.specs.Sound.{Fits, Sound}
-use Rattle.levels.specs.Inside.{load, Inside, Entry, Ruled}
+use Rattle.levels.specs.Sound.{Fits}
+use Rattle.levels.specs.Inside.{load, Inside}
 use Rattle.levels.specs.InCall.{MergeFacts}
 use Rattle.levels.proofs.Entry.{entry-of, entry-inside, inside-fit}
 use Rattle.levels.proofs.StoreRows.{load-enough}
@@ -23,18 +21,17 @@ use Rattle.levels.proofs.Inside.{inside-bottom}
 use Rattle.levels.proofs.InCall.{ListFacts, deepest-says, merge-start, below-same}
 use Rattle.levels.proofs.CallMerges.{from-is, first-facts, from-facts, from-ends}
 use Rattle.levels.proofs.CallCounts.{steps-high}
-use Rattle.words.specs.Layout.{topCountAt, countAt, listedAt, cursorAt, storeAt, areaOf, storeWords, writeBlocks, placeOf}
+use Rattle.words.specs.Layout.{countAt, listedAt, cursorAt, storeAt, areaOf, storeWords, writeBlocks}
 use Rattle.words.specs.Calls.{compactedBlocks, writtenBlocks, leftWords}
 use Rattle.words.specs.Passed.{Passed}
 use Rattle.words.proofs.State.{Holds, words-hold, cursor-held, top-count-held}
 use Rattle.lists.specs.Lists.{roomOf, withLists}
-use Rattle.lists.specs.Holds.{HoldsBut}
 use Rattle.lists.proofs.Room.{room-level}
 use Rattle.lists.proofs.Laws.{placesIn, but-held, lists-back}
 use Rattle.lists.proofs.Arrays.{three-places, count-held, count-room, places-listed}
 use Rattle.steps.specs.declared.Tally.{Tally}
 use Rattle.steps.specs.declared.Run.{Run}
-use Rattle.steps.specs.Running.{storeOf, Listed, Stands, numbersOf, plus, Few, Small, Grown, Leaving, StepReady, stepCounts}
+use Rattle.steps.specs.Running.{storeOf, Listed, Stands, numbersOf, plus, Few, Small, Leaving, StepReady, stepCounts}
 use Rattle.cascade.specs.Cascade.{Rolling, listCounts, FullStore, Loaded, MergedAll}
 use Rattle.steps.proofs.Standing.{stand}
 use Rattle.steps.proofs.Stepping.{top-fits}

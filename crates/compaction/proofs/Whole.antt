@@ -7,7 +7,7 @@ use native.Mathlib.Nat.{le-refl, mul-le-mul-left}
 use native.Mathlib.Omega.{arith}
 use lib.ListN.{length, getD, take, length-append}
 use Rattle.geometry.specs.declared.Geometry.{Geometry}
-use Rattle.levels.specs.Record.{Level, records}
+use Rattle.levels.specs.Record.{Level}
 use Rattle.levels.specs.Waste.{compact}
 use Rattle.levels.specs.Place.{Allocation, settle}
 use Rattle.levels.proofs.Compaction.{compact-well}

@@ -1,6 +1,6 @@
 -- What the first look at lent words says, for the crates above, and that it is the first part of the reason that `check` gives.
 use Prim.Native.Nat.{ℕ, _≤_, _<_}
-use mathlib.Core.Path.{_≡_, refl, sym, _∙_}
+use mathlib.Core.Path.{_≡_, refl, sym}
 use mathlib.Core.Bool.{Bool, true, false}
 use mathlib.Core.List.{List}
 use native.Mathlib.Omega.{arith}
@@ -14,7 +14,6 @@ use Rattle.geometry.proofs.Laws.{legal-valid, valid-legal, built-valid, built-b
 use Rattle.levels.specs.Basics.{if_then_else_}
 use Rattle.words.specs.Layout.{geometryAt}
 use Rattle.words.specs.Form.{formed, reasonOf}
-use Rattle.entry.specs.declared.Opened.{Opened}
 use Rattle.entry.specs.declared.Opened.the-variants.{Ready, Refused}
 use Rattle.entry.specs.Entry.{Sized, pickOpened, fitOf, openedOf}
 
@@ -106,11 +105,6 @@ fitted-ready n s g e =
     let k = pick-ready (sizeReason n s) s g e in
     let r = size-none n s (k .1) in
     (k .0, (rw (k .0) (r .valid), (rw (k .0) (r .words), k .1)))
-
--- six numbers that there is no reason to turn down for n words are ready
-pub fitted-none : (n : ℕ) (g : Geometry) → sizeReason n g ≡ 0 → fitOf n g ≡ Ready g
-unfolding fitOf
-fitted-none n g e = rw e
 
 pub fitted-refused : (n : ℕ) (s : Geometry) (m : ℕ) → fitOf n s ≡ Refused m → (sizeReason n s ≡ m) × (1 ≤ m)
 unfolding fitOf

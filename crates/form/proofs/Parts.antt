@@ -90,7 +90,3 @@ unfolding wordsFrom
 words-get ws i zero j h = absurd (omega arith)
 words-get ws i (suc n) zero h = let q : i + 0 ≡ i = omega arith in rw q
 words-get ws i (suc n) (suc j) h = let q : i + suc j ≡ suc i + j = omega arith in rw q (words-get ws (suc i) n j (omega arith))
-
--- the j-th place that level i lists
-pub listed-get : (g : Geometry) (ws : List ℕ) (i : ℕ) → Listed g ws i → (j : ℕ) → j < countAt ws i → getD (listedAt g ws i) j 0 ≡ word ws (listStart g i + j)
-listed-get g ws i l j h = rw (listed-words g ws i l) (words-get ws (listStart g i) (countAt ws i) j h)

@@ -1,7 +1,7 @@
 -- What the size words and the place lists say: the words that the levels name are there.
 use Prim.Native.Nat.{ℕ, _+_, _-_, _*_, _/_, _≤_, _<_}
 use mathlib.Core.Path.{_≡_, sym, ap, _∙_}
-use mathlib.Core.Bool.{Bool, true, false, _&&_, and-eq-true-iff, true≢false}
+use mathlib.Core.Bool.{Bool, true, _&&_, and-eq-true-iff, true≢false}
 use mathlib.Core.Logic.{dite}
 use mathlib.Core.List.{List}
 use native.Mathlib.Decide.{decLt}

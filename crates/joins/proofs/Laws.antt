@@ -1,16 +1,16 @@
 -- Counts and bits of a buffer that grows.
 use Prim.Native.Nat.{ℕ, zero, suc, _+_, _-_, _*_, _/_, _%_, _^_, _≤_, _<_}
-use mathlib.Core.Path.{_≡_, sym, ap, _∙_, refl}
+use mathlib.Core.Path.{_≡_, _∙_, refl}
 use mathlib.Core.Bool.{Bool, true, false}
-use mathlib.Core.List.{List, [], _∷_}
+use mathlib.Core.List.{List, []}
 use native.Mathlib.Numerals.{add-one}
 use native.Mathlib.Nat.{pow-suc, mul-le-mul-right}
 use native.Mathlib.Omega.{arith}
-use lib.ListN.{length, getD, set}
+use lib.ListN.{getD, set}
 use Rattle.blocks.specs.declared.Layout.{Layout}
 use Rattle.blocks.specs.declared.Buffer.{Buffer}
-use Rattle.blocks.specs.Blocks.{Sized, startOf, pushed, emptyBuffer}
-use Rattle.joins.specs.Joins.{Clean, Loadable, appended, joined, Pullable, pulled, Lefts, restedOut}
+use Rattle.blocks.specs.Blocks.{startOf, pushed, emptyBuffer}
+use Rattle.joins.specs.Joins.{Clean, appended, joined, Pullable, pulled, Lefts, restedOut}
 use Rattle.stream.specs.declared.Progress.{Progress}
 use Rattle.sides.specs.Sides.{lastSize}
 use Rattle.levels.specs.Basics.{if_then_else_}

@@ -1,17 +1,15 @@
 -- Step 4 of a merge as a machine: leftovers join the block before them and the block after Y.
-use Prim.Native.Nat.{ℕ, zero, suc, _+_, _-_, _*_, _/_, _%_, _^_, _≤_, _<_}
-use mathlib.Core.Path.{_≡_}
-use mathlib.Core.Bool.{Bool, true, false, not, _&&_, _||_}
-use mathlib.Core.List.{List, [], _∷_, _++_}
-use lib.Dec.{ltb, leb, eqb}
-use lib.ListN.{getD, set, length}
+use Prim.Native.Nat.{ℕ, zero, suc, _+_, _-_, _/_, _%_, _^_, _≤_, _<_}
+use mathlib.Core.List.{List, []}
+use lib.Dec.{leb, eqb}
+use lib.ListN.{getD, set}
 use Rattle.levels.specs.Basics.{if_then_else_}
 use Rattle.blocks.specs.declared.Layout.{Layout}
 use Rattle.blocks.specs.declared.Buffer.{Buffer}
 use Rattle.blocks.specs.Blocks.{Sized, startOf, pushed, emptyBuffer}
 use Rattle.stream.specs.declared.Progress.{Progress}
 use Rattle.sides.specs.Sides.{lastSize}
-use Rattle.stream.specs.Machine.{Memory, withBuffer, skipY, flushed, Flushable}
+use Rattle.stream.specs.Machine.{Memory, flushed, Flushable}
 
 -- no bits but those of the records
 pub record Clean (a : Buffer) : Type 0 where

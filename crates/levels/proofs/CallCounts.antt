@@ -2,9 +2,9 @@
 use Prim.Native.Nat.{ℕ, zero, suc, _+_, _-_, _*_, _≤_}
 use mathlib.Core.Path.{_≡_, refl, sym, _∙_, ap, subst}
 use mathlib.Core.Bool.{Bool, true, false, _||_}
-use mathlib.Core.List.{List, [], _∷_, _++_}
+use mathlib.Core.List.{List, [], _∷_}
 use native.Mathlib.Omega.{arith}
-use native.Mathlib.Nat.{mul-le-mul, mul-le-mul-left}
+use native.Mathlib.Nat.{mul-le-mul}
 use lib.Dec.{ltb, eqb}
 use lib.ListN.{length, length-append}
 use Rattle.geometry.specs.declared.Geometry.{Geometry}
@@ -15,7 +15,7 @@ use Rattle.levels.specs.Record.{Level, records}
 use Rattle.levels.specs.Map.{find}
 use Rattle.levels.specs.Waste.{needsCompact}
 use Rattle.levels.specs.Store.{Store, blocksOf}
-use Rattle.levels.specs.Call.{Compaction, Merge, compactLevel, compactIfNeeded, afterCompactions, stepFive, mergeRun, mergeLevel, afterMerge, deepestOver, mergesBelow, mergesFrom, enoughSteps}
+use Rattle.levels.specs.Call.{Compaction, Merge, compactLevel, compactIfNeeded, afterCompactions, stepFive, mergeRun, mergeLevel, afterMerge, deepestOver, mergesBelow, enoughSteps}
 use Rattle.levels.specs.Put.{mergesFor}
 use Rattle.levels.specs.Count.{blocksMerged, blocksCompacted, totalInto, totalCompacted, countsOf}
 use Rattle.levels.specs.Every.{Every}
@@ -135,13 +135,6 @@ module _ (g : Geometry) (s : Store) (v : Valid g) (f : Fits g s) (o : Sound g s)
   counts-written k j =
       into-same j blocksMerged (λ m. length (m .written)) (mergesFor g s k)
       (every-turn (MergeFacts g s) (λ m. blocksMerged m ≡ length (m .written)) (mergesFor g s k) (λ m d. merge-written g s m v d) (call-merges g s v f o k))
-
-  -- "blocks written compacting it", by the lists of blocks written
-  pub counts-compacted : (k j : ℕ) → countsOf j (mergesFor g s k) .compacted ≡ total (λ (m : Merge). lengthsCompacted j (m .compactions)) (mergesFor g s k)
-  unfolding countsOf
-  counts-compacted k j =
-      total-same (λ m. totalCompacted j (m .compactions)) (λ m. lengthsCompacted j (m .compactions)) (mergesFor g s k)
-      (every-turn (MergeFacts g s) (λ m. totalCompacted j (m .compactions) ≡ lengthsCompacted j (m .compactions)) (mergesFor g s k) (λ m d. compacted-same g s j (m .compactions) (d .five .facts)) (call-merges g s v f o k))
 
   -- every count fits a word
   pub counts-high : (k j : ℕ) → let c = countsOf j (mergesFor g s k) in (c .merges ≤ 98305) × (c .written ≤ 805216255) × (c .compacted ≤ 1610432510)

@@ -1,18 +1,18 @@
 -- "Format": the empty store passes the form check, and its map is empty.
-use Prim.Native.Nat.{ℕ, zero, suc, _-_, _<_, _≤_}
+use Prim.Native.Nat.{ℕ, zero, suc, _-_}
 use mathlib.Core.Path.{_≡_, refl, ap}
-use mathlib.Core.Bool.{true, false}
-use mathlib.Core.List.{List, [], _∷_, map}
+use mathlib.Core.Bool.{true}
+use mathlib.Core.List.{[], map}
 use native.Mathlib.Omega.{arith}
 use lib.ListN.{length, getD, replicate, length-replicate}
 use borrow.Author.Tests.{le-ltb}
 use Rattle.geometry.specs.declared.Geometry.{Geometry}
 use Rattle.geometry.specs.Geometry.{Valid}
 use Rattle.levels.specs.Basics.{all, ceilDiv}
-use Rattle.levels.specs.Record.{Rec, Level, records, hasTombstone, rising, cleanTombstones}
+use Rattle.levels.specs.Record.{Level, records, hasTombstone, rising, cleanTombstones}
 use Rattle.levels.specs.Map.{overlay, view, unmarked, mapOf, liveCount}
 use Rattle.levels.specs.Place.{inUse, distinct}
-use Rattle.levels.specs.Store.{Store, emptyStore, rows}
+use Rattle.levels.specs.Store.{emptyStore, rows}
 use Rattle.levels.specs.Every.{Every, allBlocks}
 use Rattle.levels.specs.Sound.{Fits, Tight, Sound}
 

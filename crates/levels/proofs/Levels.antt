@@ -55,11 +55,6 @@ pair-sum : (B : ℕ) (b : Block) (bs : Level) → Pairs B (b ∷ bs) → length 
 pair-sum B b [] p = omega (arith, length-append (b .recs) (records []))
 pair-sum B b (c ∷ cs) p = omega (arith, length-append (b .recs) (records (c ∷ cs)), pair-sum B c cs (p .1), p .0)
 
--- the pair rule bounds the blocks by the records: (a − 1) × (B + 1) ≤ 2 × R
-pub pairs-count : (B : ℕ) (l : Level) → Pairs B l → length l * suc B ≤ 2 * length (records l) + suc B
-pairs-count B [] p = omega arith
-pairs-count B (b ∷ bs) p = omega (arith, pair-sum B b bs p)
-
 -- levels end to end
 pub records-append : (k l : Level) → records (k ++ l) ≡ records k ++ records l
 records-append [] l = refl

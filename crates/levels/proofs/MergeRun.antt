@@ -12,7 +12,6 @@ use Rattle.levels.specs.Choose.{Cut, cutAt}
 use Rattle.levels.specs.Place.{Allocation, Settled, settle, placesOf}
 use Rattle.levels.specs.Store.{Store, rows, blocksOf, withBlocks, usedIn, allocationOf}
 use Rattle.levels.specs.Call.{settleUpper, mergeCut, mergeRun}
-use Rattle.levels.specs.Count.{blocksMerged}
 use Rattle.levels.specs.Well.{Well, Sized}
 use Rattle.levels.specs.Taking.{fresh, Changed}
 use Rattle.levels.specs.InCall.{Mergeable}
@@ -20,7 +19,7 @@ use Rattle.levels.specs.Every.{Every, allBlocks}
 use Rattle.levels.proofs.Merged.{upperOf, lowerOf, upper-length, upper-well, lower-well}
 use Rattle.levels.proofs.Compaction.{pages-fresh}
 use Rattle.levels.proofs.Settling.{settle-records, written-length, written-places, settle-cursor, settle-used}
-use Rattle.levels.proofs.Places.{places-append, changed-newly}
+use Rattle.levels.proofs.Places.{places-append}
 use Rattle.levels.proofs.Written.{merge-changed, top-changed}
 use Rattle.levels.proofs.Every.{every-make, every-turn}
 use Rattle.levels.proofs.Stays.{Old, old-of-every, old-fresh, upper-old, lower-old, settled-old, mem-left, mem-right, level-mem, every-set, written-sized}
@@ -204,10 +203,3 @@ module _ (g : Geometry) (w first : ℕ) (s : Store) (low : s .cursor < g .p) whe
       let u : Settled = settle (g .p) (allocationOf s) (upperLeft g (suc j) w first s) in
       settle-cursor (g .p) (u .allocation) (lowerMade g (suc j) w first s) (settle-cursor (g .p) (allocationOf s) (upperLeft g (suc j) w first s) low (omega arith))
       (omega (arith, settle-used (g .p) (allocationOf s) (upperLeft g (suc j) w first s)))
-
-  -- "Blocks written by a merge are the places in use at its end that were not in use at its start, step 2's block with them."
-  pub run-newly : (i : ℕ) → Mergeable (g .b) w first (blocksOf g i s) (blocksOf g (suc i) s) → i < length (s .levels) → length (usedIn s) + newBlocks g i w first s ≤ g .p
-      → blocksMerged (mergeRun g i w first s) ≡ newBlocks g i w first s
-  unfolding blocksMerged mergeRun
-  run-newly i h inside room =
-      changed-newly (g .p) (allocationOf s) (usedIn (mergeRun g i w first s .finish)) (placesOf (mergeRun g i w first s .written)) (run-changed i h inside room) ∙ run-places g i w first s

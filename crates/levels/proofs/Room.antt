@@ -2,7 +2,7 @@
 -- as long as no level is longer than twice its capacity.
 use Prim.Native.Nat.{ℕ, zero, suc, _+_, _*_, _<_, _≤_}
 use mathlib.Core.Path.{_≡_, ap}
-use mathlib.Core.Bool.{Bool, true}
+use mathlib.Core.Bool.{true}
 use mathlib.Core.List.{List, [], _∷_}
 use native.Mathlib.Omega.{arith}
 use native.Mathlib.Nat.{add-zero}
@@ -12,15 +12,11 @@ use Rattle.geometry.specs.Geometry.{Valid, capacityOf, windowOf, capacitySum, f
 use Rattle.geometry.proofs.Laws.{capacity-sum-first}
 use Rattle.levels.specs.Record.{Level}
 use Rattle.levels.specs.Waste.{needsCompact, compact}
-use Rattle.levels.specs.Choose.{choose, cutAt}
 use Rattle.levels.specs.Place.{placesOf, inUse}
 use Rattle.levels.specs.Taking.{fresh}
-use Rattle.levels.specs.InCall.{Due}
 use Rattle.levels.proofs.Fresh.{olds-most, places-olds}
-use Rattle.levels.proofs.Merged.{upperOf, lowerOf, upper-writes, lower-writes}
 use Rattle.levels.proofs.Compaction.{compact-fresh, compact-shorter}
 use Rattle.levels.proofs.Capacity.{window-half, window-capacity-half, level-in-flash}
-use Rattle.levels.proofs.Chosen.{due-mergeable, due-over}
 
 -- the level at index j, which is level i + j + 1, has at most twice its capacity
 abbrev pub Doubled : Geometry → ℕ → List Level → Type 0
@@ -52,34 +48,7 @@ merge-room-numbers g i used taken v h u t =
 pub compact-room-numbers : (g : Geometry) (j used taken : ℕ) → Valid g → j < g .h → used ≤ 2 * flashCapacityOf g → taken ≤ 2 * capacityOf g (suc j) → used + taken < g .p
 compact-room-numbers g j used taken v h u t = omega (arith, level-in-flash g j h, v .places-low)
 
--- a merge of the chosen run out of level j + 1 leaves a free place at each taking
-pub merge-room : (g : Geometry) (j : ℕ) (ls : List Level) → Valid g → length ls ≡ g .h → suc j < g .h → Doubled g 0 ls → (bottom : Bool)
-    → let above = getD ls j [] in let under = getD ls (suc j) [] in Due g (suc j) above under → fresh above ≡ 0 → fresh under ≡ 0
-    → let c = cutAt (windowOf g (suc j)) (choose (windowOf g (suc j)) above under .at) above under in length (inUse ls) + (fresh (upperOf (g .b) 1 c) + fresh (lowerOf (g .b) bottom c)) < g .p
-merge-room g j ls v e h d bottom due fa fu =
-    let above : Level = getD ls j [] in
-    let under : Level = getD ls (suc j) [] in
-    let w : ℕ = windowOf g (suc j) in
-    let m = due-mergeable g (suc j) above under (v .ranged) due in
-    let u = upper-writes (g .b) w (choose w above under .at) above under m 0 fa in
-    let l = lower-writes (g .b) w (choose w above under .at) above under m bottom fu in
-    let q = due-over g (suc j) above under (v .ranged) due in
-    merge-room-numbers g (suc j) (length (inUse ls)) _ v h (used-most g ls e d) (omega arith)
-
--- and so does one out of level 0
-pub top-room : (g : Geometry) (above : Level) (ls : List Level) → Valid g → length ls ≡ g .h → Doubled g 0 ls → (bottom : Bool)
-    → let under = getD ls 0 [] in Due g 0 above under → fresh under ≡ 0
-    → length (inUse ls) + fresh (lowerOf (g .b) bottom (cutAt (windowOf g 0) (choose (windowOf g 0) above under .at) above under)) < g .p
-top-room g above ls v e d bottom due fu =
-    let under : Level = getD ls 0 [] in
-    let w : ℕ = windowOf g 0 in
-    let m = due-mergeable g 0 above under (v .ranged) due in
-    let l = lower-writes (g .b) w (choose w above under .at) above under m bottom fu in
-    let q = due-over g 0 above under (v .ranged) due in
-    let k = v .ranged .h-low in
-    merge-room-numbers g 0 (length (inUse ls)) _ v (omega arith) (used-most g ls e d) (omega arith)
-
--- and a compaction of level j + 1
+-- a compaction of level j + 1 leaves a free place at each taking
 pub compact-room : (g : Geometry) (j : ℕ) (ls : List Level) → Valid g → length ls ≡ g .h → j < g .h → Doubled g 0 ls → needsCompact (g .b) (getD ls j []) ≡ true
     → length (inUse ls) + fresh (compact (g .b) (getD ls j [])) < g .p
 compact-room g j ls v e h d n =

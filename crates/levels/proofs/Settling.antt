@@ -6,7 +6,7 @@ use mathlib.Core.Option.{Option, none, some}
 use native.Mathlib.Omega.{arith}
 use lib.ListN.{length}
 use Rattle.levels.specs.Basics.{total}
-use Rattle.levels.specs.Record.{Rec, Block, Level, size, new, records}
+use Rattle.levels.specs.Record.{Rec, Block, Level, size, records}
 use Rattle.levels.specs.Waste.{needsCompact}
 use Rattle.levels.specs.Place.{Allocation, firstFree, Settled, settle, placesOf}
 use Rattle.levels.specs.Taking.{Takes, fresh}
@@ -22,17 +22,6 @@ afterTaking a (p ∷ ps) = afterTaking (record { used = p ∷ a .used; cursor = 
 -- the allocation after one place
 abbrev pub taking : ℕ → Allocation → Allocation
 taking P a = record { used = firstFree P a ∷ a .used; cursor = firstFree P a }
-
--- the clauses of settle, as laws: an old block stays, a new one takes the first free place
-pub settle-old : (P : ℕ) (a : Allocation) (p : ℕ) (rs : List Rec) (bs : Level) → let b : Block = record { place = some p; recs = rs } in
-    let r = settle P a bs in settle P a (b ∷ bs) ≡ record { level = b ∷ r .level; written = r .written; allocation = r .allocation }
-unfolding settle
-settle-old P a p rs bs = refl
-
-pub settle-new : (P : ℕ) (a : Allocation) (rs : List Rec) (bs : Level) → let b : Block = record { place = some (firstFree P a); recs = rs } in
-    let r = settle P (taking P a) bs in settle P a (new rs ∷ bs) ≡ record { level = b ∷ r .level; written = b ∷ r .written; allocation = r .allocation }
-unfolding settle
-settle-new P a rs bs = refl
 
 -- "in key order": first the blocks of one list, then those of the next
 pub settle-append : (P : ℕ) (a : Allocation) (k l : Level) → let s = settle P a k in

@@ -1,24 +1,24 @@
 -- Blocks written by a merge or a compaction: its new blocks, each at the first free place after the cursor, and they are the places newly in use.
 -- The levels are given as a list; level i + 1 is at index i.
 use Prim.Native.Nat.{ℕ, zero, suc, _+_, _<_, _≤_}
-use mathlib.Core.Path.{_≡_, refl, sym, _∙_, ap}
+use mathlib.Core.Path.{_≡_, refl, sym, ap}
 use mathlib.Core.Bool.{Bool}
 use mathlib.Core.List.{List, [], _∷_, _++_}
 use mathlib.Core.Option.{Option, none, some}
 use native.Mathlib.Omega.{arith}
-use lib.ListN.{length, length-append, getD, set, length-set}
+use lib.ListN.{length, getD, set, length-set}
 use Rattle.levels.specs.Basics.{total}
 use Rattle.levels.specs.Record.{Level}
 use Rattle.levels.specs.Waste.{compact}
 use Rattle.levels.specs.Choose.{Cut, cutAt}
-use Rattle.levels.specs.Place.{Allocation, Settled, settle, placesOf, inUse, newlyUsed}
+use Rattle.levels.specs.Place.{Allocation, Settled, settle, placesOf, inUse}
 use Rattle.levels.specs.Taking.{fresh, Takes, Changed}
 use Rattle.levels.specs.InCall.{Mergeable}
 use Rattle.levels.proofs.Fresh.{weights, count-all}
-use Rattle.levels.proofs.Merged.{upperOf, lowerOf, pair-places, lower-places, upper-writes, lower-writes}
+use Rattle.levels.proofs.Merged.{upperOf, lowerOf, pair-places, lower-places}
 use Rattle.levels.proofs.Compaction.{compact-fresh}
-use Rattle.levels.proofs.Settling.{afterTaking, takes-append, settle-takes, settle-cursor, settle-allocation, settle-used, settle-places, written-places}
-use Rattle.levels.proofs.Places.{total-append, weights-places, in-use-set, in-use-at, changed-newly}
+use Rattle.levels.proofs.Settling.{afterTaking, takes-append, settle-takes, settle-cursor, settle-allocation, settle-used, settle-places}
+use Rattle.levels.proofs.Places.{total-append, weights-places, in-use-set, in-use-at}
 
 -- a level of new blocks lists no place
 pub fresh-weights : (f : ℕ → ℕ) (l : Level) → fresh l ≡ length l → weights f l ≡ 0
@@ -50,13 +50,6 @@ module _ (P cursor : ℕ) (ls : List Level) (j : ℕ) (m : Level) (old : (f : �
         most = λ f. omega (arith, in-use-set f ls j (r .level) inside, settle-places f P a m, old f, weights-places f m, weights-places f (getD ls j []));
         least = λ f. omega (arith, in-use-set f ls j (r .level) inside, settle-places f P a m, in-use-at f ls j);
       }
-
-  -- "Blocks written compacting a level are the places in use at the end of the compaction that were not in use at its start"
-  pub replaced-newly : let a : Allocation = record { used = inUse ls; cursor = cursor } in newlyUsed (inUse ls) (inUse (set ls j (settle P a m .level))) ≡ fresh m
-  replaced-newly =
-      let a : Allocation = record { used = inUse ls; cursor = cursor } in
-      let r = settle P a m in
-      changed-newly P a (inUse (set ls j (r .level))) (placesOf (r .written)) replaced-changed ∙ written-places P a m
 
 -- a compaction keeps no old block, so it is such a replacing
 pub compact-old : (B : ℕ) (l k : Level) (f : ℕ → ℕ) → weights f (compact B l) ≤ weights f k
@@ -140,39 +133,9 @@ module _ (P B w first cursor : ℕ) (bottom : Bool) (ls : List Level) (j : ℕ) 
         least = λ f. omega (arith, merge-totals f .1, total-append f (placesOf (x .written)) (placesOf (y .written)));
       }
 
-  -- "Blocks written by a merge are the places in use at its end that were not in use at its start, step 2's block with them."
-  pub merge-newly : let a : Allocation = record { used = inUse ls; cursor = cursor } in
-      let c = cutIn w first ls j in newlyUsed (inUse ls) (inUse (levelsAfter P B bottom a c ls j)) ≡ fresh (upperOf B 1 c) + fresh (lowerOf B bottom c)
-  merge-newly =
-      let a : Allocation = record { used = inUse ls; cursor = cursor } in
-      let c = cutIn w first ls j in
-      let x : Settled = upperSettled P B a c in
-      let y : Settled = lowerSettled P B bottom a c in
-      omega (
-        arith,
-        changed-newly P a (inUse (levelsAfter P B bottom a c ls j)) (takenBy P B bottom a c) merge-changed,
-        length-append (placesOf (x .written)) (placesOf (y .written)),
-        written-places P a (upperOf B 1 c),
-        written-places P (x .allocation) (lowerOf B bottom c),
-      )
-
-  -- demand 3: "blocks written" are at most w + q + 1, where all blocks had places
-  pub merge-bound : fresh (getD ls j []) ≡ 0 → fresh (getD ls (suc j) []) ≡ 0 → let a : Allocation = record { used = inUse ls; cursor = cursor } in
-      let c = cutIn w first ls j in newlyUsed (inUse ls) (inUse (levelsAfter P B bottom a c ls j)) ≤ w + length (c .over) + 1
-  merge-bound fa fu =
-      omega (arith, merge-newly, upper-writes B w first (getD ls j []) (getD ls (suc j) []) h 0 fa, lower-writes B w first (getD ls j []) (getD ls (suc j) []) h bottom fu)
-
 -- A merge out of level 0, whose pages `above` have no places, into level 1, at index 0: step 2 writes nothing, steps 3 and 4 at most w + q.
 module _ (P B w first cursor : ℕ) (bottom : Bool) (above : Level) (ls : List Level) (pages : fresh above ≡ length above) (h : Mergeable B w first above (getD ls 0 [])) (inside : 0 < length ls) (low : cursor < P)
     (room : length (inUse ls) + fresh (lowerOf B bottom (cutAt w first above (getD ls 0 []))) ≤ P) where
   pub top-changed : let a : Allocation = record { used = inUse ls; cursor = cursor } in
       let r = settle P a (lowerOf B bottom (cutAt w first above (getD ls 0 []))) in Changed P a (inUse (set ls 0 (r .level))) (placesOf (r .written))
   top-changed = replaced-changed P cursor ls 0 (lowerOf B bottom (cutAt w first above (getD ls 0 []))) (λ f. lower-old B w first above (getD ls 0 []) h bottom pages f) inside low room
-
-  pub top-newly : let a : Allocation = record { used = inUse ls; cursor = cursor } in
-      let m = lowerOf B bottom (cutAt w first above (getD ls 0 [])) in newlyUsed (inUse ls) (inUse (set ls 0 (settle P a m .level))) ≡ fresh m
-  top-newly = replaced-newly P cursor ls 0 (lowerOf B bottom (cutAt w first above (getD ls 0 []))) (λ f. lower-old B w first above (getD ls 0 []) h bottom pages f) inside low room
-
-  pub top-bound : fresh (getD ls 0 []) ≡ 0 → let a : Allocation = record { used = inUse ls; cursor = cursor } in
-      let c = cutAt w first above (getD ls 0 []) in newlyUsed (inUse ls) (inUse (set ls 0 (settle P a (lowerOf B bottom c) .level))) ≤ w + length (c .over)
-  top-bound fu = omega (arith, top-newly, lower-writes B w first above (getD ls 0 []) h bottom fu)

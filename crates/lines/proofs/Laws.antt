@@ -1,22 +1,22 @@
 -- Laws of reading: the machine of `specs/Machine.antt` finds at a line's end what the line says.
-use Prim.Native.Nat.{ℕ, zero, suc, _+_, _-_, _*_, _≤_, _<_}
-use mathlib.Core.Path.{_≡_, refl, sym, ap, _∙_}
+use Prim.Native.Nat.{ℕ, _+_, _-_, _*_, _≤_, _<_}
+use mathlib.Core.Path.{_≡_, refl, sym}
 use mathlib.Core.Bool.{Bool, true, false, _&&_, _||_, and-eq-true-iff}
 use mathlib.Core.List.{List, [], _∷_, _++_, map, append-assoc}
 use native.Mathlib.Numerals.{add-one}
 use native.Mathlib.Omega.{arith}
-use borrow.Author.Tests.{ltb-true, ltb-false, leb-true, lt-ltb, le-ltb, ne-eqb, eqb-true}
-use lib.Dec.{leb, ltb, eqb}
+use borrow.Author.Tests.{ltb-true, ltb-false, leb-true, lt-ltb, le-ltb, ne-eqb}
+use lib.Dec.{ltb, eqb}
 use lib.ListN.{length, getD, drop, length-append, drop-of-length-le}
 use lib.Seq.{drop-cons}
 use Rattle.lines.specs.declared.Line.{Line}
-use Rattle.lines.specs.declared.Line.the-variants.{Format, Put, Delete, Get, Unreadable}
+use Rattle.lines.specs.declared.Line.the-variants.{Unreadable}
 use Rattle.lines.specs.declared.Numbers.{Numbers}
 use Rattle.lines.specs.declared.Reading.{Reading}
 use Rattle.lines.specs.declared.Reading.the-variants.{Start, Letter, Space, Digits, Spoiled}
-use Rattle.lines.specs.Bytes.{digitNine, space, letterD, letterF, letterG, letterP, isDigit, if_then_else_, every}
+use Rattle.lines.specs.Bytes.{digitNine, space, letterD, letterF, letterP, isDigit, if_then_else_, every}
 use Rattle.lines.specs.Lines.{firstField, furtherFields, valueFrom, valueOf, wordLimit, isNumber, spoken, named, lineOf}
-use Rattle.lines.specs.Machine.{noNumbers, pushed, relast, isLetter, afterStart, afterLetter, afterSpace, grown, afterDigits, step, run, said, lineAfter}
+use Rattle.lines.specs.Machine.{noNumbers, pushed, isLetter, afterStart, afterLetter, afterSpace, grown, afterDigits, step, run, said, lineAfter}
 
 -- small facts of tests
 pub if-same : {A : Type 0} (t : Bool) (a : A) → (if t then a else a) ≡ a

@@ -7,7 +7,7 @@ use mathlib.Core.List.{List, [], _∷_}
 use lib.Dec.{eqb}
 use Rattle.lines.specs.declared.Line.{Line}
 use Rattle.lines.specs.declared.Line.the-variants.{Format, Put, Delete, Get, Unreadable}
-use Rattle.lines.specs.Bytes.{letterD, letterF, letterG, letterP, if_then_else_, every, bytes, isDigit}
+use Rattle.lines.specs.Bytes.{letterD, letterF, letterG, letterP, if_then_else_, bytes}
 use Rattle.lines.specs.Lines.{
   firstField,
   furtherFields,

@@ -5,7 +5,7 @@ use mathlib.Core.List.{List, _++_}
 use native.Mathlib.Omega.{arith}
 use lib.ListN.{length, take, drop}
 use lib.Seq.{length-take-le, drop-append-add, drop-drop}
-use Rattle.words.specs.Layout.{word, part}
+use Rattle.words.specs.Layout.{part}
 use Rattle.words.proofs.Parts.{part-left, part-mid, part-front-part}
 use Rattle.lists.specs.Lists.{putAt}
 

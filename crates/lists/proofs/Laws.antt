@@ -18,7 +18,7 @@ use Rattle.words.proofs.Parts.{part-word, part-left, part-front-part, part-spli
 use Rattle.words.proofs.Top.{top-words-length}
 use Rattle.words.proofs.Lists.{list-words-length}
 use Rattle.words.proofs.Laid.{laid-levels}
-use Rattle.words.proofs.State.{Holds, top-end, lists-length, store-length, room-fits, geometry-held, live-held, top-count-held, words-hold, held-words}
+use Rattle.words.proofs.State.{Holds, top-end, lists-length, store-length, room-fits, geometry-held, live-held, top-count-held, held-words}
 use Rattle.lists.specs.Lists.{putAt, placeLists, withLists}
 use Rattle.lists.specs.Holds.{HoldsBut}
 use Rattle.lists.proofs.Put.{put-length}
@@ -233,12 +233,3 @@ but-live g ws s t v k l e =
       top = behind (marksStart g) (topLength g) (omega arith) ∙ k .top ∙ rw l;
       laid = rw (put-drop 6 (placesStart g) (t .live ∷ []) ws (omega arith) (omega arith)) (laid-levels g (areaOf g ws) s t e (k .laid));
     }
-
--- The words of a store with another area and another level 0 hold, but for cursor, counts and lists, every store of that level 0 and
--- of levels laid in that area.
-pub but-merged : (g : Geometry) (s t : Store) (area new : List ℕ) → Valid g → Fits g s → Laid g area s → t .live ≡ s .live → length (t .top) ≤ topCapacityOf g → Laid g new t → HoldsBut g (withTop g (t .top) (withArea g new (storeWords g s area))) t
-but-merged g s t area new v f d l r n =
-    let m : Store = record { live = t .live; cursor = t .cursor; top = s .top; levels = t .levels } in
-    let held = but-held g (storeWords g s area) s v f (words-hold g s area v f (d .full) d) in
-    let laid = but-area g (storeWords g s area) new s m v held l refl (laid-levels g new t m refl n) in
-    but-top g (withArea g new (storeWords g s area)) m t v laid refl refl r

@@ -1,24 +1,19 @@
 -- A merge can begin: the blocks before Y are listed, nothing is in the buffer.
-use Prim.Native.Nat.{ℕ, zero, suc, _+_, _-_, _*_, _≤_, _<_}
-use mathlib.Core.Path.{_≡_, sym, ap, _∙_, refl}
-use mathlib.Core.Bool.{Bool, true, false}
+use Prim.Native.Nat.{ℕ, zero, suc, _+_, _-_, _≤_, _<_}
+use mathlib.Core.Path.{_≡_, sym, _∙_, refl}
+use mathlib.Core.Bool.{false}
 use mathlib.Core.List.{List, [], _∷_, _++_, reverseAux}
-use native.Mathlib.Nat.{le-refl}
 use native.Mathlib.Omega.{arith}
-use lib.Dec.{eqb}
 use lib.ListN.{length, getD, take}
 use lib.Seq.{take-suc}
-use borrow.Author.Tests.{eq-eqb, ne-eqb}
-use Rattle.levels.specs.Basics.{if_then_else_}
-use Rattle.levels.specs.Record.{Rec, Block, Level, size}
+use borrow.Author.Tests.{ne-eqb}
+use Rattle.levels.specs.Record.{Block, Level}
 use Rattle.blocks.specs.declared.Layout.{Layout}
-use Rattle.blocks.specs.declared.Buffer.{Buffer}
-use Rattle.blocks.specs.Blocks.{emptyBuffer, bufferOf}
-use Rattle.stream.specs.declared.Progress.{Progress}
+use Rattle.blocks.specs.Blocks.{emptyBuffer}
 use Rattle.sides.specs.Sides.{blockChunk, chunkOf, lastSize}
 use Rattle.stream.specs.Machine.{Memory}
-use Rattle.merging.specs.Relation.{headSize, flashOf, Holds, LastIs, start}
-use Rattle.merging.specs.Blocks.{recsFrom, countAt, storedAt, blocks, Flash, lay, layAll, layDone}
+use Rattle.merging.specs.Relation.{headSize, Holds, LastIs, start}
+use Rattle.merging.specs.Blocks.{countAt, storedAt, blocks, Flash, layAll, layDone}
 use Rattle.merging.proofs.Heads.{recs-length}
 use Rattle.merging.proofs.Close.{lay-blocks, entries, entries-snoc, empty-is}
 

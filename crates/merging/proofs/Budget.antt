@@ -1,27 +1,23 @@
 -- Every step of a merge finds room in the list and a free place, since its inputs pay for them.
 use Prim.Native.Nat.{ℕ, zero, suc, _+_, _-_, _*_, _≤_, _<_}
 use mathlib.Core.Path.{_≡_, sym, ap, _∙_, refl}
-use mathlib.Core.Bool.{Bool, true, false, not, _&&_, _||_, true≢false}
-use mathlib.Core.List.{List, [], _∷_}
-use mathlib.Core.Logic.{dite}
+use mathlib.Core.Bool.{Bool, true, false, true≢false}
+use mathlib.Core.List.{List, []}
 use native.Mathlib.Decide.{decLt}
 use native.Mathlib.Nat.{mul-le-mul-left, le-of-mul-le-mul-right}
 use native.Mathlib.Omega.{arith}
-use lib.Dec.{ltb, leb, eqb}
-use lib.ListN.{length, getD}
 use borrow.Author.Tests.{le-leb}
 use Rattle.levels.specs.Basics.{if_then_else_, iterate}
-use Rattle.levels.specs.Merge.{Out, State, step}
+use Rattle.levels.specs.Merge.{Out, step}
 use Rattle.blocks.specs.declared.Layout.{Layout}
 use Rattle.blocks.specs.declared.Buffer.{Buffer}
-use Rattle.blocks.specs.Blocks.{SomeFree, bufferOf}
-use Rattle.stream.specs.declared.Progress.{Progress}
+use Rattle.blocks.specs.Blocks.{bufferOf}
 use Rattle.stream.specs.declared.Inputs.{Inputs}
-use Rattle.sides.specs.Sides.{chunkOf, headOf, headAt, noHead, lastSize, first}
-use Rattle.stream.specs.Machine.{Memory, tookX, tookY, tookBoth, turn, idle, turns}
+use Rattle.sides.specs.Sides.{chunkOf, headAt, noHead, lastSize, first}
+use Rattle.stream.specs.Machine.{Memory, turn, idle, turns}
 use Rattle.levels.proofs.Basics.{if-either}
 use Rattle.merging.specs.Contract.{countMarks}
-use Rattle.merging.specs.Relation.{Holds, Listed, Core, Budget, Sim, start}
+use Rattle.merging.specs.Relation.{Holds, Core, Budget, start}
 use Rattle.merging.specs.Relation as relation
 use Rattle.merging.proofs.Sim.{head-at, head-no}
 use Rattle.merging.proofs.Run.{sim-turns}

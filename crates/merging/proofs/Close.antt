@@ -1,17 +1,17 @@
 -- Step 4 on words is step 4 on blocks.
-use Prim.Native.Nat.{ℕ, zero, suc, _+_, _-_, _*_, _/_, _%_, _^_, _≤_, _<_}
+use Prim.Native.Nat.{ℕ, zero, suc, _+_, _-_, _≤_, _<_}
 use mathlib.Core.Path.{_≡_, sym, ap, _∙_, refl}
 use mathlib.Core.Bool.{Bool, true, false}
-use mathlib.Core.List.{List, [], _∷_, _++_, map, append-assoc, append-nil, reverseAux}
+use mathlib.Core.List.{List, [], _∷_, _++_, append-assoc, append-nil, reverseAux}
 use mathlib.Core.Option.{Option, none, some}
 use native.Mathlib.Numerals.{add-one}
-use native.Mathlib.Nat.{le-refl, add-zero}
+use native.Mathlib.Nat.{le-refl}
 use native.Mathlib.Decide.{decLt}
 use native.Mathlib.Omega.{arith}
 use lib.Dec.{leb, eqb}
-use lib.ListN.{length, getD, set, take, length-append, length-set, length-take}
+use lib.ListN.{length, getD, take, length-append, length-set, length-take}
 use lib.Seq.{take-suc, take-length, take-suc-set}
-use borrow.Author.Tests.{le-leb, lt-leb, leb-true, leb-false, eq-eqb, ne-eqb}
+use borrow.Author.Tests.{le-leb, lt-leb, leb-true, eq-eqb, ne-eqb}
 use Rattle.levels.specs.Basics.{if_then_else_}
 use Rattle.levels.specs.Record.{Rec, Block, Level, new, size}
 use Rattle.levels.specs.Merge.{Out, flush, joinLeft, join}
@@ -19,12 +19,12 @@ use Rattle.blocks.specs.declared.Layout.{Layout}
 use Rattle.blocks.specs.declared.Buffer.{Buffer}
 use Rattle.blocks.specs.Blocks.{Sized, startOf, emptyBuffer, bufferOf}
 use Rattle.stream.specs.declared.Progress.{Progress}
-use Rattle.words.specs.Layout.{pad, markWord}
+use Rattle.words.specs.Layout.{markWord}
 use Rattle.sides.specs.Sides.{blockChunk, chunkOf, lastSize}
 use Rattle.stream.specs.Machine.{Memory, flushed, writtenAt, withProgress}
 use Rattle.levels.proofs.Basics.{if-either}
 use Rattle.stream.proofs.Laws.{flushed-m}
-use Rattle.joins.specs.Joins.{appended, joined, pulled, leftJoined, afterTaken, afterJoined, restedOut, rested, joinedUp, closed}
+use Rattle.joins.specs.Joins.{appended, pulled, leftJoined, afterTaken, afterJoined, restedOut, rested, closed}
 use Rattle.merging.specs.Relation.{Formed, headSize, nextFree, flashOf, Holds, LastIs}
 use Rattle.merging.specs.Blocks.{recsFrom, storedAt, countAt, blocks, Flash, lay, layAll, layDone}
 use Rattle.merging.proofs.Heads.{recs-length}

@@ -1,8 +1,8 @@
 -- Step 4 finds what it asks for at the end of step 3.
-use Prim.Native.Nat.{ℕ, zero, suc, _+_, _-_, _*_, _^_, _≤_, _<_}
-use mathlib.Core.Path.{_≡_, sym, ap, _∙_, refl}
+use Prim.Native.Nat.{ℕ, _+_, _-_, _≤_}
+use mathlib.Core.Path.{_≡_, ap, _∙_, refl}
 use mathlib.Core.Bool.{Bool, true, false}
-use mathlib.Core.List.{List, [], _∷_}
+use mathlib.Core.List.{List, []}
 use native.Mathlib.Nat.{le-refl}
 use native.Mathlib.Omega.{arith}
 use lib.Dec.{leb, eqb}
@@ -12,16 +12,16 @@ use Rattle.levels.specs.Basics.{if_then_else_}
 use Rattle.levels.specs.Merge.{Out}
 use Rattle.blocks.specs.declared.Layout.{Layout}
 use Rattle.blocks.specs.declared.Buffer.{Buffer}
-use Rattle.blocks.specs.Blocks.{Sized, startOf, bufferOf}
+use Rattle.blocks.specs.Blocks.{startOf, bufferOf}
 use Rattle.stream.specs.declared.Progress.{Progress}
 use Rattle.stream.specs.declared.Inputs.{Inputs}
 use Rattle.sides.specs.Sides.{chunkOf, lastSize}
-use Rattle.stream.specs.Machine.{Memory, flushed, writtenAt, Flushable}
+use Rattle.stream.specs.Machine.{Memory, flushed, writtenAt}
 use Rattle.levels.proofs.Basics.{if-either}
 use Rattle.stream.proofs.Laws.{flushed-m}
-use Rattle.joins.specs.Joins.{Clean, appended, pulled, Lefts, leftJoined, afterTaken, Afters, afterJoined, joinedUp, Closable}
+use Rattle.joins.specs.Joins.{Clean, pulled, Lefts, leftJoined, afterTaken, Afters, afterJoined, joinedUp, Closable}
 use Rattle.joins.proofs.Laws.{last-pull, pulled-n, pulled-clean, appended-n}
-use Rattle.merging.specs.Relation.{nextFree, flashOf, Holds, Stands, Listed, Core, Budget}
+use Rattle.merging.specs.Relation.{nextFree, Holds, Listed, Core, Budget}
 use Rattle.merging.specs.Blocks.{Flash}
 use Rattle.merging.proofs.Outs.{marks-low}
 

@@ -1,24 +1,24 @@
 -- The blocks that the simulation reads are those that words' layout says.
-use Prim.Native.Nat.{ℕ, zero, suc, _+_, _-_, _*_, _/_, _%_, _^_, _≤_, _<_}
+use Prim.Native.Nat.{ℕ, zero, suc, _+_, _/_, _^_, _≤_, _<_}
 use mathlib.Core.Path.{_≡_, sym, ap, _∙_, refl}
 use mathlib.Core.Bool.{Bool, true, false}
-use mathlib.Core.List.{List, [], _∷_, map}
-use mathlib.Core.Option.{none, some}
+use mathlib.Core.List.{List, []}
+use mathlib.Core.Option.{some}
 use native.Mathlib.Numerals.{add-one}
 use native.Mathlib.Omega.{arith}
 use lib.Pow.{shr-shr}
-use lib.ListN.{length, getD, take, drop}
+use lib.ListN.{length, getD, take}
 use lib.Seq.{drop-cons}
 use Rattle.geometry.specs.declared.Geometry.{Geometry}
-use Rattle.geometry.specs.Geometry.{marksStart, keysStart, paysStart, placeStart}
-use Rattle.levels.specs.Record.{Rec, Block, Level, new}
-use Rattle.words.specs.Layout.{word, slotsAt, recordCount, markWordAt, blockSlots, blockAt, each}
-use Rattle.blocks.specs.Blocks.{layoutOf, startOf}
+use Rattle.geometry.specs.Geometry.{placeStart}
+use Rattle.levels.specs.Record.{Rec, new}
+use Rattle.words.specs.Layout.{slotsAt, recordCount, markWordAt, blockSlots, blockAt, each}
+use Rattle.blocks.specs.Blocks.{layoutOf}
 use Rattle.blocks.proofs.Laws.{start-place}
 use Rattle.sides.specs.declared.Chunk.{Chunk}
 use Rattle.sides.specs.Sides.{blockChunk, pageChunk, chunkOf}
-use Rattle.merging.specs.Blocks.{recAt, recsFrom, blockOf, storedAt, countAt, blocks}
-use Rattle.merging.specs.Contract.{pageAt, entriesOf, blocksOf, runOf}
+use Rattle.merging.specs.Blocks.{recsFrom, blockOf, storedAt, blocks}
+use Rattle.merging.specs.Contract.{pageAt, blocksOf, runOf}
 
 halved : (m j : ℕ) → m / 2 ^ j / 2 ≡ m / 2 ^ suc j
 halved m j = shr-shr m j 1 ∙ ap (λ (k : ℕ). m / 2 ^ k) (add-one j)

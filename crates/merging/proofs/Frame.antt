@@ -1,33 +1,27 @@
 -- What writing a block at a free place leaves as it was.
-use Prim.Native.Nat.{ℕ, zero, suc, _+_, _-_, _*_, _/_, _%_, _^_, _≤_, _<_}
+use Prim.Native.Nat.{ℕ, zero, suc, _+_, _-_, _*_, _≤_, _<_}
 use mathlib.Core.Path.{_≡_, sym, ap, _∙_, refl}
-use mathlib.Core.Bool.{Bool, true, false, not, _&&_, _||_, true≢false}
-use mathlib.Core.List.{List, [], _∷_, _++_, map}
-use mathlib.Core.Option.{Option, none, some}
+use mathlib.Core.Bool.{Bool, true, false, _&&_, true≢false}
+use mathlib.Core.List.{List, []}
 use mathlib.Core.Logic.{_≢_, dite}
 use native.Mathlib.Decide.{decLt}
-use native.Mathlib.Numerals.{add-one}
 use native.Mathlib.Nat.{add-zero}
 use native.Mathlib.Omega.{arith}
 use lib.Arith.{digits-lt}
-use lib.Dec.{ltb, leb, eqb}
+use lib.Dec.{leb, eqb}
 use lib.ListN.{length, getD, set, length-set}
 use lib.Seq.{getD-set-same, getD-set-other}
-use Rattle.levels.specs.Basics.{if_then_else_}
-use Rattle.levels.specs.Record.{Rec, Block, Level, new, size}
-use Rattle.levels.specs.Merge.{Out}
 use Rattle.blocks.specs.declared.Layout.{Layout}
 use Rattle.blocks.specs.declared.Buffer.{Buffer}
-use Rattle.blocks.specs.Blocks.{Sized, startOf, Free, SomeFree, nextMark, pushed, written}
+use Rattle.blocks.specs.Blocks.{Sized, startOf, pushed}
 use Rattle.blocks.proofs.Laws.{free-low}
 use Rattle.sides.specs.declared.Head.{Head}
-use Rattle.stream.specs.declared.Progress.{Progress}
 use Rattle.sides.specs.Sides.{chunkOf, pageChunk, blockChunk}
-use Rattle.stream.specs.Machine.{Memory, flushed, writtenAt, append, gathered, reused, withProgress, withBuffer}
+use Rattle.stream.specs.Machine.{Memory, flushed, writtenAt, append, gathered, withProgress, withBuffer}
 use Rattle.levels.proofs.Basics.{if-either}
-use Rattle.merging.specs.Relation.{Formed, nextFree, Stands, Listed}
+use Rattle.merging.specs.Relation.{nextFree, Stands, Listed}
 use Rattle.sides.specs.declared.Chunk.{Chunk}
-use Rattle.merging.specs.Blocks.{recsFrom, blockOf, storedAt, countAt, blocks, beginWith, side}
+use Rattle.merging.specs.Blocks.{blockOf, storedAt, countAt, blocks, beginWith, side}
 use Rattle.merging.proofs.Words.{written-other, written-low, written-length, recs-agree}
 
 -- the words of places in use, the places in use and the two sides' positions are as they were

@@ -1,30 +1,27 @@
 -- What a head shows of a side, and that the tests on heads are the definitions' tests on blocks.
-use Prim.Native.Nat.{ℕ, zero, suc, _+_, _-_, _*_, _/_, _%_, _^_, _≤_, _<_}
+use Prim.Native.Nat.{ℕ, zero, suc, _+_, _-_, _/_, _%_, _^_, _≤_, _<_}
 use mathlib.Core.Path.{_≡_, sym, ap, _∙_, refl}
 use mathlib.Core.Bool.{Bool, true, false, not, _&&_, _||_, true≢false}
-use mathlib.Core.List.{List, [], _∷_, _++_, map, append-assoc, tail}
-use mathlib.Core.Option.{Option, none, some}
-use mathlib.Core.Logic.{_≢_, dite}
+use mathlib.Core.List.{List, [], _∷_}
+use mathlib.Core.Option.{none, some}
+use mathlib.Core.Logic.{dite}
 use native.Mathlib.Decide.{decLt}
 use native.Mathlib.Numerals.{add-one}
-use native.Mathlib.Nat.{add-zero, add-suc, zero-add, pow-suc}
+use native.Mathlib.Nat.{pow-suc}
 use native.Mathlib.Omega.{arith}
-use lib.Dec.{ltb, leb, eqb}
-use lib.Arith.{digits-lt}
+use lib.Dec.{ltb, eqb}
 use lib.Pow.{shr-shr}
-use lib.ListN.{length, getD, set, length-set, drop}
-use borrow.Author.Tests.{le-leb, lt-leb, leb-true, leb-false, eq-eqb, ne-eqb, eqb-true, eqb-false, lt-ltb, le-ltb}
+use lib.ListN.{length, getD, drop}
+use borrow.Author.Tests.{eq-eqb, ne-eqb, lt-ltb}
 use Rattle.levels.specs.Basics.{if_then_else_}
 use Rattle.levels.specs.Record.{Rec, Block, Level, new, size, placed, firstKey, lastKey, hasTombstone}
-use Rattle.levels.specs.Merge.{Out, State, headRec, endsBelow, apart, mayFollow, reusable, flush, rest}
+use Rattle.levels.specs.Merge.{Out, headRec, endsBelow, apart, reusable}
 use Rattle.blocks.specs.declared.Layout.{Layout}
-use Rattle.blocks.specs.declared.Buffer.{Buffer}
-use Rattle.blocks.specs.Blocks.{Sized, startOf}
 use Rattle.sides.specs.declared.Chunk.{Chunk}
 use Rattle.sides.specs.declared.Head.{Head}
-use Rattle.sides.specs.Sides.{chunkOf, headOf, headAt, noHead, first, follows}
+use Rattle.sides.specs.Sides.{headAt, follows}
 use Rattle.merging.specs.Relation.{Formed, headSize}
-use Rattle.merging.specs.Blocks.{recAt, recsFrom, blockOf, blocks, begun, beginWith, side}
+use Rattle.merging.specs.Blocks.{recsFrom, blockOf, begun}
 
 pub recs-length : (ws : List ℕ) (c : Chunk) (j n : ℕ) → length (recsFrom ws c j n) ≡ n
 unfolding recsFrom

@@ -1,20 +1,17 @@
 -- Records loaded into a buffer from a place and from another buffer.
 use Prim.Native.Nat.{ℕ, zero, suc, _+_, _-_, _*_, _/_, _%_, _^_, _≤_, _<_}
-use mathlib.Core.Path.{_≡_, sym, ap, _∙_, refl}
+use mathlib.Core.Path.{_≡_, ap, _∙_, refl}
 use mathlib.Core.Bool.{Bool, true, false}
 use mathlib.Core.List.{List, [], _∷_, _++_, map, append-assoc, append-nil}
-use native.Mathlib.Numerals.{add-one}
 use native.Mathlib.Omega.{arith}
-use lib.Dec.{eqb}
 use lib.Pow.{shr-shr}
-use lib.ListN.{length, getD, set, take, replicate, length-append, length-map, List·getD-append, length-take}
-use lib.Seq.{take-suc, take-length}
-use Rattle.levels.specs.Record.{Rec, Block, Level}
+use lib.ListN.{length, getD, take, replicate, length-append, length-map, List·getD-append, length-take}
+use lib.Seq.{take-suc}
+use Rattle.levels.specs.Record.{Rec}
 use Rattle.blocks.specs.declared.Layout.{Layout}
-use Rattle.blocks.specs.declared.Buffer.{Buffer}
-use Rattle.blocks.specs.Blocks.{startOf, pushed, emptyBuffer, bufferOf}
+use Rattle.blocks.specs.Blocks.{startOf, bufferOf}
 use Rattle.joins.specs.Joins.{appended, joined}
-use Rattle.words.specs.Layout.{bit, markWord, pad, keysOf, paysOf}
+use Rattle.words.specs.Layout.{bit, markWord, pad}
 use Rattle.sides.specs.declared.Chunk.{Chunk}
 use Rattle.sides.specs.Sides.{blockChunk}
 use Rattle.merging.specs.Blocks.{recAt, recsFrom}

@@ -1,42 +1,36 @@
 -- The whole merge: what it asks of the store gives all that its steps ask, and what it leaves is what levels' merge and settle say.
-use Prim.Native.Nat.{ℕ, zero, suc, _+_, _-_, _*_, _^_, _≤_, _<_}
+use Prim.Native.Nat.{ℕ, zero, suc, _+_, _-_, _*_, _≤_, _<_}
 use mathlib.Core.Path.{_≡_, sym, ap, _∙_, refl}
-use mathlib.Core.Bool.{Bool, true, false, _&&_, true≢false}
-use mathlib.Core.List.{List, [], _∷_, _++_, reverse, reverseAux}
+use mathlib.Core.Bool.{Bool, true, false, true≢false}
+use mathlib.Core.List.{List, [], _∷_, reverseAux}
 use mathlib.Core.Logic.{dite}
 use native.Mathlib.Decide.{decLt}
 use native.Mathlib.Nat.{le-refl}
 use native.Mathlib.Omega.{arith}
-use lib.Dec.{leb}
-use lib.ListN.{length, getD, set, length-append, length-take}
+use lib.ListN.{length, getD, length-append}
 use lib.Seq.{getD-set-same, getD-set-other}
-use borrow.Author.Tests.{le-leb, leb-true}
+use borrow.Author.Tests.{le-leb}
 use Rattle.geometry.specs.declared.Geometry.{Geometry}
-use Rattle.geometry.specs.Geometry.{placeStart, capacityOf}
-use Rattle.levels.specs.Basics.{if_then_else_, iterate}
-use Rattle.levels.specs.Record.{Block, Level, size, placed, records}
-use Rattle.levels.specs.Merge.{Out, State, step, joinLeft, join, merge}
+use Rattle.geometry.specs.Geometry.{placeStart}
+use Rattle.levels.specs.Basics.{iterate}
+use Rattle.levels.specs.Record.{Level, size, records}
+use Rattle.levels.specs.Merge.{State, step}
 use Rattle.levels.specs.Place.{Allocation, Settled, settle}
 use Rattle.blocks.specs.declared.Layout.{Layout}
-use Rattle.blocks.specs.declared.Buffer.{Buffer}
-use Rattle.blocks.specs.Blocks.{Sized, layoutOf, startOf, Free, Marks, emptyBuffer}
+use Rattle.blocks.specs.Blocks.{Sized, layoutOf, Marks}
 use Rattle.blocks.proofs.Laws.{sized-of, start-place, free-found}
-use Rattle.sides.specs.declared.Chunk.{Chunk}
-use Rattle.stream.specs.declared.Progress.{Progress}
 use Rattle.stream.specs.declared.Inputs.{Inputs}
-use Rattle.sides.specs.Sides.{blockChunk, pageChunk, chunkOf}
+use Rattle.sides.specs.Sides.{chunkOf}
 use Rattle.stream.specs.Machine.{Memory, Ready, turns, idle}
-use Rattle.joins.specs.Joins.{restedOut, rested, joinedUp, closed, Closable}
+use Rattle.joins.specs.Joins.{restedOut, joinedUp, closed, Closable}
 use Rattle.merging.specs.declared.Cut.{Cut}
-use Rattle.merging.specs.declared.Merged.{Merged}
-use Rattle.merging.specs.Blocks.{recsFrom, blockOf, blocks, beginWith, side, layAll}
-use Rattle.merging.specs.Relation.{Formed, Stands, Listed, Holds, Core, Sim, Begun, flashOf, start, nextFree, merged}
+use Rattle.merging.specs.Blocks.{blockOf, blocks, side, layAll}
+use Rattle.merging.specs.Relation.{Stands, Listed, Holds, Core, Sim, Begun, flashOf, start, merged}
 use Rattle.merging.specs.Relation as relation
-use Rattle.merging.specs.Contract.{blocksOf, runOf, mergeOf, countMarks, ListedBlock, FullPage, Mergeable, Leaves, inputsOf, beginOf, limitOf}
+use Rattle.merging.specs.Contract.{blocksOf, runOf, mergeOf, ListedBlock, FullPage, Mergeable, Leaves, inputsOf, beginOf, limitOf}
 use Rattle.merging.proofs.Heads.{recs-length}
-use Rattle.merging.proofs.Moves.{begin-zero, side-cons, side-none}
+use Rattle.merging.proofs.Moves.{begin-zero, side-cons}
 use Rattle.merging.proofs.Frame.{Same, listed-kept}
-use Rattle.merging.proofs.Sim.{and-left, and-right}
 use Rattle.merging.proofs.Run.{begun-turns, begun-ready}
 use Rattle.merging.proofs.Close.{rested-length, flushed-out}
 use Rattle.merging.proofs.Whole.{turns-same, merge-laid}
@@ -44,7 +38,7 @@ use Rattle.merging.proofs.Begin.{begin-holds, begin-tail}
 use Rattle.merging.proofs.Decode.{blocks-listed, blocks-run}
 use Rattle.merging.proofs.Settle.{NewFit}
 use Rattle.merging.proofs.Leaving.{leaves-of}
-use Rattle.merging.proofs.Steps.{Fit, steps-fit, merge-fit, Filled, left, steps-end, steps-enough}
+use Rattle.merging.proofs.Steps.{steps-fit, merge-fit, Filled, left, steps-end, steps-enough}
 use Rattle.merging.proofs.Budget.{Supplied, budgets, turns-bounded}
 use Rattle.merging.proofs.Closing.{closable}
 

@@ -1,19 +1,16 @@
 -- What is left of a side after a record or a block of it.
-use Prim.Native.Nat.{ℕ, zero, suc, _+_, _-_, _*_, _/_, _%_, _^_, _≤_, _<_}
-use mathlib.Core.Path.{_≡_, sym, ap, _∙_, refl}
+use Prim.Native.Nat.{ℕ, zero, suc, _+_, _-_, _≤_, _<_}
+use mathlib.Core.Path.{_≡_, _∙_, refl}
 use mathlib.Core.Bool.{Bool}
-use mathlib.Core.List.{List, [], _∷_, _++_, map, append-assoc, tail}
-use mathlib.Core.Option.{Option, none, some}
+use mathlib.Core.List.{List, [], _∷_, tail}
 use native.Mathlib.Numerals.{add-one}
 use native.Mathlib.Omega.{arith}
-use lib.ListN.{length, getD, drop}
-use Rattle.levels.specs.Basics.{if_then_else_}
-use Rattle.levels.specs.Record.{Rec, Block, Level, new, size}
+use Rattle.levels.specs.Record.{Level, new}
 use Rattle.levels.specs.Merge.{flush, rest}
 use Rattle.blocks.specs.declared.Layout.{Layout}
 use Rattle.sides.specs.declared.Chunk.{Chunk}
 use Rattle.sides.specs.Sides.{chunkOf}
-use Rattle.merging.specs.Blocks.{recAt, recsFrom, blockOf, blocks, begun, beginWith, side}
+use Rattle.merging.specs.Blocks.{recsFrom, blockOf, blocks, begun, beginWith, side}
 use Rattle.merging.proofs.Heads.{recs-drop}
 
 pub begin-zero : (l : Level) → beginWith 0 l ≡ l

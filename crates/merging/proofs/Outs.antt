@@ -1,32 +1,31 @@
 -- What has been made: the buffer, the blocks laid, and the words that they come to.
-use Prim.Native.Nat.{ℕ, zero, suc, _+_, _-_, _*_, _/_, _%_, _^_, _≤_, _<_}
+use Prim.Native.Nat.{ℕ, suc, _+_, _-_, _*_, _^_, _<_}
 use mathlib.Core.Path.{_≡_, sym, ap, _∙_, refl}
-use mathlib.Core.Bool.{Bool, true, false, not, _&&_, _||_, true≢false}
-use mathlib.Core.List.{List, [], _∷_, _++_, map, append-assoc, tail}
-use mathlib.Core.Option.{Option, none, some}
+use mathlib.Core.Bool.{Bool, true, false, _&&_}
+use mathlib.Core.List.{List, [], _∷_, _++_, map, append-assoc}
+use mathlib.Core.Option.{some}
 use native.Mathlib.Numerals.{add-one}
 use mathlib.Core.Logic.{dite}
 use native.Mathlib.Decide.{decLt}
-use native.Mathlib.Nat.{pow-suc, mul-assoc, mul-comm, pow-zero, mul-one, zero-add}
+use native.Mathlib.Nat.{pow-suc, mul-assoc, pow-zero}
 use native.Mathlib.Omega.{arith}
-use lib.Dec.{ltb, leb, eqb}
-use lib.ListN.{length, getD, set, length-set, drop, take, replicate, length-append, length-map}
+use lib.Dec.{leb, eqb}
+use lib.ListN.{length, set, take, replicate, length-append, length-map}
 use lib.Seq.{set-append-seam, take-suc-set, getD-set-same}
 use borrow.Author.Tests.{eq-eqb, ne-eqb}
 use Rattle.levels.specs.Basics.{if_then_else_}
 use Rattle.levels.specs.Record.{Rec, Block, Level, new, size}
-use Rattle.levels.specs.Merge.{Out, flush, keep, gather}
+use Rattle.levels.specs.Merge.{Out, flush, gather}
 use Rattle.blocks.specs.declared.Layout.{Layout}
 use Rattle.blocks.specs.declared.Buffer.{Buffer}
-use Rattle.blocks.specs.Blocks.{Sized, startOf, nextMark, pushed, emptyBuffer, bufferOf, written}
+use Rattle.blocks.specs.Blocks.{Sized, pushed, bufferOf, written}
 use Rattle.blocks.proofs.Laws.{free-low}
 use Rattle.sides.specs.declared.Head.{Head}
-use Rattle.stream.specs.declared.Progress.{Progress}
 use Rattle.sides.specs.Sides.{lastSize}
 use Rattle.stream.specs.Machine.{Memory, flushed, writtenAt, append, gathered, withProgress, withBuffer}
-use Rattle.merging.specs.Relation.{headSize, nextFree, flashOf, Holds}
+use Rattle.merging.specs.Relation.{nextFree, flashOf, Holds}
 use Rattle.words.specs.Layout.{bit, markWord, pad, keysOf, paysOf}
-use Rattle.merging.specs.Blocks.{Flash, layAt, lay, layAll, layDone, countAt}
+use Rattle.merging.specs.Blocks.{Flash, lay, layDone, countAt}
 use Rattle.merging.proofs.Words.{written-count}
 
 pad-push : (n : ℕ) (xs : List ℕ) (v : ℕ) → length xs < n → set (pad n xs) (length xs) v ≡ pad n (xs ++ (v ∷ []))

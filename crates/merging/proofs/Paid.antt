@@ -1,27 +1,26 @@
 -- A merge lists and writes no more than its inputs pay for: a potential on numbers, kept by every step.
-use Prim.Native.Nat.{ℕ, zero, suc, _+_, _-_, _*_, _≤_, _<_}
-use mathlib.Core.Path.{_≡_, sym, ap, _∙_, refl}
-use mathlib.Core.Bool.{Bool, true, false, not, _&&_, _||_, true≢false}
-use mathlib.Core.List.{List, [], _∷_}
-use mathlib.Core.Logic.{_≢_}
-use native.Mathlib.Decide.{decLt, ℕ-discrete}
+use Prim.Native.Nat.{ℕ, zero, suc, _+_, _*_, _≤_, _<_}
+use mathlib.Core.Path.{_≡_, ap, _∙_, refl}
+use mathlib.Core.Bool.{Bool, true, false, not, _&&_, _||_}
+use mathlib.Core.List.{List, []}
+use native.Mathlib.Decide.{ℕ-discrete}
 use native.Mathlib.Nat.{mul-le-mul-left}
 use native.Mathlib.Omega.{arith}
 use lib.Dec.{ltb, leb, eqb}
-use lib.ListN.{length, getD, set}
-use lib.Seq.{getD-set-same, getD-set-other}
-use borrow.Author.Tests.{le-leb, lt-leb, leb-true, leb-false, eqb-true}
+use lib.ListN.{getD, set}
+use lib.Seq.{getD-set-other}
+use borrow.Author.Tests.{leb-true, leb-false, eqb-true}
 use Rattle.levels.specs.Basics.{if_then_else_}
 use Rattle.words.specs.Layout.{bit}
 use Rattle.blocks.specs.declared.Layout.{Layout}
 use Rattle.blocks.specs.declared.Buffer.{Buffer}
-use Rattle.blocks.specs.Blocks.{SomeFree, nextMark, pushed}
+use Rattle.blocks.specs.Blocks.{SomeFree, pushed}
 use Rattle.sides.specs.declared.Chunk.{Chunk}
 use Rattle.sides.specs.declared.Head.{Head}
 use Rattle.stream.specs.declared.Progress.{Progress}
 use Rattle.stream.specs.declared.Inputs.{Inputs}
-use Rattle.sides.specs.Sides.{chunkOf, headOf, headAt, noHead, lastSize, first, follows}
-use Rattle.stream.specs.Machine.{Memory, flushed, writtenAt, append, gathered, reused, withProgress, withBuffer, skipX, skipY, passX, passY, tookX, tookY, tookBoth, turn, idle}
+use Rattle.sides.specs.Sides.{headAt, follows}
+use Rattle.stream.specs.Machine.{Memory, flushed, writtenAt, gathered, reused, withProgress, withBuffer, skipX, skipY, passX, passY, tookX, tookY, tookBoth}
 use Rattle.levels.proofs.Basics.{if-either}
 use Rattle.merging.specs.Contract.{countMarks}
 use Rattle.merging.specs.Relation.{nextFree}
@@ -70,9 +69,6 @@ pub record Spent (z : Layout) (a b : Memory) (k l : ℕ) : Type 0 where
   pub yj : b .st .yj ≡ a .st .yj
 
 module _ (z : Layout) (a : Memory) where
-  still : Spent z a a 0 0
-  still = record { list = omega arith; places = omega arith; marks = omega arith; xi = refl; xj = refl; yi = refl; yj = refl }
-
   flush-spent : Spent z a (flushed z a) (z .b) (z .b)
   unfolding flushed
   flush-spent =

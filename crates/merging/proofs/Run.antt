@@ -1,26 +1,20 @@
 -- The machine's turns is the stream of the merge on blocks.
-use Prim.Native.Nat.{ℕ, zero, suc, _+_, _-_, _*_, _/_, _%_, _^_, _≤_, _<_}
-use mathlib.Core.Path.{_≡_, sym, ap, _∙_, refl}
-use mathlib.Core.Bool.{Bool, true, false, not, _&&_, _||_, true≢false}
-use mathlib.Core.List.{List, [], _∷_, _++_, map}
-use native.Mathlib.Numerals.{add-one}
+use Prim.Native.Nat.{ℕ, zero, suc, _≤_, _<_}
+use mathlib.Core.Path.{_≡_, _∙_, refl}
+use mathlib.Core.Bool.{Bool, true, false}
+use mathlib.Core.List.{List, []}
 use native.Mathlib.Omega.{arith}
-use lib.Dec.{ltb, leb, eqb}
-use lib.ListN.{length, getD}
-use borrow.Author.Tests.{leb-true, leb-false}
+use lib.Dec.{leb}
+use borrow.Author.Tests.{leb-true}
 use Rattle.levels.specs.Basics.{if_then_else_}
-use Rattle.levels.specs.Record.{Rec, Block, Level}
 use Rattle.levels.specs.Basics.{iterate}
-use Rattle.levels.specs.Merge.{Out, State, stepOn, step}
+use Rattle.levels.specs.Merge.{Out, State, step}
 use Rattle.blocks.specs.declared.Layout.{Layout}
-use Rattle.blocks.specs.declared.Buffer.{Buffer}
-use Rattle.blocks.specs.Blocks.{Sized, bufferOf}
-use Rattle.stream.specs.declared.Progress.{Progress}
+use Rattle.blocks.specs.Blocks.{bufferOf}
 use Rattle.stream.specs.declared.Inputs.{Inputs}
-use Rattle.sides.specs.Sides.{Readable}
-use Rattle.stream.specs.Machine.{Memory, Flushable, Gatherable, Movable, Ready, turn, idle, turns}
-use Rattle.merging.specs.Relation.{Holds, Listed, Core, Budget, Sim, Begun, start, first}
-use Rattle.merging.specs.Blocks.{side, Flash}
+use Rattle.stream.specs.Machine.{Memory, Ready, turn, idle, turns}
+use Rattle.merging.specs.Relation.{Holds, Core, Budget, Sim, Begun, start, first}
+use Rattle.merging.specs.Blocks.{Flash}
 use Rattle.merging.proofs.Moves.{side-none}
 use Rattle.merging.proofs.Outs.{marks-low}
 use Rattle.merging.proofs.Sim.{sim-step, and-left, and-right}

@@ -1,23 +1,22 @@
 -- Laying the blocks of a level is giving them places in key order and writing the new ones.
-use Prim.Native.Nat.{ℕ, zero, suc, _+_, _-_, _*_, _≤_, _<_}
+use Prim.Native.Nat.{ℕ, zero, suc, _+_, _≤_, _<_}
 use mathlib.Core.Path.{_≡_, sym, ap, _∙_, refl}
-use mathlib.Core.Bool.{Bool, true, false, _||_, true≢false}
+use mathlib.Core.Bool.{Bool, true, false, _||_}
 use mathlib.Core.List.{List, [], _∷_, _++_, append-assoc, append-nil}
 use mathlib.Core.Option.{Option, none, some}
 use native.Mathlib.Decide.{ℕ-discrete}
 use native.Mathlib.Omega.{arith}
 use lib.Dec.{eqb}
-use lib.ListN.{length, getD, set, take, drop, length-set, length-append, length-take, take-append-drop}
+use lib.ListN.{length, getD, set, take, drop, length-set, take-append-drop}
 use lib.Seq.{getD-set-same, getD-set-other, take-at, drop-at, length-take-le}
 use borrow.Author.Tests.{eq-eqb, ne-eqb}
 use Rattle.geometry.specs.declared.Geometry.{Geometry}
 use Rattle.geometry.specs.Geometry.{placesStart}
 use Rattle.levels.specs.Basics.{member}
 use Rattle.levels.specs.Record.{Rec, Block, Level, size, placed}
-use Rattle.levels.specs.Place.{after, freeAfter, firstFree, Allocation, Settled, settleOne, settle, placesOf}
+use Rattle.levels.specs.Place.{after, freeAfter, firstFree, Allocation, Settled, settle, placesOf}
 use Rattle.words.specs.Layout.{areaOf, writeBlock, writeBlocks}
-use Rattle.blocks.specs.declared.Layout.{Layout}
-use Rattle.blocks.specs.Blocks.{Sized, layoutOf, freeMark, nextMark, Marks, bufferOf, written, withBlock}
+use Rattle.blocks.specs.Blocks.{Sized, layoutOf, freeMark, nextMark, Marks, bufferOf, written}
 use Rattle.blocks.proofs.Laws.{free-low}
 use Rattle.blocks.proofs.Written.{written-block}
 use Rattle.merging.specs.Blocks.{Flash, layAt, lay, layAll}

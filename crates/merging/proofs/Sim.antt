@@ -1,41 +1,37 @@
 -- A step of the machine is a step of the merge as defined on blocks.
-use Prim.Native.Nat.{ℕ, zero, suc, _+_, _-_, _*_, _/_, _%_, _^_, _≤_, _<_}
+use Prim.Native.Nat.{ℕ, suc, _+_, _-_, _/_, _%_, _^_, _≤_, _<_}
 use mathlib.Core.Path.{_≡_, sym, ap, _∙_, refl}
-use mathlib.Core.Bool.{Bool, true, false, not, _&&_, _||_, true≢false}
-use mathlib.Core.List.{List, [], _∷_, _++_, map}
-use mathlib.Core.Option.{Option, none, some}
-use mathlib.Core.Logic.{_≢_, dite}
+use mathlib.Core.Bool.{Bool, true, false, _&&_, true≢false}
+use mathlib.Core.List.{List, [], _∷_, _++_}
+use mathlib.Core.Option.{some}
 use native.Mathlib.Decide.{decLt}
 use native.Mathlib.Numerals.{add-one}
-use native.Mathlib.Nat.{add-zero}
 use native.Mathlib.Omega.{arith}
 use lib.Dec.{ltb, leb, eqb}
-use lib.ListN.{length, getD, set, length-set, length-append}
+use lib.ListN.{length, getD, set, length-append}
 use lib.Seq.{getD-set-same}
-use borrow.Author.Tests.{le-leb, lt-leb, leb-true, leb-false, eq-eqb, ne-eqb, eqb-true, eqb-false, lt-ltb, le-ltb, ltb-true, ltb-false}
+use borrow.Author.Tests.{le-leb, lt-leb, leb-true, leb-false, eqb-true, eqb-false, ltb-true, ltb-false}
 use Rattle.levels.specs.Basics.{if_then_else_}
-use Rattle.levels.specs.Record.{Rec, Block, Level, new, size, placed, firstKey, lastKey}
-use Rattle.levels.specs.Basics.{iterate}
-use Rattle.levels.specs.Merge.{Out, State, headRec, reusable, flush, rest, reuse, keep, gather, fromUpper, fromLower, fromBoth, stepOn, step}
+use Rattle.levels.specs.Record.{Rec, Block, Level, new, size, placed}
+use Rattle.levels.specs.Merge.{Out, State, headRec, reusable, flush, rest, reuse, gather, fromUpper, fromLower, fromBoth, step}
 use Rattle.blocks.specs.declared.Layout.{Layout}
 use Rattle.blocks.specs.declared.Buffer.{Buffer}
-use Rattle.blocks.specs.Blocks.{Sized, startOf, Free, SomeFree, nextMark, bufferOf, pushed, written}
+use Rattle.blocks.specs.Blocks.{Sized, bufferOf, pushed}
 use Rattle.blocks.proofs.Laws.{free-found}
 use Rattle.sides.specs.declared.Chunk.{Chunk}
 use Rattle.sides.specs.declared.Head.{Head}
 use Rattle.stream.specs.declared.Progress.{Progress}
 use Rattle.stream.specs.declared.Inputs.{Inputs}
-use Rattle.sides.specs.Sides.{blockChunk, pageChunk, chunkOf, headOf, headAt, noHead, lastSize, first, follows}
-use Rattle.stream.specs.Machine.{Memory, flushed, writtenAt, append, gathered, reused, withProgress, withBuffer, skipX, skipY, passX, passY, tookX, tookY, tookBoth, stepWith, turn, idle, turns}
+use Rattle.sides.specs.Sides.{blockChunk, chunkOf, headOf, headAt, noHead, lastSize, follows}
+use Rattle.stream.specs.Machine.{Memory, flushed, append, gathered, reused, withProgress, withBuffer, skipX, skipY, passX, passY, tookX, tookY, tookBoth, turn, idle}
 use Rattle.levels.proofs.Basics.{if-either}
-use Rattle.sides.proofs.Laws.{head-none}
 use Rattle.stream.proofs.Laws.{flushed-m}
-use Rattle.merging.specs.Relation.{Formed, headSize, nextFree, flashOf, Holds, Stands, Listed, LastIs, Core, Budget, Sim}
-use Rattle.merging.specs.Blocks.{recsFrom, blockOf, storedAt, countAt, blocks, begun, beginWith, side, Flash, layDone}
+use Rattle.merging.specs.Relation.{nextFree, Holds, Stands, Listed, LastIs, Core, Budget, Sim}
+use Rattle.merging.specs.Blocks.{blockOf, storedAt, countAt, begun, side, Flash}
 use Rattle.merging.proofs.Words.{sized-on}
 use Rattle.merging.proofs.Heads.{Shows, shows-at, Sees, nothing, block, follows-same}
 use Rattle.merging.proofs.Moves.{side-cons, side-none, rest-more, rest-last}
-use Rattle.merging.proofs.Outs.{Fit, flush-holds, append-holds, gather-holds, marks-low}
+use Rattle.merging.proofs.Outs.{Fit, flush-holds, append-holds, gather-holds}
 use Rattle.merging.proofs.Frame.{Kept, kept-same, flush-kept, append-kept, gather-kept, count-kept, block-same, chunk-kept, listed-kept, side-same}
 
 -- the same world, at another place of the sides

@@ -2,14 +2,14 @@
 use Prim.Native.Nat.{ℕ, zero, suc, _+_, _-_, _≤_, _<_}
 use mathlib.Core.Path.{_≡_, sym, ap, _∙_, refl}
 use mathlib.Core.Bool.{Bool, true, false, _&&_, true≢false}
-use mathlib.Core.List.{List, [], _∷_, _++_, reverse, reverseAux, tail}
+use mathlib.Core.List.{List, [], _∷_, _++_, reverseAux}
 use native.Mathlib.Omega.{arith}
 use lib.Dec.{leb, ltb, eqb}
 use lib.ListN.{length, length-append}
 use borrow.Author.Tests.{leb-true, leb-false}
 use Rattle.levels.specs.Basics.{if_then_else_, iterate}
 use Rattle.levels.specs.Record.{Rec, Block, Level, new, size, placed, records, firstKey}
-use Rattle.levels.specs.Merge.{Out, State, headRec, reusable, flush, rest, reuse, keep, gather, fromUpper, fromLower, fromBoth, stepOn, step, joinLeft, join}
+use Rattle.levels.specs.Merge.{Out, State, headRec, reusable, flush, rest, reuse, gather, fromUpper, fromLower, fromBoth, stepOn, step, joinLeft, join}
 use Rattle.levels.proofs.Basics.{if-either}
 use Rattle.merging.proofs.Sim.{and-left, and-right}
 use Rattle.merging.proofs.Settle.{NewFit}

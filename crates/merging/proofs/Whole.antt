@@ -1,33 +1,30 @@
 -- Steps 3 and 4 together: what the words hold afterwards is the merged level, laid in key order.
-use Prim.Native.Nat.{ℕ, zero, suc, _+_, _-_, _*_, _/_, _%_, _^_, _≤_, _<_}
-use mathlib.Core.Path.{_≡_, sym, ap, _∙_, refl}
-use mathlib.Core.Bool.{Bool, true, false, not, _&&_, _||_}
-use mathlib.Core.List.{List, [], _∷_, _++_}
-use native.Mathlib.Nat.{le-refl, add-zero}
+use Prim.Native.Nat.{ℕ, zero, suc, _+_, _-_, _≤_, _<_}
+use mathlib.Core.Path.{_≡_, _∙_, refl}
+use mathlib.Core.Bool.{Bool, true, false}
+use mathlib.Core.List.{List, []}
+use native.Mathlib.Nat.{le-refl}
 use native.Mathlib.Omega.{arith}
-use lib.Dec.{ltb, leb, eqb}
-use lib.ListN.{length, getD}
-use borrow.Author.Tests.{leb-true, leb-false}
-use Rattle.levels.specs.Basics.{if_then_else_}
-use Rattle.levels.specs.Record.{Rec, Block, Level}
+use lib.Dec.{leb}
+use lib.ListN.{getD}
+use borrow.Author.Tests.{leb-true}
 use Rattle.levels.specs.Basics.{iterate}
-use Rattle.levels.specs.Merge.{Out, State, step, joinLeft, join}
+use Rattle.levels.specs.Merge.{Out, step, joinLeft, join}
 use Rattle.blocks.specs.declared.Layout.{Layout}
-use Rattle.blocks.specs.declared.Buffer.{Buffer}
-use Rattle.blocks.specs.Blocks.{Sized, startOf, Free}
+use Rattle.blocks.specs.Blocks.{Free}
 use Rattle.blocks.proofs.Laws.{free-found}
 use Rattle.sides.specs.declared.Head.{Head}
 use Rattle.stream.specs.declared.Progress.{Progress}
 use Rattle.stream.specs.declared.Inputs.{Inputs}
 use Rattle.sides.specs.Sides.{blockChunk, chunkOf, first, follows, headOf, lastSize}
-use Rattle.stream.specs.Machine.{Memory, flushed, append, gathered, reused, withProgress, skipX, skipY, passX, passY, tookX, tookY, tookBoth, stepWith, turn, idle, turns}
+use Rattle.stream.specs.Machine.{Memory, gathered, reused, withProgress, skipX, skipY, passX, passY, tookX, tookY, tookBoth, turn, idle, turns}
 use Rattle.levels.proofs.Basics.{if-either}
 use Rattle.joins.specs.Joins.{closed}
-use Rattle.merging.specs.Relation.{Formed, nextFree, flashOf, Holds, Stands, Listed, Core, Budget, Sim, Begun, start}
+use Rattle.merging.specs.Relation.{Formed, nextFree, flashOf, Stands, Listed, Begun, start}
 use Rattle.merging.specs.Relation as relation
-use Rattle.merging.specs.Blocks.{blocks, Flash, layAll}
-use Rattle.merging.proofs.Frame.{Kept, Same, kept-same, flush-kept, gather-kept, stands-kept, blocks-same}
-use Rattle.merging.proofs.Sim.{pass-x-same, pass-y-same, and-left, and-right}
+use Rattle.merging.specs.Blocks.{blocks, layAll}
+use Rattle.merging.proofs.Frame.{Same, kept-same, flush-kept, gather-kept, stands-kept, blocks-same}
+use Rattle.merging.proofs.Sim.{pass-x-same, pass-y-same, and-right}
 use Rattle.merging.proofs.Run.{begun-turns}
 use Rattle.merging.proofs.Close.{close-laid}
 

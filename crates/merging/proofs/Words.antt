@@ -1,22 +1,19 @@
 -- What writing a block leaves, word by word.
-use Prim.Native.Nat.{ℕ, zero, suc, _+_, _-_, _*_, _/_, _%_, _^_, _≤_, _<_}
-use mathlib.Core.Path.{_≡_, sym, ap, _∙_, refl}
-use mathlib.Core.Bool.{Bool, true, false, not, _&&_, _||_}
-use mathlib.Core.List.{List, [], _∷_, _++_, map, append-assoc}
+use Prim.Native.Nat.{ℕ, zero, suc, _+_, _*_, _≤_, _<_}
+use mathlib.Core.Path.{_≡_, _∙_, refl}
+use mathlib.Core.List.{List, []}
 use mathlib.Core.Logic.{_≢_, dite}
 use native.Mathlib.Decide.{decLt}
-use native.Mathlib.Numerals.{add-one}
-use native.Mathlib.Nat.{add-zero, add-suc}
 use native.Mathlib.Omega.{arith}
 use lib.Arith.{digits-lt}
-use lib.ListN.{length, getD, set, length-set, drop}
-use lib.Seq.{getD-set-same, getD-set-other, drop-nil}
+use lib.ListN.{length, getD, set, length-set}
+use lib.Seq.{getD-set-same, getD-set-other}
 use Rattle.blocks.specs.declared.Layout.{Layout}
 use Rattle.blocks.specs.declared.Buffer.{Buffer}
-use Rattle.blocks.specs.Blocks.{Sized, startOf, freeMark, nextMark, copied, written}
-use Rattle.blocks.proofs.Laws.{in-store, ends, copied-length}
+use Rattle.blocks.specs.Blocks.{Sized, startOf, copied, written}
+use Rattle.blocks.proofs.Laws.{in-store, copied-length}
 use Rattle.sides.specs.declared.Chunk.{Chunk}
-use Rattle.merging.specs.Blocks.{recAt, recsFrom}
+use Rattle.merging.specs.Blocks.{recsFrom}
 
 pub copied-out : (xs : List ℕ) (to : ℕ) (src : List ℕ) (n k : ℕ) → (to ≤ k → to + n ≤ k) → getD (copied xs to src n) k 0 ≡ getD xs k 0
 unfolding copied

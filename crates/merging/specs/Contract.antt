@@ -2,13 +2,13 @@
 use Prim.Native.Nat.{ℕ, zero, suc, _+_, _-_, _*_, _^_, _≤_, _<_}
 use mathlib.Core.Path.{_≡_}
 use mathlib.Core.Bool.{Bool, true, false}
-use mathlib.Core.List.{List, [], _∷_, _++_, map}
+use mathlib.Core.List.{List, [], _++_, map}
 use lib.ListN.{getD, length, take, drop}
 use Rattle.geometry.specs.declared.Geometry.{Geometry}
 use Rattle.geometry.specs.Geometry.{Valid, capacityOf, marksStart, keysStart, paysStart, placesStart, storeLength}
 use Rattle.levels.specs.Record.{Block, Level, new}
 use Rattle.levels.specs.Merge.{merge}
-use Rattle.levels.specs.Place.{Allocation, Settled, settle, placesOf}
+use Rattle.levels.specs.Place.{Settled, placesOf}
 use Rattle.words.specs.Layout.{word, slotsAt, recordCount, markWordAt, blockAt, each, bit, areaOf, writeBlocks}
 use Rattle.blocks.specs.Blocks.{Marks, emptyBuffer}
 use Rattle.stream.specs.declared.Progress.{Progress}

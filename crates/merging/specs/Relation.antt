@@ -1,21 +1,18 @@
 -- How the machine's memory stands for a state of the merge on blocks.
-use Prim.Native.Nat.{ℕ, zero, suc, _+_, _-_, _*_, _^_, _≤_, _<_}
+use Prim.Native.Nat.{ℕ, _+_, _-_, _^_, _≤_, _<_}
 use mathlib.Core.Path.{_≡_}
 use mathlib.Core.Bool.{Bool, true, false}
-use mathlib.Core.List.{List, [], _∷_, _++_, reverse}
+use mathlib.Core.List.{List, [], _∷_, reverse}
 use lib.ListN.{getD, length, take}
 use Rattle.levels.specs.Basics.{iterate}
-use Rattle.levels.specs.Record.{Block, Level, size}
+use Rattle.levels.specs.Record.{Level, size}
 use Rattle.levels.specs.Merge.{Out, State, step, joinLeft, join}
 use Rattle.blocks.specs.declared.Layout.{Layout}
-use Rattle.blocks.specs.declared.Buffer.{Buffer}
-use Rattle.blocks.specs.Blocks.{Sized, startOf, SomeFree, nextMark, bufferOf}
+use Rattle.blocks.specs.Blocks.{Sized, SomeFree, nextMark, bufferOf}
 use Rattle.sides.specs.declared.Chunk.{Chunk}
-use Rattle.stream.specs.declared.Progress.{Progress}
 use Rattle.stream.specs.declared.Inputs.{Inputs}
 use Rattle.sides.specs.Sides.{chunkOf, lastSize}
-use Rattle.stream.specs.Machine.{Memory, turns, idle}
-use Rattle.joins.specs.Joins.{Closable}
+use Rattle.stream.specs.Machine.{Memory, turns}
 use Rattle.merging.specs.Blocks.{storedAt, blocks, side, Flash, layDone}
 
 -- a chunk of 1 to B records, with no bits but theirs in its mark word

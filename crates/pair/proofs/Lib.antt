@@ -9,4 +9,3 @@ pub mod Closing
 pub mod Pair
 pub mod Numbers
 pub mod Pages
-pub mod Ready

@@ -34,10 +34,6 @@ copied-take out ys n h l =
 pub take-entry : (xs ys : List ℕ) (n k : ℕ) → take n xs ≡ take n ys → k < n → getD xs k 0 ≡ getD ys k 0
 take-entry xs ys n k e l = sym (getD-take n xs k 0 l) ∙ ap (λ (zs : List ℕ). getD zs k 0) e ∙ getD-take n ys k 0 l
 
--- and on every part of them
-pub take-less : {A : Type 0} (xs ys : List A) (n m : ℕ) → take n xs ≡ take n ys → m ≤ n → take m xs ≡ take m ys
-take-less xs ys n m e l = sym (take-take m n xs l) ∙ ap (take m) e ∙ take-take m n ys l
-
 -- a part of the first n entries of a list
 pub take-drop : {A : Type 0} (i m n : ℕ) (xs : List A) → i + m ≤ n → take m (drop i (take n xs)) ≡ take m (drop i xs)
 take-drop zero m n xs h = take-take m n xs (omega arith)

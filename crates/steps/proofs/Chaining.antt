@@ -1,18 +1,17 @@
 -- Changes one after the other; a merge with its step 5.
-use Prim.Native.Nat.{ℕ, zero, suc, _+_, _*_, _≤_, _<_}
+use Prim.Native.Nat.{ℕ, zero, suc, _+_, _≤_, _<_}
 use mathlib.Core.Path.{_≡_, refl, sym, ap, _∙_, subst}
 use mathlib.Core.Bool.{Bool, true, false}
-use mathlib.Core.List.{List, [], _∷_, _++_, map, append-assoc}
-use mathlib.Core.Logic.{_≢_}
+use mathlib.Core.List.{List, [], _∷_, _++_, append-assoc}
 use native.Mathlib.Omega.{arith}
 use lib.Dec.{eqb}
-use lib.ListN.{length, take, drop, getD, set}
+use lib.ListN.{getD}
 use Rattle.geometry.specs.declared.Geometry.{Geometry}
-use Rattle.geometry.specs.Geometry.{Valid, topCapacityOf}
-use Rattle.levels.specs.Basics.{if_then_else_, total}
-use Rattle.levels.specs.Record.{Rec, Block, Level}
+use Rattle.geometry.specs.Geometry.{Valid}
+use Rattle.levels.specs.Basics.{if_then_else_}
+use Rattle.levels.specs.Record.{Block}
 use Rattle.levels.specs.Waste.{needsCompact}
-use Rattle.levels.specs.Store.{Store, usedIn}
+use Rattle.levels.specs.Store.{Store}
 use Rattle.levels.specs.Call.{Compaction, Merge, compactLevel, compactIfNeeded, afterCompactions, stepFive, mergeRun, mergeLevel, afterMerge}
 use Rattle.levels.specs.Count.{blocksMerged, blocksCompacted, totalCompacted, countsOf}
 use Rattle.levels.specs.Count as levels
@@ -29,7 +28,7 @@ use Rattle.steps.specs.declared.Tally.{Tally}
 use Rattle.steps.specs.declared.Run.{Run}
 use Rattle.steps.specs.Running.{storeOf, Stands, numbersOf, plus, Few, Small, Grown, Leaving, Running, compactedCounts, mergedCounts, StepReady, stepCounts}
 use Rattle.steps.proofs.Compacting.{needed-is, not-needed}
-use Rattle.steps.proofs.Merging.{start-inside, level-low, merged-few}
+use Rattle.steps.proofs.Merging.{level-low, merged-few}
 
 -- sums of counts
 pub plus-assoc : (a b c : levels.Counts) → plus (plus a b) c ≡ plus a (plus b c)

@@ -1,42 +1,38 @@
 -- Step 5 for one level, on words and lists.
-use Prim.Native.Nat.{ℕ, zero, suc, _+_, _*_, _≤_, _<_}
-use mathlib.Core.Path.{_≡_, refl, sym, ap, _∙_, subst}
+use Prim.Native.Nat.{ℕ, zero, suc, _+_, _≤_, _<_}
+use mathlib.Core.Path.{_≡_, refl, sym, ap, _∙_}
 use mathlib.Core.Bool.{Bool, true, false}
-use mathlib.Core.List.{List, [], _∷_, _++_, map, append-nil}
-use mathlib.Core.Logic.{_≢_}
+use mathlib.Core.List.{List, [], _∷_, map, append-nil}
 use native.Mathlib.Nat.{add-zero}
 use native.Mathlib.Omega.{arith}
 use lib.Dec.{eqb}
-use lib.ListN.{length, take, drop, getD, set}
+use lib.ListN.{length, take, getD}
 use Rattle.geometry.specs.declared.Geometry.{Geometry}
-use Rattle.geometry.specs.Geometry.{Valid, capacityOf}
 use Rattle.levels.specs.Basics.{if_then_else_}
-use Rattle.levels.specs.Record.{Block, Level, records}
+use Rattle.levels.specs.Record.{Level}
 use Rattle.levels.specs.Waste.{needsCompact}
 use Rattle.levels.specs.Waste as waste
 use Rattle.levels.specs.Place.{Settled, settle, placesOf}
 use Rattle.levels.specs.Store.{Store, usedIn, allocationOf}
 use Rattle.levels.specs.Call.{Compaction, compactLevel, compactIfNeeded, afterCompactions}
-use Rattle.levels.specs.Count.{blocksCompacted, totalCompacted}
+use Rattle.levels.specs.Count.{blocksCompacted}
 use Rattle.levels.specs.Count as levels
 use Rattle.levels.specs.Every.{Every, allBlocks}
 use Rattle.levels.specs.Sound.{BlockFits}
-use Rattle.levels.specs.Inside.{Inside}
 use Rattle.levels.specs.InCall.{CompactionFacts}
 use Rattle.levels.proofs.Entry.{inside-fit, blocks-at}
-use Rattle.levels.proofs.StoreRows.{set-at, set-here}
+use Rattle.levels.proofs.StoreRows.{set-here}
 use Rattle.levels.proofs.Room.{compact-room-numbers}
 use Rattle.levels.proofs.Inside.{inside-used}
 use Rattle.levels.proofs.CompactInside.{compact-facts, compaction-newly}
-use Rattle.words.specs.Layout.{blockAt, placeOf, areaOf, writeBlocks}
+use Rattle.words.specs.Layout.{blockAt, areaOf, writeBlocks}
 use Rattle.words.specs.Calls.{compactedBlocks}
 use Rattle.words.proofs.Laid.{places-are}
 use Rattle.words.proofs.Steps.{laid-compaction}
 use Rattle.lists.specs.Holds.{HoldsBut}
 use Rattle.lists.proofs.Laws.{but-area}
-use Rattle.blocks.specs.Blocks.{Marks}
 use Rattle.merging.specs.declared.Merged.{Merged}
-use Rattle.merging.specs.Contract.{ListedBlock, countMarks, Leaves}
+use Rattle.merging.specs.Contract.{ListedBlock, Leaves}
 use Rattle.compaction.specs.Machine.{Compactable, Countable}
 use Rattle.pair.specs.Contract.{InUse}
 use Rattle.pair.proofs.Kept.{base-drop}
@@ -44,8 +40,8 @@ use Rattle.pair.proofs.Room.{count-few}
 use Rattle.steps.specs.declared.Counts.{Counts}
 use Rattle.steps.specs.declared.Tally.{Tally}
 use Rattle.steps.specs.declared.One.{One}
-use Rattle.steps.specs.Running.{Listed, numbersOf, plus, counted, Few, Small, Grown, compactedCounts, OneReady, OneLeft}
-use Rattle.steps.proofs.Standing.{inside-short, listed-block, listed-level, listed-low}
+use Rattle.steps.specs.Running.{Listed, numbersOf, plus, counted, Grown, compactedCounts, OneReady, OneLeft}
+use Rattle.steps.proofs.Standing.{inside-short, listed-block, listed-level}
 
 -- the clauses of compactIfNeeded, as laws
 pub needed-is : (g : Geometry) (t : Store) (j : ℕ) → needsCompact (g .b) (getD (t .levels) j []) ≡ true → compactIfNeeded g (suc j) t ≡ compactLevel g (suc j) t ∷ []

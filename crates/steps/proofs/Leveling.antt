@@ -1,32 +1,27 @@
 -- A merge out of a level without its step 5, on all lists.
-use Prim.Native.Nat.{ℕ, zero, suc, _+_, _*_, _≤_, _<_}
-use mathlib.Core.Path.{_≡_, refl, sym, ap, _∙_, subst}
-use mathlib.Core.Bool.{Bool, true, false}
-use mathlib.Core.List.{List, [], _∷_, _++_, map}
+use Prim.Native.Nat.{ℕ, zero, suc, _≤_}
+use mathlib.Core.Path.{_≡_, refl, sym, ap, subst}
+use mathlib.Core.Bool.{Bool}
+use mathlib.Core.List.{List, []}
 use mathlib.Core.Logic.{_≢_}
 use native.Mathlib.Omega.{arith}
-use lib.ListN.{length, take, drop, getD, set}
+use lib.ListN.{length, getD, set}
 use Rattle.geometry.specs.declared.Geometry.{Geometry}
-use Rattle.geometry.specs.Geometry.{Valid, topCapacityOf}
-use Rattle.levels.specs.Record.{Rec, Block, Level}
+use Rattle.geometry.specs.Geometry.{topCapacityOf}
 use Rattle.levels.specs.Store.{Store, usedIn}
-use Rattle.levels.specs.Call.{Merge, mergeCut, mergeRun, mergeLevel}
+use Rattle.levels.specs.Call.{mergeCut, mergeRun, mergeLevel}
 use Rattle.levels.specs.Count as levels
 use Rattle.levels.specs.Inside.{Inside}
 use Rattle.levels.specs.InCall.{MergeFacts}
 use Rattle.levels.proofs.StoreRows.{set-at}
-use Rattle.words.specs.Layout.{topRecs, areaOf, writeBlocks}
-use Rattle.lists.specs.Holds.{HoldsBut}
 use Rattle.blocks.specs.Blocks.{Marks}
-use Rattle.steps.specs.declared.Tally.{Tally}
 use Rattle.steps.specs.declared.Run.{Run}
 use Rattle.steps.specs.declared.One.{One}
 use Rattle.steps.specs.declared.Two.{Two}
 use Rattle.steps.specs.Running.{namedIn, storeOf, Listed, Stands, Markable, Leaving, mergedCounts, OneLeft, TwoReady, TwoLeft, PageReady, StepReady, relisted}
 use Rattle.steps.proofs.Standing.{stand, used-is, markable}
 use Rattle.steps.proofs.Stepping.{top-fits, listed-kept}
-use Rattle.steps.proofs.Merging.{start-inside, level-low}
-use Rattle.steps.proofs.Paging.{gap-short}
+use Rattle.steps.proofs.Merging.{start-inside}
 
 -- what a merge leaves alone: the levels other than i and i + 1, and, from level 1 on, level 0
 merge-keeps : (g : Geometry) (t : Store) (i x : ℕ) → suc x ≢ i → x ≢ i → getD (mergeLevel g i t .finish .levels) x [] ≡ getD (t .levels) x []

@@ -1,11 +1,11 @@
 -- The marks of lists are the places that the lists name.
-use Prim.Native.Nat.{ℕ, zero, suc, _+_, _≤_, _<_}
+use Prim.Native.Nat.{ℕ, zero, suc, _≤_, _<_}
 use mathlib.Core.Path.{_≡_, refl, sym, ap, _∙_}
 use mathlib.Core.Bool.{Bool, true, false, _||_}
 use mathlib.Core.List.{List, [], _∷_, _++_}
 use native.Mathlib.Omega.{arith}
 use lib.Dec.{eqb}
-use lib.ListN.{length, take, drop, getD, set, replicate, length-set}
+use lib.ListN.{length, take, getD, replicate, length-set}
 use Rattle.levels.specs.Basics.{member}
 use Rattle.blocks.specs.Blocks.{Marks, marked}
 use Rattle.merging.proofs.Settle.{marks-set}

@@ -1,20 +1,18 @@
 -- A merge without its step 5, on words and lists.
-use Prim.Native.Nat.{ℕ, zero, suc, _+_, _*_, _≤_, _<_}
+use Prim.Native.Nat.{ℕ, suc, _+_, _*_, _≤_, _<_}
 use mathlib.Core.Path.{_≡_, refl, sym, ap, _∙_, subst}
 use mathlib.Core.Bool.{Bool, true, false}
-use mathlib.Core.List.{List, [], _∷_, _++_, map}
-use mathlib.Core.Logic.{_≢_}
+use mathlib.Core.List.{List, []}
 use native.Mathlib.Omega.{arith}
 use lib.Dec.{eqb}
-use lib.ListN.{length, take, drop, getD, set, length-set}
+use lib.ListN.{length, getD, set, length-set}
 use Rattle.geometry.specs.declared.Geometry.{Geometry}
-use Rattle.geometry.specs.Geometry.{Valid, capacityOf, windowOf}
+use Rattle.geometry.specs.Geometry.{Valid, windowOf}
 use Rattle.geometry.proofs.Laws.{level-high}
 use Rattle.levels.specs.Basics.{if_then_else_}
-use Rattle.levels.specs.Record.{Block, Level, records, rising}
+use Rattle.levels.specs.Record.{Level, records, rising}
 use Rattle.levels.specs.Choose.{choose}
-use Rattle.levels.specs.Merge.{merge, close}
-use Rattle.levels.specs.Place.{Allocation, Settled, settle, placesOf}
+use Rattle.levels.specs.Place.{Allocation, Settled}
 use Rattle.levels.specs.Store.{Store, blocksOf, usedIn, allocationOf}
 use Rattle.levels.specs.Call.{Merge, mergeCut, mergeRun, mergeLevel}
 use Rattle.levels.specs.Count.{blocksMerged, aboveOf, underOf}
@@ -32,19 +30,16 @@ use Rattle.levels.proofs.Entry.{inside-fit, blocks-at}
 use Rattle.levels.proofs.StoreRows.{set-at, set-here}
 use Rattle.levels.proofs.Inside.{inside-used}
 use Rattle.levels.proofs.MergeBounds.{merge-written}
-use Rattle.words.specs.Layout.{blockAt, placeOf, areaOf, writeBlocks}
+use Rattle.words.specs.Layout.{areaOf, writeBlocks}
 use Rattle.words.proofs.Steps.{laid-merge}
-use Rattle.lists.specs.Holds.{HoldsBut}
 use Rattle.lists.proofs.Laws.{but-area}
-use Rattle.blocks.specs.Blocks.{Marks}
-use Rattle.merging.specs.Contract.{ListedBlock}
 use Rattle.pair.specs.declared.Step.{Step}
-use Rattle.pair.specs.Contract.{levelOf, cutOf, upperAfter, lowerAfter, InUse, Stored, PairReady, PairLeaves}
+use Rattle.pair.specs.Contract.{levelOf, cutOf, upperAfter, lowerAfter, Stored, PairReady, PairLeaves}
 use Rattle.pair.proofs.Kept.{base-drop}
 use Rattle.steps.specs.declared.Counts.{Counts}
 use Rattle.steps.specs.declared.Tally.{Tally}
 use Rattle.steps.specs.declared.Two.{Two}
-use Rattle.steps.specs.Running.{Listed, numbersOf, counted, Few, Small, Grown, mergedCounts, TwoReady, TwoLeft}
+use Rattle.steps.specs.Running.{Listed, counted, Grown, mergedCounts, TwoReady, TwoLeft}
 use Rattle.steps.proofs.Standing.{inside-short, listed-block, listed-level}
 use Rattle.steps.proofs.Compacting.{grown-counted, listed-new}
 

@@ -1,41 +1,39 @@
 -- A merge out of level 0 without its step 5, on words and lists.
 use Prim.Native.Nat.{ℕ, zero, suc, _+_, _*_, _^_, _≤_, _<_}
 use mathlib.Core.Path.{_≡_, refl, sym, ap, _∙_, subst}
-use mathlib.Core.Bool.{Bool, true, false}
-use mathlib.Core.List.{List, [], _∷_, _++_, map}
+use mathlib.Core.Bool.{Bool, true}
+use mathlib.Core.List.{List, [], _∷_, _++_}
 use native.Mathlib.Nat.{add-zero, mul-le-mul-right}
 use native.Mathlib.Omega.{arith}
-use lib.Dec.{ltb, eqb}
+use lib.Dec.{ltb}
 use lib.ListN.{length, take, drop, getD, set, length-append, length-take, length-drop}
 use borrow.Author.Tests.{ltb-true}
 use Rattle.geometry.specs.declared.Geometry.{Geometry}
-use Rattle.geometry.specs.Geometry.{Valid, capacityOf, topCapacityOf, windowOf, marksStart, listStart, placesStart, storeLength}
+use Rattle.geometry.specs.Geometry.{Valid, capacityOf, topCapacityOf, windowOf, marksStart, listStart, placesStart}
 use Rattle.geometry.proofs.Laws.{store-length-low}
 use Rattle.levels.specs.Basics.{all}
-use Rattle.levels.specs.Record.{Rec, Block, Level, records, rising, pages}
+use Rattle.levels.specs.Record.{Rec, Level, records, rising, pages}
 use Rattle.levels.specs.Choose.{choose, cutAt}
-use Rattle.levels.specs.Place.{Settled, settle, placesOf}
+use Rattle.levels.specs.Place.{Settled}
 use Rattle.levels.specs.Store.{Store, rows, blocksOf, usedIn, allocationOf}
 use Rattle.levels.specs.Count.{aboveOf, underOf}
-use Rattle.levels.specs.Call.{Merge, mergeCut, mergeRun, mergeLevel}
+use Rattle.levels.specs.Call.{mergeCut, mergeRun, mergeLevel}
 use Rattle.levels.specs.Every.{Every, allBlocks}
 use Rattle.levels.specs.Sound.{BlockFits}
 use Rattle.levels.specs.Inside.{Inside}
-use Rattle.levels.specs.InCall.{MergeFacts}
-use Rattle.levels.proofs.Basics.{and-left, and-right, and-both}
+use Rattle.levels.proofs.Basics.{and-left, and-right}
 use Rattle.levels.proofs.Compaction.{pages-full}
 use Rattle.levels.proofs.Rising.{rising-test}
 use Rattle.levels.proofs.Rows.{risings-at}
 use Rattle.levels.proofs.Entry.{inside-fit, blocks-at}
 use Rattle.levels.proofs.StoreRows.{set-here}
-use Rattle.words.specs.Layout.{word, topCountAt, topSlots, topRecs, each, blockAt, areaOf, topWords, writeBlocks, topLength}
-use Rattle.words.specs.Form.{topUnusedZero, blank}
-use Rattle.words.specs.Passed.{Laid}
+use Rattle.words.specs.Layout.{word, topCountAt, topSlots, topRecs, each, areaOf, topWords, writeBlocks, topLength}
+use Rattle.words.specs.Form.{topUnusedZero}
 use Rattle.words.proofs.Slots.{padRecs, pad-blank}
 use Rattle.words.proofs.Top.{top-words-length, top-marks, top-read}
 use Rattle.words.proofs.Form.{all-part, marks-small}
 use Rattle.words.proofs.Laid.{laid-levels}
-use Rattle.words.proofs.State.{top-end, top-inside, lists-length, store-length}
+use Rattle.words.proofs.State.{top-end, top-inside, lists-length}
 use Rattle.words.proofs.Steps.{laid-merge}
 use Rattle.lists.specs.Lists.{putAt}
 use Rattle.lists.specs.Holds.{HoldsBut}
@@ -46,16 +44,15 @@ use Rattle.lists.proofs.Laws as listed
 use Rattle.top.specs.Top.{TopReady}
 use Rattle.top.specs.Top as top
 use Rattle.top.proofs.Laws.{pages-close}
-use Rattle.merging.specs.Contract.{ListedBlock}
 use Rattle.pair.specs.declared.Step.{Step}
-use Rattle.pair.specs.Contract.{levelOf, cutOf, lowerAfter, Stored, PagesReady, PagesLeaves}
-use Rattle.pair.proofs.Kept.{base-drop, base-length}
+use Rattle.pair.specs.Contract.{levelOf, cutOf, lowerAfter, PagesReady, PagesLeaves}
+use Rattle.pair.proofs.Kept.{base-drop}
 use Rattle.steps.specs.declared.Tally.{Tally}
 use Rattle.steps.specs.declared.One.{One}
-use Rattle.steps.specs.Running.{Listed, counted, mergedCounts, OneLeft, PageReady}
+use Rattle.steps.specs.Running.{counted, mergedCounts, OneLeft, PageReady}
 use Rattle.steps.proofs.Standing.{inside-short, listed-block, listed-level, but-top-read}
 use Rattle.steps.proofs.Compacting.{listed-new}
-use Rattle.steps.proofs.Merging.{start-due, start-inside, level-low, due-free, due-room, merged-few, merged-grown}
+use Rattle.steps.proofs.Merging.{start-due, start-inside, due-free, due-room, merged-few, merged-grown}
 
 -- a test of the numbers from i on
 all-each : (p : ℕ → Bool) (i n k : ℕ) → all p (each (λ (x : ℕ). x) i n) ≡ true → k < n → p (i + k) ≡ true

@@ -1,19 +1,19 @@
 -- The store that stands in the words and lists: its blocks can be read, counted and merged where the lists name them.
-use Prim.Native.Nat.{ℕ, zero, suc, _+_, _*_, _^_, _≤_, _<_}
+use Prim.Native.Nat.{ℕ, zero, suc, _≤_, _<_}
 use mathlib.Core.Path.{_≡_, refl, sym, ap, _∙_, subst}
-use mathlib.Core.Bool.{Bool, true, false}
+use mathlib.Core.Bool.{Bool}
 use mathlib.Core.List.{List, [], _∷_, _++_, map, List·Memᴰ}
 use mathlib.Core.Logic.{dite}
 use mathlib.Core.Option.{some}
 use native.Mathlib.Decide.{decLt}
 use native.Mathlib.Omega.{arith}
-use lib.ListN.{length, take, drop, getD, length-map, List·getD-eq-default}
-use lib.Seq.{take-append-seam, length-take-le}
+use lib.ListN.{length, take, getD, length-map, List·getD-eq-default}
+use lib.Seq.{take-append-seam}
 use Rattle.geometry.specs.declared.Geometry.{Geometry}
-use Rattle.geometry.specs.Geometry.{Valid, capacityOf, topCapacityOf}
+use Rattle.geometry.specs.Geometry.{Valid, topCapacityOf}
 use Rattle.geometry.proofs.Laws.{level-high, place-inside}
 use Rattle.levels.specs.Basics.{member}
-use Rattle.levels.specs.Record.{Rec, Block, Level, size, records, rising}
+use Rattle.levels.specs.Record.{Block, Level}
 use Rattle.levels.specs.Place.{placesOf, inUse}
 use Rattle.levels.specs.Store.{Store, usedIn}
 use Rattle.levels.specs.Every.{Every, allBlocks}
@@ -21,8 +21,7 @@ use Rattle.levels.specs.Sound.{BlockFits}
 use Rattle.levels.specs.Inside.{Inside}
 use Rattle.levels.proofs.Every.{every-at, every-make, every-turn, every-both}
 use Rattle.levels.proofs.Entry.{blocks-at, inside-fit}
-use Rattle.words.specs.Layout.{word, topCountAt, topSlots, topRecs, recordCount, markWordAt, markWord, blockAt, placeOf, blockWords, areaOf, placeWords}
-use Rattle.words.specs.Passed.{Laid}
+use Rattle.words.specs.Layout.{topSlots, topRecs, blockAt, placeOf, blockWords, areaOf, placeWords}
 use Rattle.words.proofs.Slots.{mark-low, padRecs}
 use Rattle.words.proofs.Blocks.{place-words, place-of, place-below, count-read, mark-read, block-read}
 use Rattle.words.proofs.Top.{top-read}

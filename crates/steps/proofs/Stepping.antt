@@ -1,30 +1,27 @@
 -- Step 5 for one level, on all lists.
-use Prim.Native.Nat.{ℕ, zero, suc, _+_, _*_, _≤_, _<_}
+use Prim.Native.Nat.{ℕ, suc, _≤_, _<_}
 use mathlib.Core.Path.{_≡_, refl, sym, ap, _∙_, subst}
 use mathlib.Core.Bool.{Bool, true, false}
-use mathlib.Core.List.{List, [], _∷_, _++_, map}
+use mathlib.Core.List.{List, []}
 use mathlib.Core.Logic.{_≢_}
 use native.Mathlib.Omega.{arith}
-use lib.ListN.{length, take, drop, getD, set, length-take}
+use lib.ListN.{length, take, getD, length-take}
 use Rattle.geometry.specs.declared.Geometry.{Geometry}
-use Rattle.geometry.specs.Geometry.{Valid, topCapacityOf}
-use Rattle.levels.specs.Record.{Rec, Block, Level}
+use Rattle.geometry.specs.Geometry.{topCapacityOf}
 use Rattle.levels.specs.Waste.{needsCompact}
-use Rattle.levels.specs.Store.{Store, usedIn}
+use Rattle.levels.specs.Store.{Store}
 use Rattle.levels.specs.Call.{Compaction, compactLevel, compactIfNeeded, afterCompactions}
 use Rattle.levels.specs.Count as levels
 use Rattle.levels.specs.Inside.{Inside}
 use Rattle.levels.proofs.StoreRows.{set-at}
 use Rattle.levels.proofs.CompactInside.{needed-stepped}
-use Rattle.words.specs.Layout.{topCountAt, topSlots, topRecs, areaOf, writeBlocks}
+use Rattle.words.specs.Layout.{topCountAt, topSlots, topRecs}
 use Rattle.words.specs.Calls.{compactedBlocks}
 use Rattle.words.proofs.Top.{top-slots-length}
-use Rattle.lists.specs.Holds.{HoldsBut}
 use Rattle.blocks.specs.Blocks.{Marks}
-use Rattle.steps.specs.declared.Tally.{Tally}
 use Rattle.steps.specs.declared.Run.{Run}
 use Rattle.steps.specs.declared.One.{One}
-use Rattle.steps.specs.Running.{namedIn, storeOf, Listed, Stands, Leaving, Running, compactedCounts, OneReady, OneAsked, OneLeft, relisted}
+use Rattle.steps.specs.Running.{namedIn, storeOf, Listed, Stands, Leaving, Running, compactedCounts, OneReady, OneLeft, relisted}
 use Rattle.steps.proofs.Standing.{stand, used-is}
 use Rattle.steps.proofs.Compacting.{needed-is, not-needed}
 

@@ -1,5 +1,5 @@
 -- What the proofs of put and delete need: each answer of the code is the definition's, and demands 1 to 3 of it.
-use Prim.Native.Nat.{ℕ, _-_}
+use Prim.Native.Nat.{ℕ}
 use mathlib.Core.Path.{_≡_, sym, ap, _∙_, subst}
 use mathlib.Core.List.{List}
 use Rattle.geometry.specs.declared.Geometry.{Geometry}

@@ -8,9 +8,8 @@ use native.Mathlib.Omega.{arith}
 use lib.Dec.{ltb}
 use lib.ListN.{length, take, drop, set, length-append, length-set}
 use lib.Seq.{take-at, drop-at, take-nil, drop-nil, take-add, drop-drop, take-append-seam}
-use borrow.Author.Tests.{leb-true}
 use Rattle.geometry.specs.declared.Geometry.{Geometry}
-use Rattle.geometry.specs.Geometry.{Valid, capacityOf, topCapacityOf, marksStart, listStart, blockWidth, storeLength}
+use Rattle.geometry.specs.Geometry.{Valid, capacityOf, topCapacityOf, marksStart, listStart, blockWidth}
 use Rattle.levels.specs.Basics.{all}
 use Rattle.levels.specs.Record.{Rec, Level, records, rising, pages}
 use Rattle.levels.specs.Store.{Store}
@@ -19,16 +18,16 @@ use Rattle.levels.proofs.Basics.{and-left}
 use Rattle.levels.proofs.Compaction.{pages-records}
 use Rattle.levels.proofs.Levels.{records-append}
 use Rattle.levels.proofs.Pages.{pages-cons}
-use Rattle.words.specs.Layout.{word, topCountAt, topSlots, topRecs, each, storeAt, headerWords, topWords, listWords, storeWords, part, topLength}
-use Rattle.words.specs.Form.{topFits, keysRise, topUnusedZero, formed}
+use Rattle.words.specs.Layout.{word, topCountAt, topSlots, topRecs, each, headerWords, topWords, listWords, storeWords, part, topLength}
+use Rattle.words.specs.Form.{topUnusedZero}
 use Rattle.words.proofs.Parts.{part-mid}
 use Rattle.words.proofs.Slots.{padRecs, pad-blank}
 use Rattle.words.proofs.Top.{top-words-length, top-marks, top-read, top-slots-length}
 use Rattle.words.proofs.State.{top-end, top-inside, header-length, words-length}
-use Rattle.words.proofs.Form.{formed-clauses, all-part, marks-small}
+use Rattle.words.proofs.Form.{all-part, marks-small}
 use Rattle.top.specs.declared.Slot.{Slot}
 use Rattle.top.specs.Top.{TopReady, withSlots, withTop, withSlot, recOf}
-use Rattle.top.proofs.Words.{ready-inside, ready-is, slot-set, slots-low, slots-back}
+use Rattle.top.proofs.Words.{ready-inside, ready-is, slot-set, slots-back}
 
 -- c is word 8, and nothing else in the header
 header-count : (g : Geometry) (t : Store) (rs : List Rec) → set (headerWords g t) 8 (length rs) ≡ headerWords g (record { live = t .live; cursor = t .cursor; top = rs; levels = t .levels })
@@ -98,13 +97,6 @@ module _ (g : Geometry) (t : Store) (area : List ℕ) (v : Valid g) (f : Fits g 
 pub top-rises : (g : Geometry) (t : Store) → Sound g t → rising 0 (t .top) ≡ true
 top-rises g t o = and-left (rising 0 (t .top)) _ (o .keys-rise)
 
--- words that pass the form check are ready
-pub formed-ready : (g : Geometry) (ws : List ℕ) → Valid g → length ws ≡ storeLength g → formed g ws ≡ true → TopReady g ws
-unfolding topFits keysRise storeAt
-formed-ready g ws v l e =
-    let c = formed-clauses g ws e in
-    record { valid = v; words = l; fits = leb-true _ _ (c .top-fits); unused = c .top-unused; rises = and-left (rising 0 (topRecs g ws)) _ (c .keys-rise) }
-
 -- live is word 6, and nothing else
 pub set-live : (g : Geometry) (t : Store) (area : List ℕ) (n : ℕ) → set (storeWords g t area) 6 n ≡ storeWords g (record { live = n; cursor = t .cursor; top = t .top; levels = t .levels }) area
 unfolding storeWords headerWords
@@ -128,10 +120,6 @@ module _ (g : Geometry) (ws : List ℕ) (t : TopReady g ws) (j : ℕ) (r : Slot)
   slots-set =
       let k = ready-inside g ws t in
       ap (topSlots g) slot-written ∙ slots-back g ws (k .ranged) (k .inside) now now-long
-
-  -- mark words have no bit from B on
-  pub slot-marks : (q : ℕ) → q < capacityOf g 0 → word (withSlot g ws j r) (marksStart g + q) < 2 ^ g .b
-  slot-marks q l = let k = ready-inside g ws t in rw slot-written (slots-low g ws (k .ranged) (k .inside) now now-long q l)
 
 -- "Level 0 counts as pages of B records from its start": the first n pages, and those after them
 pub pages-take : (B n : ℕ) (rs : List Rec) → 1 ≤ B → records (take n (pages B rs)) ≡ take (n * B) rs

@@ -1,20 +1,20 @@
 -- Slots of records against their words: a mark word, keys and payloads.
 use Prim.Native.Nat.{ℕ, zero, suc, _+_, _-_, _*_, _/_, _%_, _^_, _≤_, _<_}
 use mathlib.Core.Path.{_≡_, refl, sym, ap, _∙_}
-use mathlib.Core.Bool.{Bool, true, false, _&&_, and-eq-true-iff}
+use mathlib.Core.Bool.{Bool, true, false, and-eq-true-iff}
 use mathlib.Core.List.{List, [], _∷_, _++_, map, map-append}
-use native.Mathlib.Nat.{suc-add, add-suc, add-zero, zero-add, sub-zero, pow-succ', zero-div, div-one, div-eq-of-lt, div-lt-iff-lt-mul, div-div-eq-div-mul}
+use native.Mathlib.Nat.{suc-add, add-suc, add-zero, zero-add, pow-succ', zero-div, div-one, div-div-eq-div-mul}
 use native.Mathlib.Omega.{arith}
-use lib.Dec.{ltb, eqb}
+use lib.Dec.{eqb}
 use lib.ListN.{length, take, drop, getD, replicate, length-append, length-replicate, length-map, length-drop, take-append-drop}
-use lib.Pow.{pow-pos, pow-mono, shr-lt}
+use lib.Pow.{pow-mono}
 use lib.Seq.{drop-append-seam, length-take-le}
-use borrow.Author.Tests.{eqb-true, eqb-false, eq-eqb, ne-eqb, not-true, ltb-true, lt-ltb}
+use borrow.Author.Tests.{eqb-true, eqb-false, eq-eqb, ne-eqb, not-true}
 use Rattle.levels.specs.Basics.{all}
 use Rattle.levels.specs.Record.{Rec}
 use Rattle.words.specs.Layout.{word, slotsAt, pad, bit, markWord, keysOf, paysOf, part}
-use Rattle.words.specs.Form.{blank, isZero}
-use Rattle.words.proofs.Parts.{part-length, part-cons, zeros-are, zeros-pass}
+use Rattle.words.specs.Form.{blank}
+use Rattle.words.proofs.Parts.{part-length, part-cons}
 
 -- the first n of B slots are n slots
 pub slots-take : (ws : List ℕ) (m k v : ℕ) (n B : ℕ) → n ≤ B → take n (slotsAt ws m k v B) ≡ slotsAt ws m k v n
@@ -208,8 +208,6 @@ module _ (ws : List ℕ) (m k v n B : ℕ) (h : n ≤ B) (hk : k + B ≤ length 
   pub used-pays : pad B (paysOf (take n (slotsAt ws m k v B))) ≡ part ws v B
   used-pays = sym (pays-pad B (take n (slotsAt ws m k v B))) ∙ ap paysOf padded ∙ pays-of m (part ws k B) (part ws v B) same-length
 
--- Blank slots against zero words.
-
 -- the slots from slot n on
 pub slots-drop : (ws : List ℕ) (n c m k v : ℕ) → drop n (slotsAt ws m k v (n + c)) ≡ slotsAt ws (m / 2 ^ n) (k + n) (v + n) c
 unfolding slotsAt
@@ -218,46 +216,3 @@ slots-drop ws (suc n) c m k v =
     let a : suc k + n ≡ k + suc n = omega arith in
     let b : suc v + n ≡ v + suc n = omega arith in
     rw (suc-add n c) (slots-drop ws n c (m / 2) (suc k) (suc v) ∙ rw (a, b, div-div-eq-div-mul m 2 (2 ^ n), ← pow-succ' 2 n))
-
-module _ (ws : List ℕ) (m k v c : ℕ) (hk : k + c ≤ length ws) (hv : v + c ≤ length ws) where
-  -- slots that are blank have zero words, and no bit below c
-  blanks-zero : m < 2 ^ c → all blank (slotsAt ws m k v c) ≡ true → (m ≡ 0) × (part ws k c ≡ replicate c 0) × (part ws v c ≡ replicate c 0)
-  blanks-zero h z =
-      let lk = part-length ws k c hk in
-      let l : length (part ws k c) ≡ length (part ws v c) = lk ∙ sym (part-length ws v c hv) in
-      let e : slotsOf m (part ws k c) (part ws v c) ≡ replicate c blankRec = sym (slots-part ws m k v c hk hv) ∙ blanks-are (slotsAt ws m k v c) z ∙ rw slots-length in (
-        sym (mark-of m (part ws k c) (part ws v c) l (rw lk h)) ∙ ap markWord e ∙ mark-blanks c,
-        sym (keys-of m (part ws k c) (part ws v c) l) ∙ ap keysOf e ∙ map-replicate _ c blankRec,
-        sym (pays-of m (part ws k c) (part ws v c) l) ∙ ap paysOf e ∙ map-replicate _ c blankRec,
-      )
-
-  zero-blanks : m ≡ 0 → part ws k c ≡ replicate c 0 → part ws v c ≡ replicate c 0 → all blank (slotsAt ws m k v c) ≡ true
-  unfolding markWord
-  zero-blanks e ek ev = rw (e, slots-back ws k v c [] hk hv (rw sub-zero ek) (rw sub-zero ev)) (blanks-pass (c - 0))
-
--- "Unused slots, bits .. are 0": the slots from n on are blank and no bit from B on is set just if no bit from n on is set and the words from n on are 0
-pub unused-slots : (ws : List ℕ) (m k v n c : ℕ) → k + n + c ≤ length ws → v + n + c ≤ length ws
-    → (all blank (drop n (slotsAt ws m k v (n + c))) && ltb m (2 ^ (n + c))) ≡ (ltb m (2 ^ n) && (all isZero (part ws (k + n) c) && all isZero (part ws (v + n) c)))
-unused-slots ws m k v n c hk hv = same-test _ _ there back
-  where
-    same-test : (a b : Bool) → (a ≡ true → b ≡ true) → (b ≡ true → a ≡ true) → a ≡ b
-    same-test true b f h = sym (f refl)
-    same-test false true f h = h refl
-    same-test false false f h = refl
-
-    there : (all blank (drop n (slotsAt ws m k v (n + c))) && ltb m (2 ^ (n + c))) ≡ true → (ltb m (2 ^ n) && (all isZero (part ws (k + n) c) && all isZero (part ws (v + n) c))) ≡ true
-    there e =
-        let t = (and-eq-true-iff (all blank (drop n (slotsAt ws m k v (n + c)))) (ltb m (2 ^ (n + c)))) .0 e in
-        let a : n + c ≡ c + n = omega arith in
-        let l : m < 2 ^ (c + n) = rw a at (ltb-true m (2 ^ (n + c)) (t .1)) in
-        let z = blanks-zero ws (m / 2 ^ n) (k + n) (v + n) c hk hv (shr-lt c n l) (rw slots-drop at (t .0)) in
-        let b : m < 1 * 2 ^ n = div-lt-iff-lt-mul (pow-pos n) .0 (omega (arith, z .0)) in
-        rw (z .1, z .2, zeros-pass c, lt-ltb m (2 ^ n) (omega arith))
-
-    back : (ltb m (2 ^ n) && (all isZero (part ws (k + n) c) && all isZero (part ws (v + n) c))) ≡ true → (all blank (drop n (slotsAt ws m k v (n + c))) && ltb m (2 ^ (n + c))) ≡ true
-    back e =
-        let t = simp and-eq-true-iff at e in
-        let l = ltb-true m (2 ^ n) (t .0) in
-        let zk : part ws (k + n) c ≡ replicate c 0 = zeros-are (part ws (k + n) c) (t .1 .0) ∙ rw (part-length ws (k + n) c hk) in
-        let zv : part ws (v + n) c ≡ replicate c 0 = zeros-are (part ws (v + n) c) (t .1 .1) ∙ rw (part-length ws (v + n) c hv) in
-        rw (slots-drop ws n c m k v, zero-blanks ws (m / 2 ^ n) (k + n) (v + n) c hk hv (div-eq-of-lt l) zk zv, lt-ltb m (2 ^ (n + c)) (omega (arith, pow-mono {i = n} {j = n + c} (omega arith))))
