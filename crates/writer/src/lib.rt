@@ -11,10 +11,10 @@ ghost use Rattle.form.specs.Checked.{checkedOf};
 ghost use Rattle.top.specs.Top.{TopReady};
 ghost use Rattle.writer.specs.Answers.{changedAnswer};
 ghost use Rattle.writer.specs.Change.{liveFound, hasRoom, withEntered, Counted, Entered};
-use steps::Counts;
-use steps::Tally;
 use geometry::Geometry;
 use search::Found;
+use steps::Counts;
+use steps::Tally;
 use top::Spot;
 
 // What a put or delete did: live says if the key was live, the tally what was merged and written for it.
