@@ -38,25 +38,41 @@ use Rattle.top.proofs.Spots.{spot-is}
 use Rattle.top.proofs.Laws.{with-top-words, top-count-back, top-back, words-ready, top-rises, set-live}
 use Rattle.steps.specs.declared.Tally.{Tally}
 use Rattle.cascade.specs.Cascade.{FullStore, MergedAll}
-use Rattle.writer.specs.Change.{hasRoom, withEntered, Counted, Entered}
+use Rattle.writer.specs.Change.{hasRoom, roomAt, withEntered, Counted, Entered}
 
 -- all that is known of a store that passes
 pub holds : (ws : List ℕ) (g : Geometry) → checkedOf ws ≡ Ready g → Passed g ws
 holds ws g e = let k = checked-ready ws g e in subst (λ (t : Geometry). Passed t ws) (sym (k .0)) (reason-passed ws (k .1))
 
 -- Where the key stands says if there is room.
-pub room-found : (g : Geometry) (ws : List ℕ) (k i : ℕ) → TopReady g ws → spotOf k (topRecs g ws) ≡ Found i → true ≡ hasRoom g ws k
+room-found : (g : Geometry) (ws : List ℕ) (k i : ℕ) → TopReady g ws → spotOf k (topRecs g ws) ≡ Found i → true ≡ hasRoom g ws k
 unfolding hasRoom
 room-found g ws k i t e = rw (spot-is k 0 (topRecs g ws) (test-rising 0 (topRecs g ws) (t .rises)), e)
 
-pub room-gap : (g : Geometry) (ws : List ℕ) (k i : ℕ) → TopReady g ws → spotOf k (topRecs g ws) ≡ Gap i → ltb (topCountAt ws) (topCapacityOf g) ≡ hasRoom g ws k
+room-gap : (g : Geometry) (ws : List ℕ) (k i : ℕ) → TopReady g ws → spotOf k (topRecs g ws) ≡ Gap i → ltb (topCountAt ws) (topCapacityOf g) ≡ hasRoom g ws k
 unfolding hasRoom
 room-gap g ws k i t e = rw (spot-is k 0 (topRecs g ws) (test-rising 0 (topRecs g ws) (t .rises)), e)
 
--- and there is room where the key goes
-pub room-is : (g : Geometry) (ws : List ℕ) (k : ℕ) (at : Spot) → TopReady g ws → hasRoom g ws k ≡ true → at ≡ spotOf k (topRecs g ws) → Room g ws at
-room-is g ws k (Found i) t h e = tt
-room-is g ws k (Gap i) t h e = ltb-true (topCountAt ws) (topCapacityOf g) (room-gap g ws k i t (sym e) ∙ h)
+-- and so of the spot where the key stands
+pub room-at : (g : Geometry) (ws : List ℕ) (k : ℕ) (at : Spot) → TopReady g ws → at ≡ spotOf k (topRecs g ws) → roomAt g ws at ≡ hasRoom g ws k
+unfolding roomAt
+room-at g ws k (Found i) t e = room-found g ws k i t (sym e)
+room-at g ws k (Gap i) t e = room-gap g ws k i t (sym e)
+
+-- where there is room, level 0 takes the record
+pub room-is : (g : Geometry) (ws : List ℕ) (at : Spot) → roomAt g ws at ≡ true → Room g ws at
+unfolding roomAt
+room-is g ws (Found i) h = tt
+room-is g ws (Gap i) h = ltb-true (topCountAt ws) (topCapacityOf g) h
+
+-- the clauses of roomAt, as laws
+pub at-found : (g : Geometry) (ws : List ℕ) (at : Spot) (i : ℕ) → at ≡ Found i → true ≡ roomAt g ws at
+unfolding roomAt
+at-found g ws at i e = rw e
+
+pub at-gap : (g : Geometry) (ws : List ℕ) (at : Spot) (i : ℕ) → at ≡ Gap i → ltb (topCountAt ws) (topCapacityOf g) ≡ roomAt g ws at
+unfolding roomAt
+at-gap g ws at i e = rw e
 
 -- What the merges of a put or delete of k leave: the store, the words of all places, and all words.
 abbrev storeBy : Geometry → List ℕ → ℕ → Store

@@ -1,7 +1,7 @@
 -- Put and delete: what their parts do.
 use Prim.Native.Nat.{ℕ}
 use mathlib.Core.Path.{_≡_}
-use mathlib.Core.Bool.{Bool, false, not, _||_}
+use mathlib.Core.Bool.{Bool, true, false, not, _||_}
 use mathlib.Core.List.{List}
 use lib.Dec.{ltb}
 use lib.ListN.{set}
@@ -17,6 +17,8 @@ use Rattle.words.specs.Layout.{topCountAt, topRecs, storeAt}
 use Rattle.words.specs.Calls.{leftWords}
 use Rattle.search.specs.declared.Found.{Found}
 use Rattle.search.specs.declared.Found.the-variants as found
+use Rattle.top.specs.declared.Spot.{Spot}
+use Rattle.top.specs.declared.Spot.the-variants as spot
 use Rattle.top.specs.Top.{withTop}
 use Rattle.steps.specs.declared.Tally.{Tally}
 use Rattle.steps.specs.Running.{numbersOf}
@@ -29,6 +31,11 @@ liveFound (found.Here m v) = not m
 -- "a key found in level 0 is overwritten there; otherwise, if c = K(0)×B, level 0 is merged first": it need not be
 unfoldable pub hasRoom : Geometry → List ℕ → ℕ → Bool
 hasRoom g ws k = isSome (find k (topRecs g ws)) || ltb (topCountAt ws) (topCapacityOf g)
+
+-- the same, of the spot where the key stands in level 0
+unfoldable pub roomAt : Geometry → List ℕ → Spot → Bool
+roomAt g ws (spot.Found i) = true
+roomAt g ws (spot.Gap i) = ltb (topCountAt ws) (topCapacityOf g)
 
 -- the words with a record entered in level 0 and live as it is then
 unfoldable pub withEntered : Geometry → List ℕ → Rec → ℕ → List ℕ

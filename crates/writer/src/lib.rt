@@ -4,13 +4,13 @@ ghost use mathlib.Core.Path.{_≡_};
 ghost use mathlib.Core.Bool.{true};
 ghost use mathlib.Core.List.{[]};
 ghost use Rattle.levels.specs.Put.{put, delete};
-ghost use Rattle.words.specs.Layout.{storeAt};
+ghost use Rattle.words.specs.Layout.{topRecs, storeAt};
 ghost use Rattle.words.specs.Calls.{Outcome, ChangeAnswer, changeOutcome};
 ghost use Rattle.form.specs.declared.Checked.the-variants.{Ready};
 ghost use Rattle.form.specs.Checked.{checkedOf};
-ghost use Rattle.top.specs.Top.{TopReady};
+ghost use Rattle.top.specs.Top.{TopReady, spotOf};
 ghost use Rattle.writer.specs.Answers.{changedAnswer};
-ghost use Rattle.writer.specs.Change.{liveFound, hasRoom, withEntered, Counted, Entered};
+ghost use Rattle.writer.specs.Change.{liveFound, roomAt, withEntered, Counted, Entered};
 use geometry::Geometry;
 use search::Found;
 use steps::Counts;
@@ -106,33 +106,34 @@ fn enter_record(s: &mut [u32], g: Geometry, k: u32, mark: bool, v: u32, live: u3
     requires { ⌜ checkedOf (now s) ≡ Ready g ⌝ }
     ensures { λ r. ⌜ Entered g (now (s .entry)) (record { key = k; tombstone = mark; pay = v }) live r (now (s .exit)) ⌝ }
 {
-    if has_room(s, g, k) {
-        place_record(s, g, k, mark, v, live);
+    let at = top::locate(s, g, k);
+    if has_room(s, g, at) {
+        place_record(s, g, at, k, mark, v, live);
         return no_tally();
     }
     let t = cascade::merge_all(s, g);
-    place_record(s, g, k, mark, v, live);
+    let after = top::locate(s, g, k);
+    place_record(s, g, after, k, mark, v, live);
     t
 }
 
-// A record of this key is overwritten in level 0, or there is room for one more.
-fn has_room(s: &[u32], g: Geometry, k: u32) -> bool
+// A record is overwritten in level 0, or there is room for one more.
+fn has_room(s: &[u32], g: Geometry, at: Spot) -> bool
     requires { ⌜ TopReady g (now s) ⌝ }
-    ensures { λ r. ⌜ r ≡ hasRoom g (now (s .entry)) k ⌝ }
+    ensures { λ r. ⌜ r ≡ roomAt g (now (s .entry)) at ⌝ }
 {
-    let Spot::Found(_) = top::locate(s, g, k) else {
+    let Spot::Found(_) = at else {
         let room = g.top_capacity();
         return (s[8] as usize) < room;
     };
     true
 }
 
-// A record into level 0, which has room for it, and live as it is then.
-fn place_record(s: &mut [u32], g: Geometry, k: u32, mark: bool, v: u32, live: u32)
-    requires { ⌜ TopReady g (now s) × (hasRoom g (now s) k ≡ true) ⌝ }
+// A record into level 0, at the spot where its key stands and which has room for it, and live as it is then.
+fn place_record(s: &mut [u32], g: Geometry, at: Spot, k: u32, mark: bool, v: u32, live: u32)
+    requires { ⌜ TopReady g (now s) × ((at ≡ spotOf k (topRecs g (now s))) × (roomAt g (now s) at ≡ true)) ⌝ }
     ensures { λ _. ⌜ now (s .exit) ≡ withEntered g (now (s .entry)) (record { key = k; tombstone = mark; pay = v }) live ⌝ }
 {
-    let at = top::locate(s, g, k);
     top::enter(s, g, at, k, mark, v);
     s[6] = live;
 }

@@ -1,17 +1,12 @@
 use native.Mathlib.Omega.{arith}
-use mathlib.Core.Path.{sym, _∙_}
 use Rattle.top.proofs.Words.{ready-bounds}
-use Rattle.writer.proofs.Entering.{room-found, room-gap}
+use Rattle.writer.proofs.Entering.{at-found, at-gap}
 use borrow.Author.Needs.{needs}
 use Rattle.writer.proofs.has_room.Statement.{statement}
 use Rattle.writer.proofs.has_room.Tie as tie
 use Rattle.writer.proofs.has_room.Reads as reads
 use Rattle.writer.proofs.has_room.Lts as lts
 use Rattle.geometry.proofs.Geometry.top_capacity.Reads as top-capacity-reads
-use Rattle.top.proofs.locate.Reads as locate-reads
-
-locate-requires : tie.Need-locate-requires
-locate-requires c κs = search needs
 
 enum-told : tie.Need-enum-told
 enum-told c = search needs
@@ -23,22 +18,21 @@ top-capacity-requires : tie.Need-top-capacity-requires
 top-capacity-requires c κs = search needs
 
 shared-slice-read-result : tie.Need-shared-slice-read-result
-shared-slice-read-result c = ready-bounds _ _ (c .before .before .before .before .before .before .pre) .1 .1
+shared-slice-read-result c = ready-bounds _ _ (c .before .before .before .before .before .pre) .1 .1
 
 cast-result : tie.Need-cast-result
 cast-result c = search needs
 
 returns : tie.Need-returns
-returns c = rw (c .before .top-capacity .ensures) (room-gap _ _ _ _ (c .before .before .before .before .before .before .pre) (sym (c .before .before .before .before .locate .ensures) ∙ c .before .before .enum-told2 .given .1))
+returns c = rw (c .before .top-capacity .ensures) (at-gap _ _ _ _ (c .before .before .enum-told2 .given .1))
 
 returns-2 : tie.Need-returns-2
-returns-2 c = room-found _ _ _ _ (c .before .before .before .before .pre) (sym (c .before .before .locate .ensures) ∙ c .enum-told .given .1)
+returns-2 c = at-found _ _ _ _ (c .enum-told .given .1)
 
 pub has-room-spec : {M : Type 1} → statement M
 has-room-spec =
     tie.close
     (tie.spec
-    locate-requires
     enum-told
     enum-told-2
     top-capacity-requires

@@ -8,16 +8,12 @@ use Rattle.writer.proofs.place_record.Tie as tie
 use Rattle.writer.proofs.place_record.Reads as reads
 use Rattle.writer.proofs.place_record.Lts as lts
 use Rattle.top.proofs.enter.Reads as enter-reads
-use Rattle.top.proofs.locate.Reads as locate-reads
-
-locate-requires : tie.Need-locate-requires
-locate-requires c κs = search needs
 
 enter-requires : tie.Need-enter-requires
-enter-requires c κs = (c .before .before .before .before .pre .0, (c .before .locate .ensures, room-is _ _ _ _ (c .before .before .before .before .pre .0) (c .before .before .before .before .pre .1) (c .before .locate .ensures)))
+enter-requires c κs = let p = c .before .before .pre in (p .0, (p .1 .0, room-is _ _ _ (p .1 .1)))
 
 slice-write-s : tie.Need-slice-write-s
-slice-write-s c = omega (arith, c .before .before .enter .kept .0, ready-bounds _ _ (c .before .before .before .before .before .before .before .pre .0))
+slice-write-s c = omega (arith, c .before .before .enter .kept .0, ready-bounds _ _ (c .before .before .before .before .before .pre .0))
 
 same-length : tie.Need-same-length
 same-length c = search needs
@@ -27,5 +23,4 @@ unfolding withEntered
 returns c = rw (c .before .before .enter .ensures)
 
 pub place-record-spec : {M : Type 1} → statement M
-place-record-spec =
-    tie.close (tie.spec locate-requires enter-requires slice-write-s same-length returns)
+place-record-spec = tie.close (tie.spec enter-requires slice-write-s same-length returns)
