@@ -33,7 +33,7 @@ use Rattle.lists.specs.Holds.{HoldsBut}
 use Rattle.lists.proofs.Laws.{but-area}
 use Rattle.merging.specs.declared.Merged.{Merged}
 use Rattle.merging.specs.Contract.{ListedBlock, Leaves}
-use Rattle.compaction.specs.Machine.{Compactable, Countable}
+use Rattle.compaction.specs.Machine.{Compactable}
 use Rattle.pair.specs.Contract.{InUse}
 use Rattle.pair.proofs.Kept.{base-drop}
 use Rattle.pair.proofs.Room.{count-few}
@@ -124,17 +124,7 @@ module _ (e t : Store) (g : Geometry) (ws : List ℕ) (used : List Bool) (list :
   listed : (i : ℕ) → i < n → ListedBlock g ws used (getD list i 0)
   listed = listed-block g ws t (k .valid) fit (k .held) used (k .marks) j list n (k .listed)
 
-  -- what the level rule and a compaction ask
-  pub one-countable : Countable g ws list n
-  one-countable = record {
-    valid = k .valid;
-    words = k .held .long;
-    list-long = k .listed .long;
-    few = few;
-    place = λ i h. listed i h .place;
-    high = λ i h. listed i h .high;
-  }
-
+  -- what a compaction asks
   pub one-in-use : InUse used
   one-in-use = record { places = usedIn t; marks = k .marks }
 
@@ -150,14 +140,6 @@ module _ (e t : Store) (g : Geometry) (ws : List ℕ) (used : List Bool) (list :
     blocks = listed;
     free = omega (arith, count-few (g .p) used (usedIn t) (k .marks), compact-room-numbers g j (length (usedIn t)) n (k .valid) (k .level) (inside-used g e t (k .inside)) (omega (arith, k .listed .count, k .inside .doubled j)));
   }
-
-  -- a level that does not need compacting
-  pub one-kept : (r : One) → r ≡ record { n = n; cursor = cursor; tally = tally } → needsCompact (g .b) (map (blockAt g ws) (take n list)) ≡ false
-      → OneLeft (afterCompactions t (compactIfNeeded g (suc j) t)) (compactedBlocks (compactIfNeeded g (suc j) t)) (compactedCounts (compactIfNeeded g (suc j) t)) g ws ws list j tally r
-  unfolding writeBlocks
-  one-kept r q h =
-      rw (not-needed g t j (rw (← level-is) h), q)
-      (record { held = k .held; listed = k .listed; cursor = k .cursor-is; area = refl; counts = grown-none (compactedCounts []) tally (λ i. (refl, refl, refl)) })
 
   -- a level that is compacted
   module _ (ws' : List ℕ) (used' : List Bool) (list' : List ℕ) (m : Merged) (h : needsCompact (g .b) (map (blockAt g ws) (take n list)) ≡ true)

@@ -21,7 +21,7 @@ use Rattle.levels.specs.Sound.{BlockFits}
 use Rattle.levels.specs.Inside.{Inside}
 use Rattle.levels.proofs.Every.{every-at, every-make, every-turn, every-both}
 use Rattle.levels.proofs.Entry.{blocks-at, inside-fit}
-use Rattle.words.specs.Layout.{topSlots, topRecs, blockAt, placeOf, blockWords, areaOf, placeWords}
+use Rattle.words.specs.Layout.{recordCount, topSlots, topRecs, blockAt, placeOf, blockWords, areaOf, placeWords}
 use Rattle.words.proofs.Slots.{mark-low, padRecs}
 use Rattle.words.proofs.Blocks.{place-words, place-of, place-below, count-read, mark-read, block-read}
 use Rattle.words.proofs.Top.{top-read}
@@ -32,6 +32,7 @@ use Rattle.lists.proofs.Laws.{placesIn}
 use Rattle.lists.proofs.Arrays.{three-places}
 use Rattle.blocks.specs.Blocks.{Marks}
 use Rattle.merging.specs.Contract.{ListedBlock}
+use Rattle.compaction.specs.Machine.{Countable}
 use Rattle.steps.specs.declared.Run.{Run}
 use Rattle.steps.specs.Running.{namedIn, storeOf, Listed, Stands, Markable}
 
@@ -91,6 +92,14 @@ module _ (g : Geometry) (ws : List ℕ) (t : Store) (v : Valid g) (f : Every (Bl
       let s : topSlots g ws ≡ padRecs (topCapacityOf g) (t .top) = top-read g ws (t .top) (omega (arith, v .ranged .b-low)) h (k .top) (top-inside g ws (k .long)) in
       rw (k .count, s) (take-append-seam (t .top) _)
 
+  -- what is said of the place of every block is said of every entry of a list
+  listed-each : (P : ℕ → Type 0) → Every (λ b. P (placeOf b)) (allBlocks (t .levels)) → (j : ℕ) (list : List ℕ) (n : ℕ) → Listed t j list n → (i : ℕ) → i < n → P (getD list i 0)
+  listed-each P a j list n l i h =
+      let b = every-places P (getD (t .levels) j []) (blocks-at (λ b. P (placeOf b)) (t .levels) j a) in
+      let c : Every P (take n list) = rw (l .places) b in
+      let w : n ≡ length (take n list) = l .count ∙ sym (ap length (l .places) ∙ length-map (getD (t .levels) j []) placeOf) in
+      subst P (take-word n list i h) (every-entry P (take n list) c i (omega (arith, w)))
+
   -- each listed block can be read and merged
   module _ (used : List Bool) (m : Marks used (usedIn t)) where
     listed-at : (b : Block) → List·Memᴰ b (allBlocks (t .levels)) → ListedBlock g ws used (placeOf b)
@@ -109,25 +118,21 @@ module _ (g : Geometry) (ws : List ℕ) (t : Store) (v : Valid g) (f : Every (Bl
         }
 
     pub listed-block : (j : ℕ) (list : List ℕ) (n : ℕ) → Listed t j list n → (i : ℕ) → i < n → ListedBlock g ws used (getD list i 0)
-    listed-block j list n l i h =
-        let a = every-make (λ b. ListedBlock g ws used (placeOf b)) (allBlocks (t .levels)) listed-at in
-        let b = every-places (ListedBlock g ws used) (getD (t .levels) j []) (blocks-at (λ b. ListedBlock g ws used (placeOf b)) (t .levels) j a) in
-        let c : Every (ListedBlock g ws used) (take n list) = rw (l .places) b in
-        let w : n ≡ length (take n list) = l .count ∙ sym (ap length (l .places) ∙ length-map (getD (t .levels) j []) placeOf) in
-        subst (ListedBlock g ws used) (take-word n list i h) (every-entry (ListedBlock g ws used) (take n list) c i (omega (arith, w)))
+    listed-block = listed-each (ListedBlock g ws used) (every-make (λ b. ListedBlock g ws used (placeOf b)) (allBlocks (t .levels)) listed-at)
 
   -- the level that a list names
   pub listed-level : (j : ℕ) (list : List ℕ) (n : ℕ) → Listed t j list n → map (blockAt g ws) (take n list) ≡ getD (t .levels) j []
   listed-level j list n l = ap (map (blockAt g ws)) (l .places) ∙ blocks-back g ws (getD (t .levels) j []) (blocks-at (λ b. blockAt g ws (placeOf b) ≡ b) (t .levels) j but-blocks)
 
-  -- each listed place is one of the store's
+  -- each listed place is one of the store's, and has at most B records
   pub listed-low : (j : ℕ) (list : List ℕ) (n : ℕ) → Listed t j list n → (i : ℕ) → i < n → getD list i 0 < g .p
-  listed-low j list n l i h =
-      let a = every-turn (BlockFits g) (λ b. placeOf b < g .p) (allBlocks (t .levels)) (λ b d. place-below b d) f in
-      let b = every-places (λ q. q < g .p) (getD (t .levels) j []) (blocks-at (λ b. placeOf b < g .p) (t .levels) j a) in
-      let c : Every (λ q. q < g .p) (take n list) = rw (l .places) b in
-      let w : n ≡ length (take n list) = l .count ∙ sym (ap length (l .places) ∙ length-map (getD (t .levels) j []) placeOf) in
-      subst (λ (q : ℕ). q < g .p) (take-word n list i h) (every-entry (λ q. q < g .p) (take n list) c i (omega (arith, w)))
+  listed-low = listed-each (λ q. q < g .p) (every-turn (BlockFits g) (λ b. placeOf b < g .p) (allBlocks (t .levels)) (λ b d. place-below b d) f)
+
+  pub listed-high : (j : ℕ) (list : List ℕ) (n : ℕ) → Listed t j list n → (i : ℕ) → i < n → recordCount g ws (getD list i 0) ≤ g .b
+  listed-high =
+      listed-each (λ q. recordCount g ws q ≤ g .b)
+      (every-both (BlockFits g) (λ b. placeWords g (areaOf g ws) (placeOf b) ≡ blockWords g (b .recs)) (λ b. recordCount g ws (placeOf b) ≤ g .b) (allBlocks (t .levels))
+      (λ b d s. rw (count-read g ws (placeOf b) (b .recs) (d .fits) (sym (place-words g ws (placeOf b)) ∙ s)) (d .fits)) f (k .laid .standing))
 
 -- no level is longer than 2,048 blocks
 pub inside-short : (g : Geometry) (e t : Store) → Valid g → Inside g e t → (j : ℕ) → length (getD (t .levels) j []) ≤ 2048
@@ -148,6 +153,19 @@ module _ (g : Geometry) (e t : Store) (ws one two three : List ℕ) (r : Run) (v
       let tp = but-top-read g ws t v f k h in
       let lv = k .live in
       record { store = λ i. record { live = lv i; cursor = d i; top = tp i; levels = ls i }; held = k; first = a; second = b; third = c; cursor = d }
+
+  -- the records of a listed level can be counted
+  pub countable : HoldsBut g ws t → (j : ℕ) (list : List ℕ) (m : ℕ) → Listed t j list m → Countable g ws list m
+  countable k j list m l =
+      let f = inside-fit g e t n in
+      record {
+        valid = v;
+        words = k .long;
+        list-long = l .long;
+        few = omega (arith, l .count, inside-short g e t v n j);
+        place = listed-low g ws t v f k j list m l;
+        high = listed-high g ws t v f k j list m l;
+      }
 
   module _ (s : Stands g t ws one two three r) where
     -- the places in use are those that the lists name

@@ -1,10 +1,11 @@
 -- Step 5 for one level, on all lists.
-use Prim.Native.Nat.{ℕ, suc, _≤_, _<_}
+use Prim.Native.Nat.{ℕ, zero, suc, _≤_, _<_}
 use mathlib.Core.Path.{_≡_, refl, sym, ap, _∙_, subst}
 use mathlib.Core.Bool.{Bool, true, false}
 use mathlib.Core.List.{List, []}
 use mathlib.Core.Logic.{_≢_}
 use native.Mathlib.Omega.{arith}
+use borrow.Author.Tests.{ne-eqb}
 use lib.ListN.{length, take, getD, length-take}
 use Rattle.geometry.specs.declared.Geometry.{Geometry}
 use Rattle.geometry.specs.Geometry.{topCapacityOf}
@@ -13,17 +14,19 @@ use Rattle.levels.specs.Store.{Store}
 use Rattle.levels.specs.Call.{Compaction, compactLevel, compactIfNeeded, afterCompactions}
 use Rattle.levels.specs.Count as levels
 use Rattle.levels.specs.Inside.{Inside}
+use Rattle.levels.proofs.Entry.{inside-fit}
 use Rattle.levels.proofs.StoreRows.{set-at}
 use Rattle.levels.proofs.CompactInside.{needed-stepped}
-use Rattle.words.specs.Layout.{topCountAt, topSlots, topRecs}
+use Rattle.words.specs.Layout.{topCountAt, topSlots, topRecs, writeBlocks}
 use Rattle.words.specs.Calls.{compactedBlocks}
 use Rattle.words.proofs.Top.{top-slots-length}
 use Rattle.blocks.specs.Blocks.{Marks}
+use Rattle.compaction.specs.Machine.{Countable}
 use Rattle.steps.specs.declared.Run.{Run}
 use Rattle.steps.specs.declared.One.{One}
-use Rattle.steps.specs.Running.{namedIn, storeOf, Listed, Stands, Leaving, Running, compactedCounts, OneReady, OneLeft, relisted}
-use Rattle.steps.proofs.Standing.{stand, used-is}
-use Rattle.steps.proofs.Compacting.{needed-is, not-needed}
+use Rattle.steps.specs.Running.{namedIn, storeOf, Listed, Stands, Leaving, Running, compactedCounts, wastes, dueOf, OneReady, OneLeft, relisted}
+use Rattle.steps.proofs.Standing.{stand, used-is, listed-level, countable}
+use Rattle.steps.proofs.Compacting.{needed-is, not-needed, grown-none}
 
 -- level 0 of what stands has room in its words
 pub top-fits : (g : Geometry) (t : Store) (ws one two three : List ℕ) (r : Run) → Stands g t ws one two three r → length (t .top) ≤ topCapacityOf g
@@ -48,6 +51,20 @@ needed-keeps g t j = go (needsCompact (g .b) (getD (t .levels) j [])) refl
 pub listed-kept : (t u : Store) (j : ℕ) (list : List ℕ) (n : ℕ) → getD (u .levels) j [] ≡ getD (t .levels) j [] → Listed t j list n → Listed u j list n
 listed-kept t u j list n e k = record { long = k .long; count = k .count ∙ ap length (sym e); places = rw e (k .places) }
 
+-- the clauses of dueOf, as laws
+module _ (g : Geometry) (ws one two three : List ℕ) (r : Run) (level : ℕ) where
+  pub due-first : level ≡ 1 → dueOf g ws one two three r level ≡ wastes g ws one (r .n1)
+  unfolding dueOf
+  due-first e = rw e
+
+  pub due-second : level ≡ 2 → dueOf g ws one two three r level ≡ wastes g ws two (r .n2)
+  unfolding dueOf
+  due-second e = rw e
+
+  pub due-third : (level ≡ 1 → ⊥) → (level ≡ 2 → ⊥) → dueOf g ws one two three r level ≡ wastes g ws three (r .n3)
+  unfolding dueOf
+  due-third a b = rw (ne-eqb level 1 a, ne-eqb level 2 b)
+
 module _ (g : Geometry) (ws one two three : List ℕ) (r : Run) (k : Running 2000000000 g ws one two three r) where
   store : Store
   store = storeOf g ws one two three r
@@ -67,6 +84,12 @@ module _ (g : Geometry) (ws one two three : List ℕ) (r : Run) (k : Running 200
     small = k .small;
   }
 
+  -- what `is_due` asks
+  pub all-countable : Countable g ws one (r .n1) × (Countable g ws two (r .n2) × Countable g ws three (r .n3))
+  all-countable =
+      let c : (j : ℕ) (list : List ℕ) (m : ℕ) → Listed (storeOf g ws one two three r) j list m → Countable g ws list m = countable g (k .entry) (storeOf g ws one two three r) ws one two three r (k .valid) (k .inside) (k .stands .held) in
+      (c 0 one (r .n1) (k .stands .first), (c 1 two (r .n2) (k .stands .second), c 2 three (r .n3) (k .stands .third)))
+
   module _ (t : Store) (et : t ≡ storeOf g ws one two three r) where
     stands : Stands g t ws one two three r
     stands = subst (λ (x : Store). Stands g x ws one two three r) (sym et) (k .stands)
@@ -76,6 +99,24 @@ module _ (g : Geometry) (ws one two three : List ℕ) (r : Run) (k : Running 200
 
     after : ℕ → Store
     after j = afterCompactions t (compactIfNeeded g (suc j) t)
+
+    -- a level that does not need compacting
+    not-wasted : (j : ℕ) (list : List ℕ) (m : ℕ) → Listed t j list m → wastes g ws list m ≡ false → compactIfNeeded g (suc j) t ≡ []
+    not-wasted j list m l h = not-needed g t j (ap (needsCompact (g .b)) (sym (listed-level g ws t (k .valid) (inside-fit g (k .entry) t inside) (stands .held) j list m l)) ∙ h)
+
+    none-due : (level : ℕ) → 1 ≤ level → level ≤ g .h → dueOf g ws one two three r level ≡ false → compactIfNeeded g level t ≡ []
+    unfolding dueOf
+    none-due zero a b h = absurd (omega arith)
+    none-due (suc zero) a b h = not-wasted 0 one (r .n1) (stands .first) h
+    none-due (suc (suc zero)) a b h = not-wasted 1 two (r .n2) (stands .second) h
+    none-due (suc (suc (suc zero))) a b h = not-wasted 2 three (r .n3) (stands .third) h
+    none-due (suc (suc (suc (suc n)))) a b h = absurd (omega (arith, k .valid .ranged .h-high))
+
+    pub kept-level : (level : ℕ) (u : Run) → u ≡ r → 1 ≤ level → level ≤ g .h → dueOf g ws one two three r level ≡ false
+        → Leaving g (afterCompactions t (compactIfNeeded g level t)) (compactedBlocks (compactIfNeeded g level t)) (compactedCounts (compactIfNeeded g level t)) ws r ws one two three u
+    unfolding writeBlocks
+    kept-level level u q a b h =
+        rw (none-due level a b h, q) (record { stands = stands; area = refl; counts = grown-none (compactedCounts []) (r .tally) (λ i. (refl, refl, refl)) })
 
     pub compacted-first : (level : ℕ) (ws' one' : List ℕ) (d : One) (u : Run) → level ≡ 1 → 1 ≤ g .h → u ≡ relisted r 0 d
         → OneLeft (afterCompactions t (compactIfNeeded g 1 t)) (compactedBlocks (compactIfNeeded g 1 t)) (compactedCounts (compactIfNeeded g 1 t)) g ws ws' one' 0 (r .tally) d

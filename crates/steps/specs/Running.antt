@@ -9,6 +9,7 @@ use Rattle.geometry.specs.declared.Geometry.{Geometry}
 use Rattle.geometry.specs.Geometry.{Valid, topCapacityOf}
 use Rattle.levels.specs.Basics.{if_then_else_}
 use Rattle.levels.specs.Record.{Block}
+use Rattle.levels.specs.Waste.{needsCompact}
 use Rattle.levels.specs.Store.{Store, usedIn}
 use Rattle.levels.specs.Call.{Compaction, Merge, mergeLevel}
 use Rattle.levels.specs.Count.{blocksMerged, totalCompacted}
@@ -124,6 +125,14 @@ pub record Running (n : ℕ) (g : Geometry) (ws one two three : List ℕ) (r : R
 -- the counts of compactions
 abbrev pub compactedCounts : List Compaction → ℕ → levels.Counts
 compactedCounts cs j = record { merges = 0; written = 0; compacted = totalCompacted j cs }
+
+-- step 5's "if needed", of the n blocks that a list names
+abbrev pub wastes : Geometry → List ℕ → List ℕ → ℕ → Bool
+wastes g ws list n = needsCompact (g .b) (map (blockAt g ws) (take n list))
+
+-- and of level 1, 2 or 3
+unfoldable pub dueOf : Geometry → List ℕ → List ℕ → List ℕ → List ℕ → Run → ℕ → Bool
+dueOf g ws one two three r level = if eqb level 1 then wastes g ws one (r .n1) else (if eqb level 2 then wastes g ws two (r .n2) else wastes g ws three (r .n3))
 
 -- Step 5 for level j + 1 of the store t: what it asks, and what it leaves.
 pub record OneReady (e t : Store) (g : Geometry) (ws : List ℕ) (used : List Bool) (list : List ℕ) (j n cursor : ℕ) (tally : Tally) : Type 0 where

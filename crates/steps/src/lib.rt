@@ -1,6 +1,7 @@
 // One merge of a call with its step 5: while the merges run, the place lists stand in work arrays apart from the words.
 
 ghost use mathlib.Core.Path.{_≡_};
+ghost use mathlib.Core.Bool.{true};
 ghost use Prim.Native.Nat.{ℕ, suc, _+_, _≤_};
 ghost use lib.ListN.{length, take};
 ghost use mathlib.Core.List.{map, _++_};
@@ -9,12 +10,12 @@ ghost use Rattle.levels.specs.Place.{Allocation, settle};
 ghost use Rattle.words.specs.Layout.{blockAt};
 ghost use Rattle.merging.specs.Contract.{Leaves};
 ghost use Rattle.pair.specs.Contract.{InUse};
-ghost use Rattle.compaction.specs.Machine.{Compactable};
+ghost use Rattle.compaction.specs.Machine.{Countable, Compactable};
 ghost use Rattle.levels.specs.Store.{Store};
 ghost use Rattle.levels.specs.Call.{compactIfNeeded, afterCompactions, mergeLevel, afterMerge};
 ghost use Rattle.words.specs.Calls.{compactedBlocks};
 ghost use Rattle.blocks.specs.Blocks.{Marks};
-ghost use Rattle.steps.specs.Running.{namedIn, storeOf, Markable, sumOf, counted, Few, Small, Leaving, Running, compactedCounts, OneReady, OneAsked, OneLeft, relisted, mergedCounts, TwoReady, TwoAsked, TwoLeft, PageReady, PageAsked, StepReady, stepCounts};
+ghost use Rattle.steps.specs.Running.{namedIn, storeOf, Markable, sumOf, counted, Few, Small, Leaving, Running, compactedCounts, wastes, dueOf, OneReady, OneAsked, OneLeft, relisted, mergedCounts, TwoReady, TwoAsked, TwoLeft, PageReady, PageAsked, StepReady, stepCounts};
 use geometry::Geometry;
 use merging::Merged;
 
@@ -131,7 +132,7 @@ fn compact_list(
     r
 }
 
-// Step 5 for level j + 1, whose list this is: it is compacted if needed.
+// Step 5 for level j + 1, whose list this is and which needs it.
 fn compact_one(
     s: &mut [u32],
     used: &mut [bool; 8192],
@@ -142,17 +143,10 @@ fn compact_one(
     cursor: usize,
     tally: Tally,
 ) -> One
-    requires { ⌜ OneAsked g (now s) (now used) (now list) j n cursor tally ⌝ }
+    requires { ⌜ OneAsked g (now s) (now used) (now list) j n cursor tally × (wastes g (now s) (now list) n ≡ true) ⌝ }
     ensures { λ r. ⌜ ((e t : Store) → OneReady e t g (now (s .entry)) (now (used .entry)) (now (list .entry)) j n cursor tally
         → OneLeft (afterCompactions t (compactIfNeeded g (suc j) t)) (compactedBlocks (compactIfNeeded g (suc j) t)) (compactedCounts (compactIfNeeded g (suc j) t)) g (now (s .entry)) (now (s .exit)) (now (list .exit)) j tally r) ⌝ }
 {
-    if !compaction::needs_compacting(s, list, g, n) {
-        return One {
-            n: n,
-            cursor: cursor,
-            tally: tally,
-        };
-    }
     let m = compact_list(s, used, list, g, n, cursor);
     let c = Counts {
         merges: 0,
@@ -204,7 +198,29 @@ fn relist(r: Run, j: usize, d: One) -> Run
     }
 }
 
-// Step 5 for one level, by its number.
+// A level, by its number, needs compacting.
+fn is_due(
+    s: &[u32],
+    one: &[u32; 4096],
+    two: &[u32; 4096],
+    three: &[u32; 4096],
+    g: Geometry,
+    level: usize,
+    r: Run,
+) -> bool
+    requires { ⌜ Countable g (now s) (now one) (r .n1) × (Countable g (now s) (now two) (r .n2) × Countable g (now s) (now three) (r .n3)) ⌝ }
+    ensures { λ d. ⌜ d ≡ dueOf g (now (s .entry)) (now (one .entry)) (now (two .entry)) (now (three .entry)) r level ⌝ }
+{
+    if level == 1 {
+        return compaction::needs_compacting(s, one, g, r.n1);
+    }
+    if level == 2 {
+        return compaction::needs_compacting(s, two, g, r.n2);
+    }
+    compaction::needs_compacting(s, three, g, r.n3)
+}
+
+// Step 5 for one level, by its number. The places in use are marked only where something is written.
 fn compact_level(
     s: &mut [u32],
     one: &mut [u32; 4096],
@@ -218,6 +234,9 @@ fn compact_level(
     ensures { λ u. ⌜ ((t : Store) → t ≡ storeOf g (now (s .entry)) (now (one .entry)) (now (two .entry)) (now (three .entry)) r
         → Leaving g (afterCompactions t (compactIfNeeded g level t)) (compactedBlocks (compactIfNeeded g level t)) (compactedCounts (compactIfNeeded g level t)) (now (s .entry)) r (now (s .exit)) (now (one .exit)) (now (two .exit)) (now (three .exit)) u) ⌝ }
 {
+    if !is_due(s, one, two, three, g, level, r) {
+        return r;
+    }
     let mut used = marks(one, two, three, r);
     let cursor = r.cursor;
     let tally = r.tally;

@@ -1,7 +1,8 @@
-use mathlib.Core.Path.{_≡_, refl}
+use mathlib.Core.Path.{refl, sym, _∙_}
+use borrow.Author.Tests.{not-true, not-false}
 use native.Mathlib.Omega.{arith}
 use Rattle.steps.proofs.Standing.{markable}
-use Rattle.steps.proofs.Stepping.{one-asks, compacted-first, compacted-second, compacted-third}
+use Rattle.steps.proofs.Stepping.{one-asks, all-countable, kept-level, due-first, due-second, due-third, compacted-first, compacted-second, compacted-third}
 use borrow.Author.Needs.{needs}
 use Rattle.steps.proofs.compact_level.Statement.{statement}
 use Rattle.steps.proofs.compact_level.Tie as tie
@@ -10,97 +11,99 @@ use Rattle.steps.proofs.compact_level.Lts as lts
 use Rattle.steps.proofs.compact_one.Reads as compact-one-reads
 use Rattle.steps.proofs.marks.Reads as marks-reads
 use Rattle.steps.proofs.relist.Reads as relist-reads
+use Rattle.steps.proofs.is_due.Reads as is-due-reads
 
--- src/lib.rt:214:20
-marks-requires : tie.Need-marks-requires
-marks-requires c κs = let p = c .before .before .before .before .pre .0 in markable _ _ _ _ _ _ _ _ (p .valid) (p .inside) (p .stands)
+is-due-requires : tie.Need-is-due-requires
+is-due-requires c κs = all-countable _ _ _ _ _ _ (c .before .before .before .before .before .pre .0)
 
--- src/lib.rt:218:13
-compact-one-requires : tie.Need-compact-one-requires
-compact-one-requires c κs =
-    let p = c .before .before .before .before .before .before .before .before .before .before .pre in
-    let k = p .0 in
-    let m = c .before .before .before .before .before .marks .ensures in
-    record { entry = k .entry; store = _; ready = one-asks _ _ _ _ _ _ k _ (m .0) (m .1) 0 _ _ (omega (arith, p .1 .0, p .1 .1)) (k .stands .first) }
-
--- src/lib.rt:219:9
-relist-requires : tie.Need-relist-requires
-relist-requires c κs = search needs
-
--- src/lib.rt:219:9
 same-length : tie.Need-same-length
 same-length c = search needs
 
--- src/lib.rt:219:9
 returns : tie.Need-returns
 returns c =
-    let p = c .before .before .before .before .before .before .before .before .before .before .before .before .before .before .pre in
+    let p = c .before .before .before .before .before .before .before .pre in
+    λ t e. kept-level _ _ _ _ _ _ (p .0) t e _ _ refl (p .1 .0) (p .1 .1) (sym (c .before .is-due .ensures) ∙ not-true _ (c .if1 .taken))
+
+marks-requires : tie.Need-marks-requires
+marks-requires c κs = let p = c .before .before .before .before .before .before .before .before .before .before .pre .0 in markable _ _ _ _ _ _ _ _ (p .valid) (p .inside) (p .stands)
+
+compact-one-requires : tie.Need-compact-one-requires
+compact-one-requires c κs =
+    let p = c .before .before .before .before .before .before .before .before .before .before .before .before .before .before .before .before .pre in
     let k = p .0 in
-    let m = c .before .before .before .before .before .before .before .before .before .marks .ensures in
-    λ t e. compacted-first _ _ _ _ _ _ k t e _ _ _ _ _ (c .before .before .before .before .before .before .before .if1 .taken) (omega (arith, p .1 .0, p .1 .1)) (c .relist .ensures) (rw e (c .before .before .before .compact-one .ensures (k .entry) _ (one-asks _ _ _ _ _ _ k _ (m .0) (m .1) 0 _ _ (omega (arith, p .1 .0, p .1 .1)) (k .stands .first))))
+    let m = c .before .before .before .before .before .marks .ensures in
+    (record { entry = k .entry; store = _; ready = one-asks _ _ _ _ _ _ k _ (m .0) (m .1) 0 _ _ (omega (arith, p .1 .0, p .1 .1)) (k .stands .first) }, sym (due-first _ _ _ _ _ _ _ (c .before .before .before .if2 .taken)) ∙ sym (c .before .before .before .before .before .before .before .before .before .before .is-due .ensures) ∙ not-false _ (c .before .before .before .before .before .before .before .before .before .if1 .left))
 
--- src/lib.rt:222:13
-compact-one-requires-2 : tie.Need-compact-one-requires-2
-compact-one-requires-2 c κs =
-    let p = c .before .before .before .before .before .before .before .before .before .before .before .pre in
-    let k = p .0 in
-    let m = c .before .before .before .before .before .before .marks .ensures in
-    record { entry = k .entry; store = _; ready = one-asks _ _ _ _ _ _ k _ (m .0) (m .1) 1 _ _ (omega (arith, p .1 .1, c .before .before .before .if2 .taken)) (k .stands .second) }
+relist-requires : tie.Need-relist-requires
+relist-requires c κs = search needs
 
--- src/lib.rt:223:9
-relist-requires-2 : tie.Need-relist-requires-2
-relist-requires-2 c κs = search needs
-
--- src/lib.rt:223:9
 same-length-2 : tie.Need-same-length-2
 same-length-2 c = search needs
 
--- src/lib.rt:223:9
 returns-2 : tie.Need-returns-2
 returns-2 c =
-    let p = c .before .before .before .before .before .before .before .before .before .before .before .before .before .before .before .pre in
+    let p = c .before .before .before .before .before .before .before .before .before .before .before .before .before .before .before .before .before .before .before .before .pre in
     let k = p .0 in
-    let m = c .before .before .before .before .before .before .before .before .before .before .marks .ensures in
-    λ t e. compacted-second _ _ _ _ _ _ k t e _ _ _ _ _ (c .before .before .before .before .before .before .before .if2 .taken) (omega (arith, p .1 .1, c .before .before .before .before .before .before .before .if2 .taken)) (c .relist2 .ensures) (rw e (c .before .before .before .compact-one2 .ensures (k .entry) _ (one-asks _ _ _ _ _ _ k _ (m .0) (m .1) 1 _ _ (omega (arith, p .1 .1, c .before .before .before .before .before .before .before .if2 .taken)) (k .stands .second))))
+    let m = c .before .before .before .before .before .before .before .before .before .marks .ensures in
+    λ t e. compacted-first _ _ _ _ _ _ k t e _ _ _ _ _ (c .before .before .before .before .before .before .before .if2 .taken) (omega (arith, p .1 .0, p .1 .1)) (c .relist .ensures) (rw e (c .before .before .before .compact-one .ensures (k .entry) _ (one-asks _ _ _ _ _ _ k _ (m .0) (m .1) 0 _ _ (omega (arith, p .1 .0, p .1 .1)) (k .stands .first))))
 
--- src/lib.rt:225:9
-compact-one-requires-3 : tie.Need-compact-one-requires-3
-compact-one-requires-3 c κs =
-    let p = c .before .before .before .before .before .before .before .before .before .before .before .pre in
+compact-one-requires-2 : tie.Need-compact-one-requires-2
+compact-one-requires-2 c κs =
+    let p = c .before .before .before .before .before .before .before .before .before .before .before .before .before .before .before .before .before .pre in
     let k = p .0 in
     let m = c .before .before .before .before .before .before .marks .ensures in
-    record { entry = k .entry; store = _; ready = one-asks _ _ _ _ _ _ k _ (m .0) (m .1) 2 _ _ (omega (arith, p .1 .0, p .1 .1, c .before .before .before .if2 .left, c .before .before .before .before .if1 .left)) (k .stands .third) }
+    (record { entry = k .entry; store = _; ready = one-asks _ _ _ _ _ _ k _ (m .0) (m .1) 1 _ _ (omega (arith, p .1 .1, c .before .before .before .if3 .taken)) (k .stands .second) }, sym (due-second _ _ _ _ _ _ _ (c .before .before .before .if3 .taken)) ∙ sym (c .before .before .before .before .before .before .before .before .before .before .before .is-due .ensures) ∙ not-false _ (c .before .before .before .before .before .before .before .before .before .before .if1 .left))
 
--- src/lib.rt:226:5
-relist-requires-3 : tie.Need-relist-requires-3
-relist-requires-3 c κs = search needs
+relist-requires-2 : tie.Need-relist-requires-2
+relist-requires-2 c κs = search needs
 
--- src/lib.rt:201:1
 same-length-3 : tie.Need-same-length-3
 same-length-3 c = search needs
 
--- src/lib.rt:201:1
 returns-3 : tie.Need-returns-3
 returns-3 c =
-    let p = c .before .before .before .before .before .before .before .before .before .before .before .before .before .before .before .pre in
+    let p = c .before .before .before .before .before .before .before .before .before .before .before .before .before .before .before .before .before .before .before .before .before .pre in
     let k = p .0 in
     let m = c .before .before .before .before .before .before .before .before .before .before .marks .ensures in
-    λ t e. compacted-third _ _ _ _ _ _ k t e _ _ _ _ _ (omega (arith, p .1 .0, p .1 .1, k .valid .ranged .h-high, c .before .before .before .before .before .before .before .if2 .left, c .before .before .before .before .before .before .before .before .if1 .left)) (omega (arith, p .1 .0, p .1 .1, c .before .before .before .before .before .before .before .if2 .left, c .before .before .before .before .before .before .before .before .if1 .left)) (c .relist3 .ensures) (rw e (c .before .before .before .compact-one3 .ensures (k .entry) _ (one-asks _ _ _ _ _ _ k _ (m .0) (m .1) 2 _ _ (omega (arith, p .1 .0, p .1 .1, c .before .before .before .before .before .before .before .if2 .left, c .before .before .before .before .before .before .before .before .if1 .left)) (k .stands .third))))
+    λ t e. compacted-second _ _ _ _ _ _ k t e _ _ _ _ _ (c .before .before .before .before .before .before .before .if3 .taken) (omega (arith, p .1 .1, c .before .before .before .before .before .before .before .if3 .taken)) (c .relist2 .ensures) (rw e (c .before .before .before .compact-one2 .ensures (k .entry) _ (one-asks _ _ _ _ _ _ k _ (m .0) (m .1) 1 _ _ (omega (arith, p .1 .1, c .before .before .before .before .before .before .before .if3 .taken)) (k .stands .second))))
+
+compact-one-requires-3 : tie.Need-compact-one-requires-3
+compact-one-requires-3 c κs =
+    let p = c .before .before .before .before .before .before .before .before .before .before .before .before .before .before .before .before .before .pre in
+    let k = p .0 in
+    let m = c .before .before .before .before .before .before .marks .ensures in
+    (record { entry = k .entry; store = _; ready = one-asks _ _ _ _ _ _ k _ (m .0) (m .1) 2 _ _ (omega (arith, p .1 .0, p .1 .1, c .before .before .before .if3 .left, c .before .before .before .before .if2 .left)) (k .stands .third) }, sym (due-third _ _ _ _ _ _ _ (c .before .before .before .before .if2 .left) (c .before .before .before .if3 .left)) ∙ sym (c .before .before .before .before .before .before .before .before .before .before .before .is-due .ensures) ∙ not-false _ (c .before .before .before .before .before .before .before .before .before .before .if1 .left))
+
+relist-requires-3 : tie.Need-relist-requires-3
+relist-requires-3 c κs = search needs
+
+same-length-4 : tie.Need-same-length-4
+same-length-4 c = search needs
+
+returns-4 : tie.Need-returns-4
+returns-4 c =
+    let p = c .before .before .before .before .before .before .before .before .before .before .before .before .before .before .before .before .before .before .before .before .before .pre in
+    let k = p .0 in
+    let m = c .before .before .before .before .before .before .before .before .before .before .marks .ensures in
+    λ t e. compacted-third _ _ _ _ _ _ k t e _ _ _ _ _ (omega (arith, p .1 .0, p .1 .1, k .valid .ranged .h-high, c .before .before .before .before .before .before .before .if3 .left, c .before .before .before .before .before .before .before .before .if2 .left)) (omega (arith, p .1 .0, p .1 .1, c .before .before .before .before .before .before .before .if3 .left, c .before .before .before .before .before .before .before .before .if2 .left)) (c .relist3 .ensures) (rw e (c .before .before .before .compact-one3 .ensures (k .entry) _ (one-asks _ _ _ _ _ _ k _ (m .0) (m .1) 2 _ _ (omega (arith, p .1 .0, p .1 .1, c .before .before .before .before .before .before .before .if3 .left, c .before .before .before .before .before .before .before .before .if2 .left)) (k .stands .third))))
 
 pub compact-level-spec : {M : Type 1} → statement M
 compact-level-spec =
     tie.close
     (tie.spec
+    is-due-requires
+    same-length
+    returns
     marks-requires
     compact-one-requires
     relist-requires
-    same-length
-    returns
-    compact-one-requires-2
-    relist-requires-2
     same-length-2
     returns-2
+    compact-one-requires-2
+    relist-requires-2
+    same-length-3
+    returns-3
     compact-one-requires-3
     relist-requires-3
-    same-length-3
-    returns-3)
+    same-length-4
+    returns-4)
