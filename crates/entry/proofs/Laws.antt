@@ -60,14 +60,14 @@ size-none n g e = short (ltb n headerLength) refl
     short false k = legal (isLegal g) (ltb-false n headerLength k) refl
 
 -- the two cases of an answer to the reason r
-pick-ready : (r : ℕ) (s g : Geometry) → pickOpened r s ≡ Ready g → (g ≡ s) × (r ≡ 0)
+pub pick-ready : (r : ℕ) (s g : Geometry) → pickOpened r s ≡ Ready g → (g ≡ s) × (r ≡ 0)
 pick-ready r s g e = go (eqb r 0) refl e
   where
     go : (a : Bool) → eqb r 0 ≡ a → elim a [ true ↦ Ready s | false ↦ Refused r ] ≡ Ready g → (g ≡ s) × (r ≡ 0)
     go true q k = (let w : s ≡ g = cc in sym w, eqb-true r 0 q)
     go false q k = absurd (let z : _≡_ {A = ℕ} 0 1 = cc in omega arith)
 
-pick-refused : (r : ℕ) (s : Geometry) (n : ℕ) → pickOpened r s ≡ Refused n → (r ≡ n) × (1 ≤ n)
+pub pick-refused : (r : ℕ) (s : Geometry) (n : ℕ) → pickOpened r s ≡ Refused n → (r ≡ n) × (1 ≤ n)
 pick-refused r s n e = go (eqb r 0) refl e
   where
     go : (a : Bool) → eqb r 0 ≡ a → elim a [ true ↦ Ready s | false ↦ Refused r ] ≡ Refused n → (r ≡ n) × (1 ≤ n)

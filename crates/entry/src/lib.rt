@@ -6,6 +6,8 @@ ghost use Rattle.entry.specs.Entry.{fitOf, openedOf};
 use geometry::Built;
 use geometry::Geometry;
 
+// A geometry that there is no reason to turn down, or the reason. The form check of crate `form`, which goes on
+// from here to reason 4, answers the same.
 pub enum Opened {
     Ready(Geometry),
     Refused(u32),

@@ -4,8 +4,7 @@ use mathlib.Core.Path.{_≡_, refl, sym, ap, _∙_, subst}
 use mathlib.Core.Bool.{Bool, true, false, and-eq-true-iff}
 use mathlib.Core.List.{List}
 use native.Mathlib.Omega.{arith}
-use lib.Dec.{eqb}
-use borrow.Author.Tests.{eqb-true, eqb-false, ne-eqb}
+use borrow.Author.Tests.{ne-eqb}
 use Rattle.geometry.specs.declared.Geometry.{Geometry}
 use Rattle.levels.specs.Basics.{if_then_else_, orElse}
 use Rattle.levels.specs.Map.{find, view, decides}
@@ -13,29 +12,28 @@ use Rattle.levels.specs.Store.{rows}
 use Rattle.words.specs.Layout.{geometryAt, storeAt}
 use Rattle.words.specs.Form.{clauses, formed, blocksFilled, keysRise, liveExact, reasonOf}
 use Rattle.entry.specs.declared.Opened.{Opened}
-use Rattle.entry.specs.declared.Opened.the-variants as opened
-use Rattle.entry.specs.Entry.{Sized, openedOf}
-use Rattle.entry.proofs.Laws.{opened-ready, opened-refused, ready-reason, refused-reason}
+use Rattle.entry.specs.declared.Opened.the-variants.{Ready, Refused}
+use Rattle.entry.specs.Entry.{Sized, pickOpened, openedOf}
+use Rattle.entry.proofs.Laws.{pick-ready, pick-refused, opened-ready, opened-refused, ready-reason, refused-reason}
 use Rattle.directory.specs.Directory.{Formed, recordsOf}
 use Rattle.walk.specs.Walk.{layered}
-use Rattle.form.specs.declared.Checked.the-variants.{Ready, Refused}
-use Rattle.form.specs.Checked.{pickChecked, checkedOf}
+use Rattle.form.specs.Checked.{checkedOf}
 use Rattle.form.specs.Form.{Headed, listsOk, topOf, levelOf, passed}
 use Rattle.form.proofs.Clauses.{formed-is, passed-filled, passed-formed, layered-is, decides-is}
 
 -- The answers of `check`, by what the code has found out.
-pub checked-opened : (ws : List ℕ) (n : ℕ) → openedOf ws ≡ opened.Refused n → Refused n ≡ checkedOf ws
+pub checked-opened : (ws : List ℕ) (n : ℕ) → openedOf ws ≡ Refused n → Refused n ≡ checkedOf ws
 unfolding checkedOf
-checked-opened ws n e = let k = opened-refused ws n e in rw (refused-reason ws n e, ne-eqb n 0 (λ z. omega arith), pickChecked, refused-reason ws n e)
+checked-opened ws n e = let k = opened-refused ws n e in rw (refused-reason ws n e, ne-eqb n 0 (λ z. omega arith), pickOpened, refused-reason ws n e)
 
-pub checked-passed : (ws : List ℕ) (g : Geometry) → openedOf ws ≡ opened.Ready g → passed g ws ≡ true → Ready g ≡ checkedOf ws
+pub checked-passed : (ws : List ℕ) (g : Geometry) → openedOf ws ≡ Ready g → passed g ws ≡ true → Ready g ≡ checkedOf ws
 unfolding checkedOf
 checked-passed ws g e p =
     let z = opened-ready ws g e in
     let r : reasonOf ws ≡ 0 = ready-reason ws g e ∙ rw (← formed-is g ws z, p) in
     rw r (ap Ready (z .geometry))
 
-pub checked-broken : (ws : List ℕ) (g : Geometry) → openedOf ws ≡ opened.Ready g → passed g ws ≡ false → Refused 4 ≡ checkedOf ws
+pub checked-broken : (ws : List ℕ) (g : Geometry) → openedOf ws ≡ Ready g → passed g ws ≡ false → Refused 4 ≡ checkedOf ws
 unfolding checkedOf
 checked-broken ws g e p =
     let z = opened-ready ws g e in
@@ -45,20 +43,12 @@ checked-broken ws g e p =
 -- "Ready": there is no reason to turn the store down, and its first words give the geometry
 pub checked-ready : (ws : List ℕ) (g : Geometry) → checkedOf ws ≡ Ready g → (g ≡ geometryAt ws) × (reasonOf ws ≡ 0)
 unfolding checkedOf
-checked-ready ws g e = go (eqb (reasonOf ws) 0) refl e
-  where
-    go : (a : Bool) → eqb (reasonOf ws) 0 ≡ a → elim a [ true ↦ Ready (geometryAt ws) | false ↦ Refused (reasonOf ws) ] ≡ Ready g → (g ≡ geometryAt ws) × (reasonOf ws ≡ 0)
-    go true q k = (let w : geometryAt ws ≡ g = cc in sym w, eqb-true (reasonOf ws) 0 q)
-    go false q k = absurd (let z : _≡_ {A = ℕ} 0 1 = cc in omega arith)
+checked-ready ws g e = pick-ready (reasonOf ws) (geometryAt ws) g e
 
 -- "Refused": the number is the reason of document 01
 pub checked-refused : (ws : List ℕ) (n : ℕ) → checkedOf ws ≡ Refused n → (reasonOf ws ≡ n) × (1 ≤ n)
 unfolding checkedOf
-checked-refused ws n e = go (eqb (reasonOf ws) 0) refl e
-  where
-    go : (a : Bool) → eqb (reasonOf ws) 0 ≡ a → elim a [ true ↦ Ready (geometryAt ws) | false ↦ Refused (reasonOf ws) ] ≡ Refused n → (reasonOf ws ≡ n) × (1 ≤ n)
-    go true q k = absurd (let z : _≡_ {A = ℕ} 0 1 = cc in omega arith)
-    go false q k = let w : reasonOf ws ≡ n = cc in (w, omega (arith, eqb-false (reasonOf ws) 0 q))
+checked-refused ws n e = pick-refused (reasonOf ws) (geometryAt ws) n e
 
 -- the other way: a store that there is no reason to turn down is ready
 pub checked-none : (ws : List ℕ) → reasonOf ws ≡ 0 → checkedOf ws ≡ Ready (geometryAt ws)
@@ -74,12 +64,12 @@ ready-formed ws g e = go (openedOf ws) refl
     pick false h = absurd (omega arith)
 
     go : (o : Opened) → openedOf ws ≡ o → Sized g ws × (formed g ws ≡ true)
-    go (opened.Ready t) q =
+    go (Ready t) q =
         let k = checked-ready ws g e in
         let z = opened-ready ws t q in
         let f = pick (formed t ws) (sym (ready-reason ws t q) ∙ k .1) in
         subst (λ (u : Geometry). Sized u ws × (formed u ws ≡ true)) (z .geometry ∙ sym (k .0)) (z, f)
-    go (opened.Refused n) q =
+    go (Refused n) q =
         absurd (omega (arith, checked-ready ws g e .1, refused-reason ws n q, opened-refused ws n q .1))
 
 module _ (ws : List ℕ) (g : Geometry) (e : checkedOf ws ≡ Ready g) where

@@ -13,23 +13,17 @@ use directory::Directory;
 use entry::Opened;
 use geometry::Geometry;
 
-// The geometry of a store that passes, or the reason that it is turned down for.
-pub enum Checked {
-    Ready(Geometry),
-    Refused(u32),
-}
-
-// What every call begins with.
-pub fn check(s: &[u32]) -> Checked
+// What every call begins with: the geometry of a store that passes, or the reason that it is turned down for.
+pub fn check(s: &[u32]) -> Opened
     ensures { λ r. ⌜ r ≡ checkedOf (now (s .entry)) ⌝ }
 {
     match entry::open(s) {
-        Opened::Refused(n) => Checked::Refused(n),
+        Opened::Refused(n) => Opened::Refused(n),
         Opened::Ready(g) => {
             if passes(s, g) {
-                Checked::Ready(g)
+                Opened::Ready(g)
             } else {
-                Checked::Refused(4)
+                Opened::Refused(4)
             }
         }
     }

@@ -18,6 +18,7 @@ use Rattle.levels.specs.Map.{find, unmarked, mapOf, decides, present, firstFrom
 use Rattle.levels.specs.Store.{rows}
 use Rattle.words.specs.Layout.{word, storeAt, countAt, levelAt, blockAt}
 use Rattle.words.specs.Calls.{lookAnswer, nextAnswer, enclosing, partOf, showIn}
+use Rattle.entry.specs.declared.Opened.the-variants.{Ready}
 use Rattle.chunks.specs.Chunks.{chunkRecs}
 use Rattle.directory.specs.declared.Directory.{Directory}
 use Rattle.directory.specs.Directory.{Formed, chunkAt, recordsOf}
@@ -28,7 +29,6 @@ use Rattle.search.specs.declared.Found.the-variants as found
 use Rattle.search.specs.declared.Enclosed.{Enclosed}
 use Rattle.search.specs.declared.Enclosed.the-variants as enclosed
 use Rattle.search.specs.Search.{foundOf, encloses, enclosedFrom, enclosedOf}
-use Rattle.form.specs.declared.Checked.the-variants.{Ready}
 use Rattle.form.specs.Form.{topOf, levelOf}
 use Rattle.form.specs.Checked.{checkedOf}
 use Rattle.form.proofs.Parts.{wordsFrom, Listed}

@@ -13,10 +13,10 @@ use Rattle.levels.specs.Store.{rows}
 use Rattle.words.specs.Layout.{geometryAt, storeAt}
 use Rattle.words.specs.Form.{reasonOf}
 use Rattle.words.specs.Calls.{lookAnswer, lookUpOf, nextAnswer, nextOf, showIn, showOf, checkOf}
+use Rattle.entry.specs.declared.Opened.{Opened}
+use Rattle.entry.specs.declared.Opened.the-variants.{Ready, Refused}
 use Rattle.search.specs.declared.Found.{Found}
 use Rattle.search.specs.Search.{foundOf}
-use Rattle.form.specs.declared.Checked.{Checked}
-use Rattle.form.specs.declared.Checked.the-variants.{Ready, Refused}
 use Rattle.form.specs.Checked.{checkedOf}
 use Rattle.form.proofs.Ready.{checked-ready, checked-refused}
 use Rattle.reader.specs.Answers.{lookedAnswer, lookedOf, nextedAnswer}
@@ -83,7 +83,7 @@ part-words ws i k = go (eqb (reasonOf ws) 0)
 part-inside : (ws : List ℕ) (i k : ℕ) → Inside ws (showPart ws i k)
 part-inside ws i k = go (checkedOf ws) refl
   where
-    go : (c : Checked) → checkedOf ws ≡ c → Inside ws (showPart ws i k)
+    go : (c : Opened) → checkedOf ws ≡ c → Inside ws (showPart ws i k)
     go (Ready g) e = subst (Inside ws) (show-ready ws g e i k) (part-inside-in ws g e i k)
     go (Refused n) e = subst (Inside ws) (show-refused ws n e i k) (empty-inside ws)
 

@@ -11,7 +11,7 @@ use Rattle.words.specs.Demand.{Demand, ownPut, ownDelete}
 use Rattle.words.proofs.Steps.{put-of, delete-of}
 use Rattle.words.proofs.Demand.{put-demand, delete-demand}
 use Rattle.words.proofs.MapAfter.{put-enters, delete-takes-out, put-refused-words, delete-refused-words, put-full-only}
-use Rattle.form.specs.declared.Checked.the-variants.{Ready, Refused}
+use Rattle.entry.specs.declared.Opened.the-variants.{Ready, Refused}
 use Rattle.form.specs.Checked.{checkedOf}
 use Rattle.form.proofs.Ready.{checked-ready, checked-refused}
 use Rattle.writer.specs.declared.Changed.{Changed}

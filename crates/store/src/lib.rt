@@ -11,7 +11,6 @@ ghost use Rattle.store.specs.Change.{PutDone, DeleteDone};
 ghost use Rattle.store.specs.Format.{headed};
 ghost use Rattle.store.specs.Show.{showPart};
 use entry::Opened;
-use form::Checked;
 use geometry::Geometry;
 use reader::Looked;
 use reader::Nexted;
@@ -74,8 +73,8 @@ pub fn check(s: &[u32]) -> u32
     ensures { λ r. ⌜ r ≡ checkOf (now (s .entry)) ⌝ }
 {
     match form::check(s) {
-        Checked::Refused(n) => n,
-        Checked::Ready(_) => 0,
+        Opened::Refused(n) => n,
+        Opened::Ready(_) => 0,
     }
 }
 
@@ -84,8 +83,8 @@ pub fn look_up(s: &[u32], k: u32) -> Looked
     ensures { λ r. ⌜ lookedAnswer r ≡ lookUpOf (now (s .entry)) k ⌝ }
 {
     match form::check(s) {
-        Checked::Refused(n) => Looked::Refused(n),
-        Checked::Ready(g) => reader::look_answer(reader::find_key(s, g, k as usize)),
+        Opened::Refused(n) => Looked::Refused(n),
+        Opened::Ready(g) => reader::look_answer(reader::find_key(s, g, k as usize)),
     }
 }
 
@@ -94,8 +93,8 @@ pub fn next(s: &[u32], k: u32) -> Nexted
     ensures { λ r. ⌜ nextedAnswer r ≡ nextOf (now (s .entry)) k ⌝ }
 {
     match form::check(s) {
-        Checked::Refused(n) => Nexted::Refused(n),
-        Checked::Ready(g) => reader::next_key(s, g, k as usize),
+        Opened::Refused(n) => Nexted::Refused(n),
+        Opened::Ready(g) => reader::next_key(s, g, k as usize),
     }
 }
 
@@ -113,7 +112,7 @@ pub fn show(s: &[u32], level: u32, k: u32) -> &[u32]
 pub fn show_at(s: &[u32], level: u32, k: u32) -> Part
     ensures { λ r. ⌜ r ≡ showPart (now (s .entry)) level k ⌝ }
 {
-    let Checked::Ready(g) = form::check(s) else {
+    let Opened::Ready(g) = form::check(s) else {
         return Part {
             start: 0,
             length: 0,
@@ -127,8 +126,8 @@ pub fn put(s: &mut [u32], k: u32, v: u32) -> Changed
     ensures { λ r. ⌜ PutDone (now (s .entry)) k v r (now (s .exit)) ⌝ }
 {
     match form::check(s) {
-        Checked::Refused(n) => Changed::Refused(n),
-        Checked::Ready(g) => writer::put_ready(s, g, k, v),
+        Opened::Refused(n) => Changed::Refused(n),
+        Opened::Ready(g) => writer::put_ready(s, g, k, v),
     }
 }
 
@@ -137,7 +136,7 @@ pub fn delete(s: &mut [u32], k: u32) -> Changed
     ensures { λ r. ⌜ DeleteDone (now (s .entry)) k r (now (s .exit)) ⌝ }
 {
     match form::check(s) {
-        Checked::Refused(n) => Changed::Refused(n),
-        Checked::Ready(g) => writer::delete_ready(s, g, k),
+        Opened::Refused(n) => Changed::Refused(n),
+        Opened::Ready(g) => writer::delete_ready(s, g, k),
     }
 }

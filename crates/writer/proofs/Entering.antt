@@ -28,7 +28,7 @@ use Rattle.words.specs.Calls.{writtenBlocks, leftWords}
 use Rattle.words.specs.Passed.{Passed}
 use Rattle.words.proofs.Reason.{reason-passed}
 use Rattle.words.proofs.Steps.{laid-merges}
-use Rattle.form.specs.declared.Checked.the-variants.{Ready}
+use Rattle.entry.specs.declared.Opened.the-variants.{Ready}
 use Rattle.form.specs.Checked.{checkedOf}
 use Rattle.form.proofs.Ready.{checked-ready}
 use Rattle.top.specs.declared.Spot.{Spot}

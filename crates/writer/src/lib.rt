@@ -6,7 +6,7 @@ ghost use mathlib.Core.List.{[]};
 ghost use Rattle.levels.specs.Put.{put, delete};
 ghost use Rattle.words.specs.Layout.{topRecs, storeAt};
 ghost use Rattle.words.specs.Calls.{Outcome, ChangeAnswer, changeOutcome};
-ghost use Rattle.form.specs.declared.Checked.the-variants.{Ready};
+ghost use Rattle.entry.specs.declared.Opened.the-variants.{Ready};
 ghost use Rattle.form.specs.Checked.{checkedOf};
 ghost use Rattle.top.specs.Top.{TopReady, spotOf};
 ghost use Rattle.writer.specs.Answers.{changedAnswer};
