@@ -55,16 +55,12 @@ module _ (z : Layout) (ws list : List ℕ) where
   sum-high zero f = omega arith
   sum-high (suc n) f = omega (arith, sum-high n (λ i h. f i (omega arith)), f n (omega arith))
 
--- 2,048 blocks of at most 16 records
-pub slots-low : (a b : ℕ) → a ≤ 2048 → b ≤ 16 → a * b ≤ 32768
-slots-low a b h l = mul-le-mul h l
-
--- each sum on the way is small
+-- each sum on the way is small: 2,048 blocks of at most 16 records
 pub sum-low : (z : Layout) (ws list : List ℕ) (n : ℕ) → Summable z ws list n → (i : ℕ) → i < n → recordSum z ws list i + getD ws (startOf z (getD list i 0)) 0 ≤ 32784
 sum-low z ws list n k i h =
     let few = k .few in
-    let b = k .sized .b-high in
-    omega (arith, sum-high z ws list i (λ j l. k .high j (omega arith)), slots-low i (z .b) (omega arith) b, k .high i h)
+    let m : i ≤ 2048 = omega arith in
+    omega (arith, sum-high z ws list i (λ j l. k .high j (omega arith)), mul-le-mul m (k .sized .b-high), k .high i h)
 
 module _ (g : Geometry) (ws list : List ℕ) (n : ℕ) (k : Countable g ws list n) where
   pub summable : Summable (layoutOf g) ws list n

@@ -2,9 +2,9 @@
 
 ghost use mathlib.Core.Path.{_≡_};
 ghost use mathlib.Core.List.{map};
-ghost use Prim.Native.Nat.{ℕ, _+_, _-_, _*_, _≤_, _<_};
+ghost use Prim.Native.Nat.{ℕ, _≤_, _<_};
 ghost use lib.ListN.{getD, take};
-ghost use Rattle.levels.specs.Waste.{wasteful, needsCompact};
+ghost use Rattle.levels.specs.Waste.{needsCompact};
 ghost use Rattle.levels.specs.Waste as waste;
 ghost use Rattle.levels.specs.Place.{Allocation, settle};
 ghost use Rattle.words.specs.Layout.{blockAt};
@@ -120,16 +120,6 @@ fn record_sum(s: &[u32], list: &[u32; 4096], z: Layout, n: usize) -> usize
     total
 }
 
-// The level rule: a blocks of b slots hold the records in more blocks than needed, and more than a
-// fifth of the slots is empty.
-fn is_wasteful(b: usize, a: usize, records: usize) -> bool
-    requires { ⌜ (1 ≤ b) × (b ≤ 16) × (a ≤ 2048) × (records ≤ a * b) ⌝ }
-    ensures { λ r. ⌜ r ≡ wasteful b a records ⌝ }
-{
-    let slots = a * b;
-    ((records + (b - 1)) / b < a) & (slots < 5 * (slots - records))
-}
-
 // The level of the n listed blocks needs compacting.
 pub fn needs_compacting(s: &[u32], list: &[u32; 4096], g: Geometry, n: usize) -> bool
     requires { ⌜ Countable g (now s) (now list) n ⌝ }
@@ -138,5 +128,5 @@ pub fn needs_compacting(s: &[u32], list: &[u32; 4096], g: Geometry, n: usize) ->
     let z = Layout::of(g);
     let b = z.b;
     let records = record_sum(s, list, z, n);
-    is_wasteful(b, n, records)
+    levels::is_wasteful(b, n, records)
 }

@@ -5,7 +5,7 @@ use mathlib.Core.Bool.{Bool, true, false, not, _&&_, and-eq-true-iff}
 use mathlib.Core.Logic.{dite}
 use mathlib.Core.List.{List, [], _++_}
 use native.Mathlib.Decide.{decLt}
-use native.Mathlib.Nat.{mul-le-mul, mul-le-mul-right}
+use native.Mathlib.Nat.{mul-le-mul-right}
 use native.Mathlib.Numerals.{add-one}
 use native.Mathlib.Omega.{arith}
 use borrow.Author.Tests.{leb-true}
@@ -27,10 +27,6 @@ use Rattle.directory.specs.Directory.{pageOf, blockOf, startOf, chunkAt,
 -- a page ends where the next one starts
 pub page-end : (width i n : ℕ) → i < n → i * width + width ≤ n * width
 page-end width i n h = let e = mul-le-mul-right width h in omega arith
-
--- the slots of a level
-pub room-high : (n width : ℕ) → n ≤ 1024 → width ≤ 16 → n * width ≤ 16384
-room-high n width h l = mul-le-mul h l
 
 module _ (d : Directory) (ws : List ℕ) (w : Within d ws) (i : ℕ) (h : i < d .chunks) where
   pub page-in : d .top ≡ true → (d .base + i * d .width ≤ 288524) × ((d .pays + i * d .width ≤ 288524) × (i * d .width ≤ d .records))

@@ -2,10 +2,8 @@
 // level 0 or the blocks that a place list names; and all rules of one level, in one pass.
 
 ghost use mathlib.Core.Path.{_≡_};
-ghost use mathlib.Core.Bool.{not};
 ghost use Prim.Native.Nat.{_+_, _-_, _*_, _≤_, _<_};
 ghost use lib.ListN.{length};
-ghost use Rattle.levels.specs.Waste.{wasteful};
 ghost use Rattle.directory.specs.Directory.{Within, chunkAt, pageOf, blockOf, keptOf, levelFormed};
 use chunks::Chunk;
 use chunks::Rise;
@@ -107,15 +105,6 @@ pub fn kept(s: &[u32], dir: Directory, chunk: Chunk, before: usize) -> bool
     false
 }
 
-// A level of n blocks with `total` records in all needs no compacting.
-pub fn lean(n: usize, width: usize, total: usize) -> bool
-    requires { ⌜ (n ≤ 1024) × ((1 ≤ width) × ((width ≤ 16) × (total ≤ n * width))) ⌝ }
-    ensures { λ r. ⌜ r ≡ not (wasteful width n total) ⌝ }
-{
-    let room = n * width;
-    !(((total + (width - 1)) / width < n) & (room < 5 * (room - total)))
-}
-
 // Every rule of one level. A first chunk counts as after a full one, so that it has no case of its own.
 pub fn level_formed(s: &[u32], dir: Directory) -> bool
     requires { ⌜ Within dir (now s) ⌝ }
@@ -141,5 +130,5 @@ pub fn level_formed(s: &[u32], dir: Directory) -> bool
     if dir.top {
         return true;
     }
-    lean(n, width, total)
+    !levels::is_wasteful(width, n, total)
 }

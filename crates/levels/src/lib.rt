@@ -1,2 +1,17 @@
-// Definitions only: the store of document 01 as records, blocks and levels, with no word of the lent
-// slice in sight. They are in specs/; code and proofs of other crates cite them.
+// The store of document 01 as records, blocks and levels, with no word of the lent slice in sight:
+// definitions, in specs/, that code and proofs of other crates cite, and the test of the level rule,
+// which the form check and step 5 of a merge share.
+
+ghost use mathlib.Core.Path.{_≡_};
+ghost use Prim.Native.Nat.{_*_, _≤_};
+ghost use Rattle.levels.specs.Waste.{wasteful};
+
+// The level rule: a blocks of b slots hold the records in more blocks than needed, and more than a
+// fifth of the slots is empty.
+pub fn is_wasteful(b: usize, a: usize, records: usize) -> bool
+    requires { ⌜ (1 ≤ b) × (b ≤ 16) × (a ≤ 2048) × (records ≤ a * b) ⌝ }
+    ensures { λ r. ⌜ r ≡ wasteful b a records ⌝ }
+{
+    let slots = a * b;
+    ((records + (b - 1)) / b < a) & (slots < 5 * (slots - records))
+}

@@ -7,7 +7,7 @@ use Rattle.compaction.proofs.needs_compacting.Tie as tie
 use Rattle.compaction.proofs.needs_compacting.Reads as reads
 use Rattle.compaction.proofs.needs_compacting.Lts as lts
 use Rattle.blocks.proofs.Layout.of.Reads as of-reads
-use Rattle.compaction.proofs.is_wasteful.Reads as is-wasteful-reads
+use Rattle.levels.proofs.is_wasteful.Reads as is-wasteful-reads
 use Rattle.compaction.proofs.record_sum.Reads as record-sum-reads
 
 of-requires : tie.Need-of-requires

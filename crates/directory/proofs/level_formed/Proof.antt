@@ -1,17 +1,19 @@
 use borrow.Author.Tests.{not-true, not-false}
+use mathlib.Core.Bool.{not}
+use native.Mathlib.Nat.{mul-le-mul}
 use native.Mathlib.Omega.{arith}
 use borrow.Author.Needs.{needs}
 use Prim.Native.Nat.{_≤_, _*_, _-_}
-use mathlib.Core.Path.{_≡_, sym, _∙_}
+use mathlib.Core.Path.{_≡_, sym, ap, _∙_}
 use Rattle.directory.specs.Directory.{passOf, levelFormed}
-use Rattle.directory.proofs.Laws.{chunk-room, kept-count, pass-unkept, pass-broken, pass-next, pass-end-top, pass-end-listed, pass-start, room-high}
+use Rattle.directory.proofs.Laws.{chunk-room, kept-count, pass-unkept, pass-broken, pass-next, pass-end-top, pass-end-listed, pass-start}
 use Rattle.directory.proofs.level_formed.Statement.{statement}
 use Rattle.directory.proofs.level_formed.Tie as tie
 use Rattle.directory.proofs.level_formed.Reads as reads
 use Rattle.directory.proofs.level_formed.Lts as lts
 use Rattle.directory.proofs.kept.Reads as kept-reads
-use Rattle.directory.proofs.lean.Reads as lean-reads
 use Rattle.directory.proofs.chunk_at.Reads as chunk-at-reads
+use Rattle.levels.proofs.is_wasteful.Reads as is-wasteful-reads
 use Rattle.chunks.proofs.rise_over.Reads as rise-over-reads
 
 abbrev Inv-loop : tie.InvT-loop
@@ -65,8 +67,8 @@ add-total c =
     let l = k .before .before .before .loop in
     let q = kept-count _ _ _ _ (sym (k .kept .ensures) ∙ not-false _ (c .before .before .before .before .if1 .left)) in
     let a = c .before .before .before .before .before .before .before .before .before .before in
-    let m = room-high (l .i) (a .args .dir .width) (let z = a .pre .chunks-high in omega arith) (a .pre .width-high) in
-    omega arith
+    let few : l .i ≤ 1024 = (let z = a .pre .chunks-high in omega arith) in
+    omega (arith, mul-le-mul few (a .pre .width-high))
 
 add-i : tie.Need-add-i Inv-loop μ-loop
 add-i c = search needs
@@ -85,16 +87,17 @@ loop-again c =
 returns-3 : tie.Need-returns-3 Inv-loop μ-loop
 returns-3 c = sym (pass-end-top _ _ _ _ _ _ _ (c .before .loop-test .left) (c .if2 .taken)) ∙ c .before .before .loop .inv .1 .1 .1
 
-lean-requires : tie.Need-lean-requires Inv-loop μ-loop
-lean-requires c κs =
+is-wasteful-requires : tie.Need-is-wasteful-requires Inv-loop μ-loop
+is-wasteful-requires c κs =
     let a = c .before .before .before .before in
     let l = c .before .before .loop in
     let e : l .i ≡ a .args .dir .chunks = omega arith in
     let t = rw e at (l .inv .1 .1 .0) in
-    (a .pre .chunks-high, (omega arith, (a .pre .width-high, t)))
+    let few = a .pre .chunks-high in
+    (omega arith, a .pre .width-high, omega arith, t)
 
 returns-4 : tie.Need-returns-4 Inv-loop μ-loop
-returns-4 c = c .lean .ensures ∙ sym (pass-end-listed _ _ _ _ _ _ _ (c .before .before .loop-test .left) (c .before .if2 .left)) ∙ c .before .before .before .loop .inv .1 .1 .1
+returns-4 c = ap not (c .is-wasteful .ensures) ∙ sym (pass-end-listed _ _ _ _ _ _ _ (c .before .before .loop-test .left) (c .before .if2 .left)) ∙ c .before .before .before .loop .inv .1 .1 .1
 
 pub level-formed-spec : {M : Type 1} → statement M
 level-formed-spec =
@@ -115,5 +118,5 @@ level-formed-spec =
     loop-less
     loop-again
     returns-3
-    lean-requires
+    is-wasteful-requires
     returns-4)
