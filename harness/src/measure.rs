@@ -8,6 +8,7 @@ use reference::fast;
 use reference::geometry::Geometry;
 use reference::layout::COUNTS;
 use reference::random::Random;
+use std::collections::HashSet;
 use std::hint::black_box;
 use std::time::{Duration, Instant};
 
@@ -132,6 +133,36 @@ pub struct Subject {
     pub merges: Vec<u32>,
 }
 
+/// A measured put: of a live key, or of a new one for a key that is deleted first.
+/// Where all N keys have room in level 0, puts of live keys alone would never merge.
+struct Turn {
+    deleted: Option<u32>,
+    put: u32,
+}
+
+/// Puts of both kinds, one after the other, on a store with these keys.
+fn turns(random: &mut Random, mut keys: Vec<u32>, count: usize) -> Vec<Turn> {
+    let mut known: HashSet<u32> = keys.iter().copied().collect();
+    let turn = |number| {
+        let index = random.below(keys.len());
+        let live = keys[index];
+        if number % 2 == 0 {
+            return Turn {
+                deleted: None,
+                put: live,
+            };
+        }
+        while !known.insert(keys[index]) {
+            keys[index] = random.word();
+        }
+        Turn {
+            deleted: Some(live),
+            put: keys[index],
+        }
+    };
+    (0..count).map(turn).collect()
+}
+
 /// The rounds of one geometry.
 pub struct Rounds {
     pub geometry: Geometry,
@@ -139,21 +170,21 @@ pub struct Rounds {
     pub number: usize,
     pub library: Subject,
     pub fast: Subject,
-    /// Live keys to be put again, and keys to be asked for.
-    puts: Vec<u32>,
+    /// What the measured puts are, and keys to be asked for.
+    puts: Vec<Turn>,
     asked: Vec<u32>,
     /// What reading the clock adds to a measured call.
     cost: f64,
 }
 
 impl Rounds {
-    /// No round yet. The list of puts fills the room that a merge makes in level 0
-    /// some times.
+    /// No round yet. The list of puts and deletes fills the room that a merge makes in
+    /// level 0 some times.
     pub fn new(geometry: Geometry, store: Vec<u32>, keys: &[u32]) -> Rounds {
         let mut random = Random::new(2);
         let room = geometry.window(0) * geometry.block();
         let count = (4 * room).clamp(512, 1024);
-        let puts = (0..count).map(|_| random.pick(keys)).collect();
+        let puts = turns(&mut random, keys.to_vec(), count);
         // Every other key is most likely absent.
         let either = |index| match index / APART % 2 {
             0 => random.pick(keys),
@@ -195,18 +226,21 @@ impl Rounds {
     /// between them; answers the words afterwards.
     fn list(&self, subject: &mut Subject, call: impl Fn(&mut [u32], Call) -> Answer) -> Vec<u32> {
         let mut lent = self.store.clone();
-        for &key in &self.puts[..WARMING] {
-            call(&mut lent, Call::Put(key, 0));
+        for turn in &self.puts[..WARMING] {
+            call(&mut lent, Call::Put(turn.put, 0));
         }
         lent.copy_from_slice(&self.store);
         subject.merges.clear();
-        for (number, &key) in self.puts.iter().enumerate() {
+        for (number, turn) in self.puts.iter().enumerate() {
             if number % APART == 0 {
                 self.read(subject, &mut lent, number, &call);
             }
-            let put = Call::Put(key, number as u32);
+            if let Some(key) = turn.deleted {
+                call(&mut lent, Call::Delete(key));
+            }
+            let put = Call::Put(turn.put, number as u32);
             let (time, answer) = self.timed(|| call(black_box(&mut lent), put));
-            assert!(answer.reason() == 0, "a put on a key of the map");
+            assert!(answer.reason() == 0, "a put of a live key or one with room");
             subject.put.add(number, time);
             subject.merges.push(answer.merges());
         }

@@ -184,6 +184,18 @@ fn hear(words: &mut [u32], h: Hearing, byte: u8) -> Hearing
     }
 }
 
+// Bytes of the input, one after the other.
+fn hear_all(words: &mut [u32], h: Hearing, bytes: &[u8]) -> Hearing
+    requires { ⌜ (length (now words) ≡ 16384) × (h .words ≤ 16384) ⌝ }
+    ensures { λ r. ⌜ r .words ≤ 16384 ⌝ }
+{
+    let mut heard = h;
+    for i in 0..bytes.len() {
+        heard = hear(words, heard, bytes[i]);
+    }
+    heard
+}
+
 // A last line may lack its line end.
 fn finish(words: &mut [u32], h: Hearing)
     requires { ⌜ (length (now words) ≡ 16384) × (h .words ≤ 16384) ⌝ }
@@ -211,9 +223,7 @@ fn main() {
         if got == 0 {
             break;
         }
-        for i in 0..got {
-            h = hear(words, h, input[i]);
-        }
+        h = hear_all(words, h, &input[..got]);
     }
     finish(words, h);
 }

@@ -56,17 +56,15 @@ enter g s r was live = let ms = mergesFor g s (r .key) in entered was ms (withRe
 
 -- "Put k, v": "The answer says if k was live." Refusal 5: "A put has a key not in the map while live = N."
 unfoldable pub put : Geometry → Store → ℕ → ℕ → Change
-put g s k v =
-    let r : Rec = record { key = k; tombstone = false; pay = v } in
-    elim (isLive k (rows s)) [
-      | true ↦ enter g s r true (s .live)
-      | false ↦ elim (eqb (s .live) (keyLimitOf g)) [ true ↦ refused 5 | false ↦ enter g s r false (suc (s .live)) ]
-    ]
+put g s k v = elim (isLive k (rows s)) [
+  | true ↦ enter g s (putRec k v) true (s .live)
+  | false ↦ elim (eqb (s .live) (keyLimitOf g)) [ true ↦ refused 5 | false ↦ enter g s (putRec k v) false (suc (s .live)) ]
+]
 
 -- "Delete k: absent means no change and the answer absent; otherwise as put, with a mark."
 unfoldable pub delete : Geometry → Store → ℕ → Change
 delete g s k = elim (isLive k (rows s)) [
-  | true ↦ enter g s (record { key = k; tombstone = true; pay = 0 }) true (s .live - 1)
+  | true ↦ enter g s (deleteRec k) true (s .live - 1)
   | false ↦ absent
 ]
 

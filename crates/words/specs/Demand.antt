@@ -1,5 +1,5 @@
 -- Demand 3, of the whole list of merges that a put or delete makes, on any words that pass the form check, refused calls included.
-use Prim.Native.Nat.{ℕ, zero, suc, _+_, _-_, _*_, _/_, _≤_}
+use Prim.Native.Nat.{ℕ, zero, suc, _+_, _-_, _*_, _≤_}
 use mathlib.Core.Path.{_≡_}
 use mathlib.Core.Bool.{true, false}
 use mathlib.Core.List.{List, []}
@@ -8,10 +8,10 @@ use lib.Dec.{eqb}
 use lib.ListN.{take, drop}
 use Rattle.geometry.specs.declared.Geometry.{Geometry}
 use Rattle.geometry.specs.Geometry.{windowOf, keyLimitOf}
-use Rattle.levels.specs.Basics.{total, ceilDiv}
+use Rattle.levels.specs.Basics.{total}
 use Rattle.levels.specs.Record.{Rec}
 use Rattle.levels.specs.Map.{isLive}
-use Rattle.levels.specs.Choose.{overlap}
+use Rattle.levels.specs.Choose.{overlap, overlapBound}
 use Rattle.levels.specs.Store.{Store, rows}
 use Rattle.levels.specs.Call.{Merge, mergeLevel, afterMerges, Chained}
 use Rattle.levels.specs.Put.{withRecord, putRec, deleteRec}
@@ -28,7 +28,7 @@ pub record MergeDemand (g : Geometry) (m : Merge) : Type 0 where
   -- "every other run of w neighbours in that level overlaps at least q blocks below"
   pub fewest : (j : ℕ) → j + m .window ≤ aboveCount g m → overlapOf g m ≤ overlap (underOf g m) (take (m .window) (drop j (aboveOf g m)))
   -- "q is at most n divided by the whole part of a/w, rounded up"
-  pub overlap-high : overlapOf g m ≤ ceilDiv (underCount g m) (aboveCount g m / m .window)
+  pub overlap-high : overlapOf g m ≤ overlapBound (m .window) (aboveCount g m) (underCount g m)
   -- "and the merge writes at most w + q + 1 blocks, so never more than (G + 1) × w + 1"
   pub writes-high : blocksMerged m ≤ m .window + overlapOf g m + 1
   pub writes-growth : blocksMerged m ≤ (g .g + 1) * m .window + 1

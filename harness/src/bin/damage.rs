@@ -56,7 +56,10 @@ fn search(seed: u64, first: u64, time: Duration) -> ExitCode {
             break;
         }
         if start.elapsed() >= 2 * time {
-            println!("{}\nfewer than {ENOUGH} damaged stores or calls", search.counts);
+            println!(
+                "{}\nfewer than {ENOUGH} damaged stores or calls",
+                search.counts
+            );
             return ExitCode::FAILURE;
         }
     }
