@@ -10,13 +10,13 @@ use native.Mathlib.Numerals.{add-one}
 use native.Mathlib.Omega.{arith}
 use borrow.Author.Tests.{lt-ltb, le-ltb, le-leb, lt-leb}
 use lib.Arith.{digits-lt}
-use lib.ListN.{length, getD, set, length-set}
+use lib.ListN.{length, getD, set}
 use Rattle.geometry.specs.declared.Geometry.{Geometry}
 use Rattle.geometry.specs.Geometry.{Valid, topCapacityOf, blockWidth, placeStart, storeLength}
 use Rattle.geometry.proofs.Laws.{marks-end, keys-end, pays-end, lists-apart, list-inside, store-length-high}
 use Rattle.levels.specs.Place.{after}
 use Rattle.blocks.specs.declared.Layout.{Layout}
-use Rattle.blocks.specs.Blocks.{Sized, layoutOf, startOf, afterBy, Free, SomeFree, freeMark, nextMark, marked, copied}
+use Rattle.blocks.specs.Blocks.{Sized, layoutOf, startOf, afterBy, Free, SomeFree, freeMark, nextMark, marked}
 
 -- a place starts where the geometry says
 pub start-place : (g : Geometry) (q : ℕ) → startOf (layoutOf g) q ≡ placeStart g q
@@ -33,15 +33,6 @@ in-store z xs k place j h l = let d = digits-lt h l in let e = k .words in omega
 
 pub ends : (z : Layout) (xs : List ℕ) → Sized z xs → (place : ℕ) → place < z .p → startOf z place + (2 + 2 * z .b) ≤ length xs
 ends z xs k place h = let l = in-store z xs k place (1 + 2 * z .b) h (omega arith) in omega arith
-
-pub copied-more : (xs : List ℕ) (to : ℕ) (src : List ℕ) (i : ℕ) → set (copied xs to src i) (to + i) (getD src i 0) ≡ copied xs to src (i + 1)
-unfolding copied
-copied-more xs to src i = rw add-one
-
-pub copied-length : (xs : List ℕ) (to : ℕ) (src : List ℕ) (n : ℕ) → length (copied xs to src n) ≡ length xs
-unfolding copied
-copied-length xs to src zero = refl
-copied-length xs to src (suc n) = simp length-set (copied-length xs to src n)
 
 pub marked-more : (used : List Bool) (list : List ℕ) (i : ℕ) → set (marked used list i) (getD list i 0) true ≡ marked used list (i + 1)
 unfolding marked

@@ -1,43 +1,36 @@
 -- What writing a buffer at a place leaves, as levels' and words' definitions say it.
 use Prim.Native.Nat.{ℕ, zero, suc, _+_, _-_, _*_, _≤_, _<_}
-use mathlib.Core.Path.{_≡_, ap, _∙_, refl}
+use mathlib.Core.Path.{_≡_, refl, sym, ap, _∙_}
 use mathlib.Core.List.{List, [], _∷_, _++_, append-assoc}
 use native.Mathlib.Omega.{arith}
-use lib.ListN.{length, getD, set, take, drop, replicate, length-append, length-map, length-take, length-replicate}
-use lib.Seq.{sets, sets-eq, take-suc, take-append-add, take-add, drop-drop}
+use lib.ListN.{length, set, take, drop, replicate, length-append, length-map, length-replicate}
+use lib.Seq.{sets, length-take-le, take-append-add, take-add, drop-drop}
+use Rattle.slices.specs.Slices.{putAt}
+use Rattle.slices.proofs.Put.{set-put, put-more, put-join, put-sets}
 use Rattle.geometry.specs.declared.Geometry.{Geometry}
 use Rattle.geometry.specs.Geometry.{placesStart, blockWidth}
 use Rattle.levels.specs.Record.{Rec}
 use Rattle.words.specs.Layout.{pad, keysOf, paysOf, markWord, blockWords, writeBlock}
 use Rattle.blocks.specs.declared.Layout.{Layout}
 use Rattle.blocks.specs.declared.Buffer.{Buffer}
-use Rattle.blocks.specs.Blocks.{Sized, layoutOf, startOf, bufferOf, copied, written, withBlock, WritesRecords}
+use Rattle.blocks.specs.Blocks.{Sized, layoutOf, startOf, bufferOf, written, withBlock, WritesRecords}
 use Rattle.blocks.proofs.Laws.{ends}
 
-sets-append : (l : List ℕ) (i : ℕ) (us vs : List ℕ) → sets l i (us ++ vs) ≡ sets (sets l i us) (i + length us) vs
-sets-append l i [] vs = let e : i + 0 ≡ i = omega arith in rw e
-sets-append l i (u ∷ us) vs = let e : i + length (u ∷ us) ≡ suc i + length us = omega arith in sets-append (set l i u) (suc i) us vs ∙ rw e
-
--- words copied one by one are words put over
-copied-sets : (xs : List ℕ) (to : ℕ) (src : List ℕ) (n : ℕ) → n ≤ length src → copied xs to src n ≡ sets xs to (take n src)
-unfolding copied
-copied-sets xs to src zero h = refl
-copied-sets xs to src (suc n) h =
-    let e : length (take n src) ≡ n = length-take n src ∙ omega arith in
-    rw (take-suc src n 0 (omega arith), sets-append xs to (take n src) (getD src n 0 ∷ []), e, copied-sets xs to src n (omega arith))
-
--- the words of a buffer at a place
-abbrev bufferWords : ℕ → Buffer → List ℕ
-bufferWords b buf = buf .n ∷ buf .marks ∷ (take b (buf .keys) ++ take b (buf .pays))
-
-written-sets : (z : Layout) (xs : List ℕ) (q : ℕ) (buf : Buffer) → z .b ≤ length (buf .keys) → z .b ≤ length (buf .pays) → written z xs q buf ≡ sets xs (startOf z q) (bufferWords (z .b) buf)
+-- the code's writes, one behind the other, are the words of the buffer put over those of the place
+pub written-is : (z : Layout) (xs : List ℕ) (q : ℕ) (buf : Buffer) → z .b ≤ length (buf .keys) → z .b ≤ length (buf .pays) → startOf z q + (2 + 2 * z .b) ≤ length xs
+    → putAt (startOf z q + 2 + z .b) (take (z .b) (buf .pays)) (putAt (startOf z q + 2) (take (z .b) (buf .keys)) (set (set xs (startOf z q) (buf .n)) (startOf z q + 1) (buf .marks))) ≡ written z xs q buf
 unfolding written
-written-sets z xs q buf k v =
+written-is z xs q buf k v h =
     let at = startOf z q in
-    let e : length (take (z .b) (buf .keys)) ≡ z .b = length-take (z .b) (buf .keys) ∙ omega arith in
-    let a : suc (suc at) ≡ at + 2 = omega arith in
-    let c : suc at ≡ at + 1 = omega arith in
-    rw (sets-append (set (set xs at (buf .n)) (suc at) (buf .marks)) (suc (suc at)) (take (z .b) (buf .keys)) (take (z .b) (buf .pays)), e, a, c, copied-sets (set (set xs at (buf .n)) (at + 1) (buf .marks)) (at + 2) (buf .keys) (z .b) k, copied-sets _ (at + 2 + z .b) (buf .pays) (z .b) v)
+    let ks = take (z .b) (buf .keys) in
+    let vs = take (z .b) (buf .pays) in
+    let head : List ℕ = buf .n ∷ buf .marks ∷ [] in
+    let kl : length ks ≡ z .b = length-take-le (z .b) (buf .keys) k in
+    let vl : length vs ≡ z .b = length-take-le (z .b) (buf .pays) v in
+    let a : set (set xs at (buf .n)) (at + 1) (buf .marks) ≡ putAt at head xs = rw (set-put at (buf .n) xs (omega arith)) (put-more at (buf .marks) (buf .n ∷ []) xs (omega arith)) in
+    let n : at + length (head ++ ks) ≡ at + 2 + z .b = rw kl (omega arith) in
+    let b : putAt (at + 2 + z .b) vs (putAt at (head ++ ks) xs) ≡ putAt at (head ++ ks ++ vs) xs = rw n at (put-join at (head ++ ks) vs xs (omega arith)) in
+    rw (a, put-join at head ks xs (omega arith)) (b ∙ put-sets at (head ++ ks ++ vs) xs (rw (length-append, kl, vl) (omega arith)))
 
 take-pad : (b : ℕ) (xs : List ℕ) → length xs ≤ b → b ≤ 16 → take b (pad 16 xs) ≡ pad b xs
 take-pad b xs h l =
@@ -54,7 +47,7 @@ pad-length n xs h = length-append xs (replicate (n - length xs) 0) ∙ rw length
 
 -- a buffer that holds rs writes a block of rs
 pub written-block : (g : Geometry) (xs : List ℕ) (q : ℕ) (rs : List Rec) → Sized (layoutOf g) xs → q < g .p → length rs ≤ g .b → written (layoutOf g) xs q (bufferOf rs) ≡ withBlock g xs q rs
-unfolding bufferOf writeBlock blockWords blockWidth startOf
+unfolding putAt written bufferOf writeBlock blockWords blockWidth startOf
 written-block g xs q rs s l h =
     let z = layoutOf g in
     let at = startOf z q in
@@ -63,15 +56,13 @@ written-block g xs q rs s l h =
     let vl : length (paysOf rs) ≡ length rs = length-map rs _ in
     let ek = take-pad (g .b) (keysOf rs) (omega arith) b in
     let ev = take-pad (g .b) (paysOf rs) (omega arith) b in
-    let k16 = pad-length 16 (keysOf rs) (omega arith) in
-    let v16 = pad-length 16 (paysOf rs) (omega arith) in
     let kb = pad-length (g .b) (keysOf rs) (omega arith) in
     let vb = pad-length (g .b) (paysOf rs) (omega arith) in
     let ws : List ℕ = length rs ∷ markWord rs ∷ (pad (g .b) (keysOf rs) ++ pad (g .b) (paysOf rs)) in
     let wl : length ws ≡ 2 + 2 * g .b = rw length-append (omega arith) in
     let r = ends z xs s q l in
-    let e1 : written z xs q (bufferOf rs) ≡ sets xs at ws = written-sets z xs q (bufferOf rs) (omega arith) (omega arith) ∙ rw (ek, ev) in
-    let e2 : sets xs at ws ≡ take at xs ++ (ws ++ drop (at + length ws) xs) = sets-eq ws xs at (omega arith) ∙ append-assoc (take at xs) ws (drop (at + length ws) xs) in
+    let e1 : written z xs q (bufferOf rs) ≡ sets xs at ws = rw (ek, ev) in
+    let e2 : sets xs at ws ≡ take at xs ++ (ws ++ drop (at + length ws) xs) = sym (put-sets at ws xs (omega arith)) in
     let d : at + length ws ≡ placesStart g + suc q * (2 + 2 * g .b) = omega arith in
     e1 ∙ e2 ∙ rw (d, take-add (placesStart g) (q * (2 + 2 * g .b)) xs, drop-drop (suc q * (2 + 2 * g .b)) (placesStart g) xs) (append-assoc (take (placesStart g) xs) (take (q * (2 + 2 * g .b)) (drop (placesStart g) xs)) _)
 

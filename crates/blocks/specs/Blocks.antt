@@ -2,10 +2,11 @@
 use Prim.Native.Nat.{ℕ, zero, suc, _+_, _-_, _*_, _^_, _≤_, _<_}
 use mathlib.Core.Path.{_≡_}
 use mathlib.Core.Bool.{Bool, true, false}
-use mathlib.Core.List.{List, [], _++_}
+use mathlib.Core.List.{List, [], _∷_, _++_}
 use mathlib.Core.Option.{some}
 use lib.Dec.{ltb}
 use lib.ListN.{getD, set, length, replicate, take}
+use lib.Seq.{sets}
 use Rattle.geometry.specs.declared.Geometry.{Geometry}
 use Rattle.geometry.specs.Geometry.{capacityOf, marksStart, keysStart, paysStart, placesStart}
 use Rattle.levels.specs.Basics.{if_then_else_, member}
@@ -78,16 +79,9 @@ pushed b key tombstone pay =
 unfoldable pub bufferOf : List Rec → Buffer
 bufferOf rs = record { keys = pad 16 (keysOf rs); pays = pad 16 (paysOf rs); marks = markWord rs; n = length rs }
 
--- the first n words of src, put over the words from `to` on
-unfoldable pub copied : List ℕ → ℕ → List ℕ → ℕ → List ℕ
-copied xs to src zero = xs
-copied xs to src (suc n) = set (copied xs to src n) (to + n) (getD src n 0)
-
--- count, mark word, keys and payloads of a buffer, put over the words of a place
+-- count, mark word, keys and payloads of a buffer, stored over the words of a place
 unfoldable pub written : Layout → List ℕ → ℕ → Buffer → List ℕ
-written z xs place buf =
-    let at = startOf z place in
-    copied (copied (set (set xs at (buf .n)) (at + 1) (buf .marks)) (at + 2) (buf .keys) (z .b)) (at + 2 + z .b) (buf .pays) (z .b)
+written z xs place buf = sets xs (startOf z place) (buf .n ∷ buf .marks ∷ (take (z .b) (buf .keys) ++ take (z .b) (buf .pays)))
 
 -- the whole store after a block of these records has been written at a place: no word before the places changes
 abbrev pub withBlock : Geometry → List ℕ → ℕ → List Rec → List ℕ

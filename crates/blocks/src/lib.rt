@@ -3,9 +3,9 @@
 
 ghost use mathlib.Core.Path.{_≡_};
 ghost use Prim.Native.Nat.{ℕ, _+_, _-_, _*_, _^_, _≤_, _<_};
-ghost use lib.ListN.{length, getD};
+ghost use lib.ListN.{getD};
 ghost use Rattle.geometry.specs.Geometry.{Valid};
-ghost use Rattle.blocks.specs.Blocks.{Sized, layoutOf, startOf, afterBy, SomeFree, nextMark, marked, pushed, emptyBuffer, copied, written, WritesRecords};
+ghost use Rattle.blocks.specs.Blocks.{Sized, layoutOf, startOf, afterBy, SomeFree, nextMark, marked, pushed, emptyBuffer, written, WritesRecords};
 use geometry::Geometry;
 
 // What a merge reads of the geometry at every step, computed once: B, P, K(0), and where level 0's
@@ -118,17 +118,6 @@ pub fn mark_listed(used: &mut [bool; 8192], list: &[u32; 4096], n: usize)
     }
 }
 
-// The first n words of src, to the words of s from `to` on.
-fn copy(s: &mut [u32], to: usize, src: &[u32; 16], n: usize)
-    requires { ⌜ (n ≤ 16) × (to + n ≤ length (now s)) ⌝ }
-    ensures { λ _. ⌜ now (s .exit) ≡ copied (now (s .entry)) to (now (src .entry)) n ⌝ }
-{
-    for i in 0..n {
-        let v = src[i];
-        s[to + i] = v;
-    }
-}
-
 // The buffer's count, mark word, keys and payloads, at a place; unused slots are 0 in the buffer
 // already, so the place's whole width is filled.
 pub fn write_block(s: &mut [u32], z: Layout, place: usize, buf: Buffer)
@@ -144,6 +133,6 @@ pub fn write_block(s: &mut [u32], z: Layout, place: usize, buf: Buffer)
     let pays = buf.pays;
     s[at] = n as u32;
     s[at + 1] = m;
-    copy(s, at + 2, &keys, b);
-    copy(s, at + 2 + b, &pays, b);
+    slices::copy(&keys, 0, b, s, at + 2);
+    slices::copy(&pays, 0, b, s, at + 2 + b);
 }

@@ -4,9 +4,10 @@ use mathlib.Core.Path.{_≡_}
 use Prim.Native.Char.{code}
 use Prim.Native.String.{String, [] as ε, _∷_ as _▸_}
 use mathlib.Core.Bool.{Bool, true, false, _&&_}
-use mathlib.Core.List.{List, [], _∷_, _++_}
+use mathlib.Core.List.{List, [], _∷_}
 use lib.Dec.{leb}
 use lib.ListN.{length, take, drop}
+use Rattle.slices.specs.Slices.{putAt}
 
 abbrev pub lineEnd : ℕ
 lineEnd = 10
@@ -49,15 +50,11 @@ abbrev pub every : {A : Type 0} → (A → Bool) → List A → Bool
 every p [] = true
 every p (x ∷ xs) = p x && every p xs
 
--- xs with bs put over what stands there from place i on
-unfoldable pub written : List ℕ → ℕ → List ℕ → List ℕ
-written xs i bs = take i xs ++ (bs ++ drop (i + length bs) xs)
-
 -- Printing bs from place i on made `after` of `before`, and stopped at place r.
 pub record Printed (before after : List ℕ) (i r : ℕ) (bs : List ℕ) : Type 0 where
   pub ends : r ≡ i + length bs
   pub inside : r ≤ length before
-  pub words : after ≡ written before i bs
+  pub words : after ≡ putAt i bs before
 
 -- The first r bytes are bs now, and the others are as they were. The first two facts follow from r's being the length of bs;
 -- they are stated because a caller that hands on `&out[..r]` is asked for them.

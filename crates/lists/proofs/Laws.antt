@@ -6,6 +6,8 @@ use native.Mathlib.Nat.{add-zero}
 use native.Mathlib.Omega.{arith}
 use lib.ListN.{length, take, getD, length-append, length-map}
 use lib.Seq.{length-take-le, drop-at}
+use Rattle.slices.specs.Slices.{putAt}
+use Rattle.slices.proofs.Put.{put-length, put-drop}
 use Rattle.geometry.specs.declared.Geometry.{Geometry}
 use Rattle.geometry.specs.Geometry.{Valid, flashCapacityOf, topCapacityOf, marksStart, listStart, placesStart, storeLength}
 use Rattle.geometry.proofs.Laws.{store-length-low}
@@ -19,10 +21,9 @@ use Rattle.words.proofs.Top.{top-words-length}
 use Rattle.words.proofs.Lists.{list-words-length}
 use Rattle.words.proofs.Laid.{laid-levels}
 use Rattle.words.proofs.State.{Holds, top-end, lists-length, store-length, room-fits, geometry-held, live-held, top-count-held, held-words}
-use Rattle.lists.specs.Lists.{putAt, placeLists, withLists}
+use Rattle.lists.specs.Lists.{placeLists, withLists}
 use Rattle.lists.specs.Holds.{HoldsBut}
-use Rattle.lists.proofs.Put.{put-length}
-use Rattle.lists.proofs.Keeps.{put-here, put-before, put-drop, put-behind}
+use Rattle.lists.proofs.Keeps.{put-here, put-before, put-behind}
 
 -- the places of the blocks of every level
 abbrev pub placesIn : List Level → List (List ℕ)

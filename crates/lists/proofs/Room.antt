@@ -9,14 +9,16 @@ use native.Mathlib.Omega.{arith}
 use lib.ListN.{length, take, drop, length-drop}
 use lib.Seq.{length-take-le, take-take, take-at}
 use borrow.Author.Tests.{le-leb, lt-leb}
+use Rattle.slices.specs.Slices.{putAt}
+use Rattle.slices.proofs.Put.{put-length, put-seam, put-join}
 use Rattle.geometry.specs.declared.Geometry.{Geometry}
 use Rattle.geometry.specs.Geometry.{Valid, capacityOf, capacitySum, flashCapacityOf, listStart, placesStart, blockWidth, storeLength}
 use Rattle.geometry.proofs.Laws.{store-length-low, level-high, capacity-grows, list-inside, lists-apart, list-next}
 use Rattle.words.specs.Layout.{countAt, listAt, listedAt, pad}
 use Rattle.words.proofs.Parts.{pad-length}
 use Rattle.words.proofs.State.{store-length}
-use Rattle.lists.specs.Lists.{roomOf, putAt, placeLists, withLists}
-use Rattle.lists.proofs.Put.{put-length, put-seam, put-join, counts-length}
+use Rattle.lists.specs.Lists.{roomOf, placeLists, withLists}
+use Rattle.lists.proofs.Put.{counts-length}
 
 pub room-level : (g : Geometry) (i : ℕ) → i ≤ g .h → roomOf g i ≡ capacityOf g i
 unfolding roomOf

@@ -4,10 +4,11 @@
 ghost use mathlib.Core.Path.{_≡_};
 ghost use mathlib.Core.List.{[], _∷_};
 ghost use Prim.Native.Nat.{_+_, _≤_, _<_};
-ghost use lib.ListN.{length, take, drop, replicate};
+ghost use lib.ListN.{length, take};
+ghost use Rattle.slices.specs.Slices.{putAt};
 ghost use Rattle.geometry.specs.Geometry.{Valid, capacityOf, listStart, storeLength};
 ghost use Rattle.words.specs.Layout.{countAt, listedAt, pad};
-ghost use Rattle.lists.specs.Lists.{roomOf, putAt, withLists};
+ghost use Rattle.lists.specs.Lists.{roomOf, withLists};
 use geometry::Geometry;
 
 // The listed places of a level, to the front of `out`, and how many they are. Above h the count is 0, and nothing is
@@ -18,7 +19,7 @@ pub fn load(s: &[u32], g: Geometry, level: usize, out: &mut [u32; 4096]) -> usiz
 {
     let n = s[8 + level] as usize;
     let start = g.list_start(level);
-    copy(s, start, n, out, 0);
+    slices::copy(s, start, n, out, 0);
     n
 }
 
@@ -69,25 +70,6 @@ fn put_list(s: &mut [u32], g: Geometry, level: usize, list: &[u32; 4096], n: usi
 {
     let start = g.list_start(level);
     let room = g.capacity(level);
-    copy(list, 0, n, s, start);
-    clear(s, start + n, room - n);
-}
-
-// n words of one slice, from word `from` on, to those of another, from word `to` on.
-fn copy(s: &[u32], from: usize, n: usize, out: &mut [u32], to: usize)
-    requires { ⌜ (from + n ≤ length (now s)) × (to + n ≤ length (now out)) ⌝ }
-    ensures { λ _. ⌜ now (out .exit) ≡ putAt to (take n (drop from (now (s .entry)))) (now (out .entry)) ⌝ }
-{
-    for i in 0..n {
-        out[to + i] = s[from + i];
-    }
-}
-
-fn clear(s: &mut [u32], start: usize, n: usize)
-    requires { ⌜ start + n ≤ length (now s) ⌝ }
-    ensures { λ _. ⌜ now (s .exit) ≡ putAt start (replicate n 0) (now (s .entry)) ⌝ }
-{
-    for i in 0..n {
-        s[start + i] = 0;
-    }
+    slices::copy(list, 0, n, s, start);
+    slices::clear(s, start + n, room - n);
 }

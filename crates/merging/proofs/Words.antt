@@ -1,32 +1,26 @@
 -- What writing a block leaves, word by word.
 use Prim.Native.Nat.{ℕ, zero, suc, _+_, _*_, _≤_, _<_}
 use mathlib.Core.Path.{_≡_, _∙_, refl}
-use mathlib.Core.List.{List, []}
-use mathlib.Core.Logic.{_≢_, dite}
+use mathlib.Core.List.{List, [], _∷_, _++_}
+use mathlib.Core.Logic.{_≢_}
 use native.Mathlib.Decide.{decLt}
 use native.Mathlib.Omega.{arith}
 use lib.Arith.{digits-lt}
-use lib.ListN.{length, getD, set, length-set}
-use lib.Seq.{getD-set-same, getD-set-other}
+use lib.ListN.{length, getD, set, take, length-append, length-take}
+use lib.Seq.{getD-set-same, getD-set-other, sets, length-sets}
 use Rattle.blocks.specs.declared.Layout.{Layout}
 use Rattle.blocks.specs.declared.Buffer.{Buffer}
-use Rattle.blocks.specs.Blocks.{Sized, startOf, copied, written}
-use Rattle.blocks.proofs.Laws.{in-store, copied-length}
+use Rattle.blocks.specs.Blocks.{Sized, startOf, written}
+use Rattle.blocks.proofs.Laws.{in-store}
 use Rattle.sides.specs.declared.Chunk.{Chunk}
 use Rattle.merging.specs.Blocks.{recsFrom}
 
-pub copied-out : (xs : List ℕ) (to : ℕ) (src : List ℕ) (n k : ℕ) → (to ≤ k → to + n ≤ k) → getD (copied xs to src n) k 0 ≡ getD xs k 0
-unfolding copied
-copied-out xs to src zero k h = refl
-copied-out xs to src (suc n) k h = getD-set-other (copied xs to src n) (to + n) k (getD src n 0) 0 (λ e. let h2 = h (omega arith) in omega arith) ∙ copied-out xs to src n k (λ l. let h2 = h l in omega arith)
-
-pub copied-in : (xs : List ℕ) (to : ℕ) (src : List ℕ) (n i : ℕ) → to + n ≤ length xs → i < n → getD (copied xs to src n) (to + i) 0 ≡ getD src i 0
-unfolding copied
-copied-in xs to src zero i h l = absurd (omega arith)
-copied-in xs to src (suc n) i h l =
-    dite (decLt i n)
-    (λ y. getD-set-other (copied xs to src n) (to + n) (to + i) (getD src n 0) 0 (λ e. omega arith) ∙ copied-in xs to src n i (omega arith) y)
-    (λ y. let e : i ≡ n = omega arith in rw e (getD-set-same (copied xs to src n) (to + n) (getD src n 0) 0 (rw copied-length (omega arith))))
+-- a word that is not among those stored
+sets-out : (xs : List ℕ) (a : ℕ) (ys : List ℕ) (k : ℕ) → (a ≤ k → a + length ys ≤ k) → getD (sets xs a ys) k 0 ≡ getD xs k 0
+sets-out xs a [] k h = refl
+sets-out xs a (y ∷ ys) k h =
+    sets-out (set xs a y) (suc a) ys k (λ l. let g = h (omega arith) in omega arith)
+    ∙ getD-set-other xs a k y 0 (λ e. let g = h (omega arith) in omega arith)
 
 -- a store of the same length has the same layout
 pub sized-on : (z : Layout) (xs ys : List ℕ) → Sized z xs → length ys ≡ length xs → Sized z ys
@@ -35,25 +29,23 @@ sized-on z xs ys s e =
 
 pub written-length : (z : Layout) (xs : List ℕ) (q : ℕ) (buf : Buffer) → length (written z xs q buf) ≡ length xs
 unfolding written
-written-length z xs q buf = simp (copied-length, length-set)
+written-length z xs q buf = length-sets xs (startOf z q) (buf .n ∷ buf .marks ∷ (take (z .b) (buf .keys) ++ take (z .b) (buf .pays)))
 
 module _ (z : Layout) (xs : List ℕ) (q : ℕ) (buf : Buffer) where
   -- a word that is not of place q
   pub written-out : (k : ℕ) → (startOf z q ≤ k → startOf z q + (2 + 2 * z .b) ≤ k) → getD (written z xs q buf) k 0 ≡ getD xs k 0
   unfolding written
   written-out k h =
-      copied-out (copied (set (set xs (startOf z q) (buf .n)) (startOf z q + 1) (buf .marks)) (startOf z q + 2) (buf .keys) (z .b)) (startOf z q + 2 + z .b) (buf .pays) (z .b) k (λ l. let g = h (omega arith) in omega arith)
-      ∙ copied-out (set (set xs (startOf z q) (buf .n)) (startOf z q + 1) (buf .marks)) (startOf z q + 2) (buf .keys) (z .b) k (λ l. let g = h (omega arith) in omega arith)
-      ∙ getD-set-other (set xs (startOf z q) (buf .n)) (startOf z q + 1) k (buf .marks) 0 (λ e. let g = h (omega arith) in omega arith)
-      ∙ getD-set-other xs (startOf z q) k (buf .n) 0 (λ e. let g = h (omega arith) in omega arith)
+      let ks = length-take (z .b) (buf .keys) in
+      let vs = length-take (z .b) (buf .pays) in
+      let n = length-append (take (z .b) (buf .keys)) (take (z .b) (buf .pays)) in
+      sets-out xs (startOf z q) (buf .n ∷ buf .marks ∷ (take (z .b) (buf .keys) ++ take (z .b) (buf .pays))) k (λ l. let g = h l in omega arith)
 
   module _ (s : Sized z xs) (h : q < z .p) where
     pub written-count : getD (written z xs q buf) (startOf z q) 0 ≡ buf .n
     unfolding written
     written-count =
-        copied-out (copied (set (set xs (startOf z q) (buf .n)) (startOf z q + 1) (buf .marks)) (startOf z q + 2) (buf .keys) (z .b)) (startOf z q + 2 + z .b) (buf .pays) (z .b) (startOf z q) (λ l. absurd (omega arith))
-        ∙ copied-out (set (set xs (startOf z q) (buf .n)) (startOf z q + 1) (buf .marks)) (startOf z q + 2) (buf .keys) (z .b) (startOf z q) (λ l. absurd (omega arith))
-        ∙ getD-set-other (set xs (startOf z q) (buf .n)) (startOf z q + 1) (startOf z q) (buf .marks) 0 (λ e. omega arith)
+        sets-out (set xs (startOf z q) (buf .n)) (suc (startOf z q)) (buf .marks ∷ (take (z .b) (buf .keys) ++ take (z .b) (buf .pays))) (startOf z q) (λ l. absurd (omega arith))
         ∙ getD-set-same xs (startOf z q) (buf .n) 0 (omega (arith, in-store z xs s q 0 h (omega arith)))
 
 -- the words of another place

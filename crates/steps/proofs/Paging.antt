@@ -35,10 +35,9 @@ use Rattle.words.proofs.Form.{all-part, marks-small}
 use Rattle.words.proofs.Laid.{laid-levels}
 use Rattle.words.proofs.State.{top-end, top-inside, lists-length}
 use Rattle.words.proofs.Steps.{laid-merge}
-use Rattle.lists.specs.Lists.{putAt}
+use Rattle.slices.specs.Slices.{putAt}
+use Rattle.slices.proofs.Put.{set-put, put-length, put-drop}
 use Rattle.lists.specs.Holds.{HoldsBut}
-use Rattle.lists.proofs.Put.{set-put, put-length}
-use Rattle.lists.proofs.Keeps.{put-drop}
 use Rattle.lists.proofs.Laws.{but-area, but-top}
 use Rattle.lists.proofs.Laws as listed
 use Rattle.top.specs.Top.{TopReady}

@@ -4,8 +4,10 @@ use mathlib.Core.Path.{_≡_, subst}
 use mathlib.Core.List.{List}
 use native.Mathlib.Nat.{mul-le-mul}
 use native.Mathlib.Omega.{arith}
-use lib.ListN.{length, replicate}
+use lib.ListN.{length, replicate, length-replicate}
 use borrow.Author.Tests.{eq-eqb, ne-eqb}
+use Rattle.slices.specs.Slices.{putAt}
+use Rattle.slices.proofs.Put.{put-all}
 use Rattle.geometry.specs.declared.Geometry.{Geometry}
 use Rattle.geometry.specs.Geometry.{Valid, keyLimitOf, sizeReason}
 use Rattle.geometry.proofs.Laws.{key-limit-high, store-length-low}
@@ -23,9 +25,10 @@ eight-more : (n : ℕ) → 8 ≤ n → eightMore (n - 8) ≡ n
 eight-more n h = omega arith
 
 -- "every word 0 but the six of the geometry and hand = P − 1"
-pub cleared-headed : (g : Geometry) (n : ℕ) → 8 ≤ n → headed (replicate n 0) g ≡ formatWords g n
+pub cleared-headed : (g : Geometry) (ws : List ℕ) → 8 ≤ length ws → headed (putAt 0 (replicate (length ws) 0) ws) g ≡ formatWords g (length ws)
 unfolding headed formatWords
-cleared-headed g n h = subst (λ (k : ℕ). headed (replicate k 0) g ≡ formatWords g k) (eight-more n h) (go (n - 8))
+cleared-headed g ws h =
+    rw (put-all (replicate (length ws) 0) ws (length-replicate _ _)) (subst (λ (k : ℕ). headed (replicate k 0) g ≡ formatWords g k) (eight-more (length ws) h) (go (length ws - 8)))
   where
     go : (m : ℕ) → headed (replicate (eightMore m) 0) g ≡ formatWords g (eightMore m)
     go m = let e : eightMore m - 8 ≡ m = omega arith in rw e

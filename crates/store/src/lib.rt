@@ -2,7 +2,7 @@
 
 ghost use mathlib.Core.Path.{_≡_};
 ghost use Prim.Native.Nat.{_≤_};
-ghost use lib.ListN.{length, replicate};
+ghost use lib.ListN.{length};
 ghost use Rattle.geometry.specs.Geometry.{Valid, keyLimitOf};
 ghost use Rattle.words.specs.Calls.{Outcome, FormatAnswer, formatOf, checkOf, lookUpOf, nextOf, showOf};
 ghost use Rattle.reader.specs.Answers.{lookedAnswer, nextedAnswer};
@@ -31,18 +31,11 @@ pub fn format(s: &mut [u32], b: u32, w: u32, d: u32, g: u32, h: u32, p: u32) -> 
     match entry::fit(s.len(), b, w, d, g, h, p) {
         Opened::Refused(n) => Formatted::Refused(n),
         Opened::Ready(t) => {
-            clear(s);
+            let n = s.len();
+            slices::clear(s, 0, n);
             put_header(s, b, w, d, g, h, p);
             Formatted::Done(limit(t))
         }
-    }
-}
-
-fn clear(s: &mut [u32])
-    ensures { λ _. ⌜ now (s .exit) ≡ replicate (length (now (s .entry))) 0 ⌝ }
-{
-    for i in 0..s.len() {
-        s[i] = 0;
     }
 }
 

@@ -1,48 +1,26 @@
--- Words copied down, words made 0, and a part of a list of words without some in its middle.
-use Prim.Native.Nat.{ℕ, _+_, _-_, _≤_, _<_}
-use mathlib.Core.Path.{_≡_, sym, ap, _∙_}
+-- A part of a list of words without some in its middle.
+use Prim.Native.Nat.{ℕ, _+_, _-_, _≤_}
+use mathlib.Core.Path.{_≡_, refl, _∙_}
 use mathlib.Core.List.{List, _++_, append-assoc}
-use native.Mathlib.Numerals.{add-one}
 use native.Mathlib.Omega.{arith}
-use lib.ListN.{length, take, drop, getD, set, replicate, length-append, length-drop, length-replicate, getD-replicate}
-use lib.Seq.{length-take-le, paste, paste-zero, paste-suc, length-paste-head, take-paste, drop-paste, getD-drop, take-all, take-append-le, drop-append-le, take-append-add, drop-append-add, take-at, drop-at, drop-drop}
-use Rattle.top.specs.Top.{copied, cleared, closed}
-use Rattle.top.proofs.Lists.{getD-right}
+use lib.ListN.{length, take, drop, replicate, length-append, length-drop, length-replicate}
+use lib.Seq.{length-take-le, take-append-le, drop-append-le, take-append-add, drop-append-add, take-at, drop-at}
+use Rattle.slices.specs.Slices.{putAt}
+use Rattle.slices.proofs.Put.{put-join}
+use Rattle.top.specs.Top.{closed}
 
-pub copied-none : (ws : List ℕ) (from to : ℕ) → ws ≡ copied ws from to 0
-unfolding copied
-copied-none ws from to = paste-zero ws to (drop from ws)
+put-closed : (ws s : List ℕ) (start n at gap : ℕ) → s ≡ take (n - (at + gap)) (drop (start + at + gap) ws) → start + at + length (s ++ replicate gap 0) ≡ start + n → putAt (start + at) (s ++ replicate gap 0) ws ≡ closed ws start n at gap
+unfolding putAt closed
+put-closed ws s start n at gap f e = rw (e, append-assoc s (replicate gap 0) (drop (start + n) ws), f)
 
--- the word to copy next has not been written over
-pub copied-more : (ws : List ℕ) (from to i : ℕ) → to ≤ from → from + i < length ws → set (copied ws from to i) (to + i) (getD (copied ws from to i) (from + i) 0) ≡ copied ws from to (i + 1)
-unfolding copied
-copied-more ws from to i h l =
-    let e : from + i ≡ to + i + (from - to) = omega arith in
-    let n : i < length (drop from ws) = rw length-drop (omega arith) in
-    let p = length-paste-head ws to (drop from ws) i (omega arith) (omega (arith, n)) in
-    let g : getD (copied ws from to i) (from + i) 0 ≡ getD (drop from ws) i 0 = ap (λ (x : ℕ). getD (copied ws from to i) x 0) e ∙ getD-right (take to ws ++ take i (drop from ws)) (drop (to + i) ws) (to + i) (from - to) 0 p ∙ getD-drop (to + i) ws (from - to) 0 ∙ ap (λ (x : ℕ). getD ws x 0) (sym e) ∙ sym (getD-drop from ws i 0) in
-    rw (g, add-one i) (paste-suc ws to (drop from ws) i 0 (omega arith) n)
-
-pub cleared-none : (ws : List ℕ) (start n : ℕ) → ws ≡ paste ws start (replicate n 0) 0
-cleared-none ws start n = paste-zero ws start (replicate n 0)
-
-pub cleared-more : (ws : List ℕ) (start n i : ℕ) → i < n → start + n ≤ length ws → set (paste ws start (replicate n 0) i) (start + i) 0 ≡ paste ws start (replicate n 0) (i + 1)
-cleared-more ws start n i h l =
-    rw (add-one i) (ap (set (paste ws start (replicate n 0) i) (start + i)) (sym (getD-replicate n i 0 0 h)) ∙ paste-suc ws start (replicate n 0) i 0 (omega arith) (rw length-replicate h))
-
--- both in turn: the later words move up and zeros come last
+-- words copied down and zeros put behind them: the later words move up and zeros come last
 pub closed-is : (ws : List ℕ) (start n at gap : ℕ) → at + gap ≤ n → start + n ≤ length ws
-    → cleared (copied ws (start + at + gap) (start + at) (n - (at + gap))) (start + at + (n - (at + gap))) gap ≡ closed ws start n at gap
-unfolding copied cleared closed
+    → putAt (start + at + (n - (at + gap))) (replicate gap 0) (putAt (start + at) (take (n - (at + gap)) (drop (start + at + gap) ws)) ws) ≡ closed ws start n at gap
 closed-is ws start n at gap h l =
-    let A = start + at in
-    let L = n - (at + gap) in
-    let s = drop (A + gap) ws in
-    let e : A + L + gap ≡ start + n = omega arith in
-    let m : L ≤ length s = rw length-drop (omega arith) in
-    let d : drop (A + L + gap) (paste ws A s L) ≡ drop (start + n) ws = sym (drop-drop gap (A + L) (paste ws A s L)) ∙ ap (drop gap) (drop-paste ws A s L (omega arith) m) ∙ drop-drop gap (A + L) ws ∙ ap (λ (x : ℕ). drop x ws) e in
-    rw (take-paste ws A s L (omega arith) m, d, take-all {A = ℕ} gap (replicate gap 0) (rw length-replicate (omega arith)))
-    (append-assoc (take A ws ++ take L s) (replicate gap 0) (drop (start + n) ws) ∙ append-assoc (take A ws) (take L s) (replicate gap 0 ++ drop (start + n) ws))
+    let s = take (n - (at + gap)) (drop (start + at + gap) ws) in
+    let m : length s ≡ n - (at + gap) = length-take-le (n - (at + gap)) (drop (start + at + gap) ws) (rw length-drop (omega arith)) in
+    let j = rw m at (put-join (start + at) s (replicate gap 0) ws (omega arith)) in
+    j ∙ put-closed ws s start n at gap refl (rw (length-append, length-replicate, m) (omega arith))
 
 -- a list without the `gap` elements after its first `at`, and as many of d at its end
 abbrev pub without : {A : Type 0} → ℕ → ℕ → A → List A → List A

@@ -5,7 +5,6 @@ use mathlib.Core.Bool.{Bool, true, false}
 use mathlib.Core.List.{List, [], _∷_, _++_}
 use lib.Dec.{ltb, eqb}
 use lib.ListN.{length, take, drop, set, replicate}
-use lib.Seq.{paste}
 use Rattle.geometry.specs.declared.Geometry.{Geometry}
 use Rattle.geometry.specs.Geometry.{Ranged, Valid, headerLength, topCapacityOf, marksStart, keysStart, paysStart, listStart, storeLength}
 use Rattle.levels.specs.Record.{Rec, rising}
@@ -87,14 +86,6 @@ withSlot g ws j r =
 -- slots with r in slot i, those from slot i to slot c - 1 one slot on: what was in slot c is gone
 unfoldable pub pushed : ℕ → ℕ → Rec → List Rec → List Rec
 pushed i c r rs = take (suc c) (take i rs ++ (r ∷ drop i rs)) ++ drop (suc c) rs
-
--- n words from word `from` on copied to word `to` and those after it
-unfoldable pub copied : List ℕ → ℕ → ℕ → ℕ → List ℕ
-copied ws from to n = paste ws to (drop from ws) n
-
--- n words from word `start` on made 0
-unfoldable pub cleared : List ℕ → ℕ → ℕ → List ℕ
-cleared ws start n = paste ws start (replicate n 0) n
 
 -- n words from word `start` on without the `gap` words after the first `at` of them: the later ones move up, and zeros come last
 unfoldable pub closed : List ℕ → ℕ → ℕ → ℕ → ℕ → List ℕ

@@ -8,7 +8,7 @@ ghost use lib.ListN.{length, take, drop};
 ghost use Rattle.geometry.specs.Geometry.{capacityOf, topCapacityOf, marksStart};
 ghost use Rattle.levels.specs.Put.{insert};
 ghost use Rattle.words.specs.Layout.{word, topCountAt, topSlots, topRecs};
-ghost use Rattle.top.specs.Top.{TopInside, TopReady, Room, spotOf, recOf, slotAt, setBit, withSlot, withSlots, withTop, pushed, copied, cleared, closed};
+ghost use Rattle.top.specs.Top.{TopInside, TopReady, Room, spotOf, recOf, slotAt, setBit, withSlot, withSlots, withTop, pushed, closed};
 use geometry::Geometry;
 
 // What a slot of level 0 holds: mark is true for a tombstone.
@@ -142,34 +142,14 @@ pub fn enter(s: &mut [u32], g: Geometry, at: Spot, k: u32, mark: bool, v: u32)
     }
 }
 
-// n words from word `from` on, copied to word `to` and those after it, which lie before them.
-fn copy_down(s: &mut [u32], from: usize, to: usize, n: usize)
-    requires { ⌜ (to ≤ from) × (from + n ≤ length (now s)) ⌝ }
-    ensures { λ _. ⌜ now (s .exit) ≡ copied (now (s .entry)) from to n ⌝ }
-{
-    for i in 0..n {
-        s[to + i] = s[from + i];
-    }
-}
-
-// n words from word `start` on made 0.
-fn clear_part(s: &mut [u32], start: usize, n: usize)
-    requires { ⌜ start + n ≤ length (now s) ⌝ }
-    ensures { λ _. ⌜ now (s .exit) ≡ cleared (now (s .entry)) start n ⌝ }
-{
-    for i in 0..n {
-        s[start + i] = 0;
-    }
-}
-
 // The n words from word `start` on without the `gap` words after the first `at` of them.
 fn close_part(s: &mut [u32], start: usize, n: usize, at: usize, gap: usize)
     requires { ⌜ (at + gap ≤ n) × (start + n ≤ length (now s)) ⌝ }
     ensures { λ _. ⌜ now (s .exit) ≡ closed (now (s .entry)) start n at gap ⌝ }
 {
     let left = n - (at + gap);
-    copy_down(s, start + at + gap, start + at, left);
-    clear_part(s, start + at + left, gap);
+    slices::copy_down(s, start + at + gap, left, start + at);
+    slices::clear(s, start + at + left, gap);
 }
 
 // Pages `first` to `first + w - 1` leave a full level 0. Whole pages move, so that mark words, keys and

@@ -9,7 +9,7 @@ use Rattle.lists.proofs.load.Tie as tie
 use Rattle.lists.proofs.load.Reads as reads
 use Rattle.lists.proofs.load.Lts as lts
 use Rattle.geometry.proofs.Geometry.list_start.Reads as list-start-reads
-use Rattle.lists.proofs.copy.Reads as copy-reads
+use Rattle.slices.proofs.copy.Reads as copy-reads
 
 add-n : tie.Need-add-n
 add-n c = search needs

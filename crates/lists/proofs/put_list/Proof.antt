@@ -14,8 +14,8 @@ use Rattle.lists.proofs.put_list.Reads as reads
 use Rattle.lists.proofs.put_list.Lts as lts
 use Rattle.geometry.proofs.Geometry.capacity.Reads as capacity-reads
 use Rattle.geometry.proofs.Geometry.list_start.Reads as list-start-reads
-use Rattle.lists.proofs.clear.Reads as clear-reads
-use Rattle.lists.proofs.copy.Reads as copy-reads
+use Rattle.slices.proofs.clear.Reads as clear-reads
+use Rattle.slices.proofs.copy.Reads as copy-reads
 
 list-start-requires : tie.Need-list-start-requires
 list-start-requires c κs = search needs

@@ -8,7 +8,7 @@ use Rattle.store.proofs.format.Tie as tie
 use Rattle.store.proofs.format.Reads as reads
 use Rattle.store.proofs.format.Lts as lts
 use Rattle.entry.proofs.fit.Reads as fit-reads
-use Rattle.store.proofs.clear.Reads as clear-reads
+use Rattle.slices.proofs.clear.Reads as clear-reads
 use Rattle.store.proofs.limit.Reads as limit-reads
 use Rattle.store.proofs.put_header.Reads as put-header-reads
 

@@ -5,8 +5,8 @@ use Rattle.top.proofs.close_part.Statement.{statement}
 use Rattle.top.proofs.close_part.Tie as tie
 use Rattle.top.proofs.close_part.Reads as reads
 use Rattle.top.proofs.close_part.Lts as lts
-use Rattle.top.proofs.clear_part.Reads as clear-part-reads
-use Rattle.top.proofs.copy_down.Reads as copy-down-reads
+use Rattle.slices.proofs.clear.Reads as clear-reads
+use Rattle.slices.proofs.copy_down.Reads as copy-down-reads
 
 add-left : tie.Need-add-left
 add-left c = search needs
@@ -26,20 +26,20 @@ add-copy-down-3 c = search needs
 copy-down-requires : tie.Need-copy-down-requires
 copy-down-requires c κs = search needs
 
-add-clear-part : tie.Need-add-clear-part
-add-clear-part c = search needs
+add-clear : tie.Need-add-clear
+add-clear c = search needs
 
-add-clear-part-2 : tie.Need-add-clear-part-2
-add-clear-part-2 c = search needs
+add-clear-2 : tie.Need-add-clear-2
+add-clear-2 c = search needs
 
-clear-part-requires : tie.Need-clear-part-requires
-clear-part-requires c κs = search needs
+clear-requires : tie.Need-clear-requires
+clear-requires c κs = search needs
 
 same-length : tie.Need-same-length
 same-length c = search needs
 
 returns : tie.Need-returns
-returns c = c .before .before .clear-part .ensures ∙ rw (c .before .before .before .before .before .before .copy-down .ensures) (closed-is _ _ _ _ _ (c .before .before .before .before .before .before .before .before .before .pre .0) (c .before .before .before .before .before .before .before .before .before .pre .1))
+returns c = c .before .before .clear .ensures ∙ rw (c .before .before .before .before .before .before .copy-down .ensures) (closed-is _ _ _ _ _ (c .before .before .before .before .before .before .before .before .before .pre .0) (c .before .before .before .before .before .before .before .before .before .pre .1))
 
 pub close-part-spec : {M : Type 1} → statement M
 close-part-spec =
@@ -51,8 +51,8 @@ close-part-spec =
     add-copy-down-2
     add-copy-down-3
     copy-down-requires
-    add-clear-part
-    add-clear-part-2
-    clear-part-requires
+    add-clear
+    add-clear-2
+    clear-requires
     same-length
     returns)
