@@ -25,8 +25,9 @@ use Rattle.words.specs.Layout.{countAt, listedAt, cursorAt, storeAt, areaOf, st
 use Rattle.words.specs.Calls.{compactedBlocks, writtenBlocks, leftWords}
 use Rattle.words.specs.Passed.{Passed}
 use Rattle.words.proofs.State.{Holds, words-hold, cursor-held, top-count-held}
-use Rattle.lists.specs.Lists.{roomOf, withLists}
-use Rattle.lists.proofs.Room.{room-level}
+use Rattle.words.specs.Form.{roomOf}
+use Rattle.words.proofs.Form.{room-level}
+use Rattle.lists.specs.Lists.{withLists}
 use Rattle.lists.proofs.Laws.{placesIn, but-held, lists-back}
 use Rattle.lists.proofs.Arrays.{three-places, count-held, count-room, places-listed}
 use Rattle.steps.specs.declared.Tally.{Tally}

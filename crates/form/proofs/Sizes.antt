@@ -17,6 +17,7 @@ use Rattle.geometry.proofs.Bounds.{capacity-zero-high}
 use Rattle.levels.specs.Basics.{if_then_else_, all, ceilDiv}
 use Rattle.words.specs.Layout.{word, topCountAt, countAt, listedAt}
 use Rattle.words.specs.Form.{liveFits, cursorInside, topFits, countsFit, placesInside, placesOnce, listsUnusedZero}
+use Rattle.words.proofs.Form.{room-level, room-above, count-fits}
 use Rattle.entry.specs.Entry.{Sized}
 use Rattle.directory.specs.Directory.{Within}
 use Rattle.form.specs.Form.{topOf, levelOf, headerOk, listsOk, Headed}
@@ -40,12 +41,6 @@ paged c b k h l =
     let p : k ≡ n + (k - n) = omega arith in
     record { few = omega arith; none-empty = omega arith; enough = omega arith; rest = sym (ap (λ (t : ℕ). t * b) p ∙ add-mul n (k - n) b) }
 
-limit-in : (g : Geometry) (i n : ℕ) → i ≤ g .h → n ≤ (if leb i (g .h) then capacityOf g i else 0) → n ≤ capacityOf g i
-limit-in g i n h l = rw (le-leb i (g .h) h) at l
-
-limit-out : (g : Geometry) (i n : ℕ) → g .h < i → n ≤ (if leb i (g .h) then capacityOf g i else 0) → n ≡ 0
-limit-out g i n h l = let k : n ≤ 0 = rw (lt-leb i (g .h) h) at l in omega arith
-
 -- the places end the store, and all else lies before them
 places-in : (g : Geometry) (ws : List ℕ) → Sized g ws → placesStart g ≤ length ws
 unfolding storeLength placeStart
@@ -61,20 +56,15 @@ module _ (g : Geometry) (ws : List ℕ) (z : Headed g ws) where
   unfolding topFits
   top-fits = leb-true _ _ (header-tests .1 .1 .0)
 
-  count-limit : (i : ℕ) → 1 ≤ i → i ≤ 3 → countAt ws i ≤ (if leb i (g .h) then capacityOf g i else 0)
-  unfolding countsFit
-  count-limit i a b =
-      leb-true _ _ (all-at (λ (i : ℕ). leb (countAt ws i) (if leb i (g .h) then capacityOf g i else 0)) 1 3 (header-tests .1 .1 .1) i a (omega arith))
-
   -- "each block count is at most K(i) (zero above h)"
-  pub count-fits : (i : ℕ) → 1 ≤ i → i ≤ g .h → countAt ws i ≤ capacityOf g i
-  count-fits i a b = limit-in g i (countAt ws i) b (count-limit i a (let r = z .sized .valid .ranged .h-high in omega arith))
+  pub count-low : (i : ℕ) → 1 ≤ i → i ≤ g .h → countAt ws i ≤ capacityOf g i
+  count-low i a b = rw (room-level g i b) at (count-fits g ws (header-tests .1 .1 .1) i a (omega (arith, z .sized .valid .ranged .h-high)))
 
   pub count-none : (i : ℕ) → 1 ≤ i → i ≤ 3 → g .h < i → countAt ws i ≡ 0
-  count-none i a b c = limit-out g i (countAt ws i) c (count-limit i a b)
+  count-none i a b c = let k = rw (room-above g i c) at (count-fits g ws (header-tests .1 .1 .1) i a b) in omega arith
 
   pub lists-in : (i : ℕ) → 1 ≤ i → i ≤ g .h → Listed g ws i
-  lists-in i a b = record { inside = let p = places-in g ws (z .sized) in let q = list-inside g a b in omega arith; fits = count-fits i a b }
+  lists-in i a b = record { inside = let p = places-in g ws (z .sized) in let q = list-inside g a b in omega arith; fits = count-low i a b }
 
   -- the pages of level 0
   pub top-paged : Paged (topCountAt ws) (g .b) (capacityOf g 0) (topOf g ws .chunks)

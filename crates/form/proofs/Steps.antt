@@ -14,17 +14,16 @@ use Rattle.geometry.proofs.Laws.{pays-end}
 use Rattle.geometry.proofs.Bounds.{capacity-zero-high}
 use Rattle.levels.specs.Basics.{if_then_else_}
 use Rattle.words.specs.Layout.{word}
-use Rattle.words.specs.Form.{liveFits, cursorInside, topFits, countsFit}
+use Rattle.words.specs.Form.{liveFits, cursorInside, topFits, roomOf, countsFit}
 use Rattle.chunks.specs.Chunks.{zerosAt}
 use Rattle.directory.specs.declared.Directory.{Directory}
 use Rattle.form.specs.Form.{Headed, headerOk, topOf, levelOf, freshOf, markOf, listsFrom, spareOk}
-use Rattle.form.specs.Checked.{limitOf}
 use Rattle.form.proofs.Sizes.{top-paged, lists-in}
 
 -- the tests of the header, one by one
-pub header-is : (g : Geometry) (ws : List ℕ) → (leb (word ws 6) (keyLimitOf g) && (ltb (word ws 7) (g .p) && (leb (word ws 8) (topCapacityOf g) && (leb (word ws 9) (limitOf g 1) && (leb (word ws 10) (limitOf g 2) && leb (word ws 11) (limitOf g 3)))))) ≡ headerOk g ws
-unfolding headerOk liveFits cursorInside topFits countsFit limitOf
-header-is g ws = go (leb (word ws 6) (keyLimitOf g)) (ltb (word ws 7) (g .p)) (leb (word ws 8) (topCapacityOf g)) (leb (word ws 9) (if leb 1 (g .h) then capacityOf g 1 else 0)) (leb (word ws 10) (if leb 2 (g .h) then capacityOf g 2 else 0)) (leb (word ws 11) (if leb 3 (g .h) then capacityOf g 3 else 0))
+pub header-is : (g : Geometry) (ws : List ℕ) → (leb (word ws 6) (keyLimitOf g) && (ltb (word ws 7) (g .p) && (leb (word ws 8) (topCapacityOf g) && (leb (word ws 9) (roomOf g 1) && (leb (word ws 10) (roomOf g 2) && leb (word ws 11) (roomOf g 3)))))) ≡ headerOk g ws
+unfolding headerOk liveFits cursorInside topFits countsFit
+header-is g ws = go (leb (word ws 6) (keyLimitOf g)) (ltb (word ws 7) (g .p)) (leb (word ws 8) (topCapacityOf g)) (leb (word ws 9) (roomOf g 1)) (leb (word ws 10) (roomOf g 2)) (leb (word ws 11) (roomOf g 3))
   where
     last : (t : Bool) → t ≡ (t && true)
     last true = refl

@@ -6,9 +6,10 @@ ghost use mathlib.Core.Bool.{true};
 ghost use Prim.Native.Nat.{_+_, _-_, _*_, _≤_, _<_};
 ghost use lib.ListN.{length};
 ghost use Rattle.geometry.specs.Geometry.{Ranged};
+ghost use Rattle.words.specs.Form.{roomOf};
 ghost use Rattle.entry.specs.Entry.{Sized};
 ghost use Rattle.form.specs.Form.{Headed, topOf, levelOf, headerOk, freshOf, markOf, listsOk, spareOk, passed};
-ghost use Rattle.form.specs.Checked.{checkedOf, limitOf};
+ghost use Rattle.form.specs.Checked.{checkedOf};
 use directory::Directory;
 use entry::Opened;
 use geometry::Geometry;
@@ -74,9 +75,9 @@ pub fn level_of(s: &[u32], g: Geometry, i: usize) -> Directory
 }
 
 // The most blocks that a level may list: none below the bottom.
-fn limit(g: Geometry, i: usize) -> usize
+fn room_of(g: Geometry, i: usize) -> usize
     requires { ⌜ Ranged g × (i ≤ 3) ⌝ }
-    ensures { λ r. ⌜ r ≡ limitOf g i ⌝ }
+    ensures { λ r. ⌜ r ≡ roomOf g i ⌝ }
 {
     let h = g.levels();
     if i <= h {
@@ -93,9 +94,9 @@ pub fn header_ok(s: &[u32], g: Geometry) -> bool
     let most = g.key_limit();
     let places = g.places();
     let room = g.top_capacity();
-    let k1 = limit(g, 1);
-    let k2 = limit(g, 2);
-    let k3 = limit(g, 3);
+    let k1 = room_of(g, 1);
+    let k2 = room_of(g, 2);
+    let k3 = room_of(g, 3);
     let live = chunks::word(s, 6);
     let hand = chunks::word(s, 7);
     let records = chunks::word(s, 8);

@@ -17,8 +17,8 @@ use Rattle.words.specs.Layout.{word, countAt, listedAt, levelAt, each, placeOf}
 use Rattle.words.proofs.Parts.{part-word, pad-word}
 use Rattle.words.proofs.Lists.{level-places}
 use Rattle.words.proofs.State.{Holds, counts-held, levels-held}
-use Rattle.lists.specs.Lists.{roomOf}
-use Rattle.lists.proofs.Room.{room-level}
+use Rattle.words.specs.Form.{roomOf}
+use Rattle.words.proofs.Form.{room-level}
 use Rattle.lists.proofs.Laws.{placesIn}
 
 -- the three arrays hold the places of the levels; those above h are empty

@@ -8,7 +8,6 @@ use native.Mathlib.Nat.{zero-add, mul-le-mul, mul-le-mul-right}
 use native.Mathlib.Omega.{arith}
 use lib.ListN.{length, take, drop, length-drop}
 use lib.Seq.{length-take-le, take-take, take-at}
-use borrow.Author.Tests.{le-leb, lt-leb}
 use Rattle.slices.specs.Slices.{putAt}
 use Rattle.slices.proofs.Put.{put-length, put-seam, put-join}
 use Rattle.geometry.specs.declared.Geometry.{Geometry}
@@ -17,16 +16,10 @@ use Rattle.geometry.proofs.Laws.{store-length-low, level-high, capacity-grows, 
 use Rattle.words.specs.Layout.{countAt, listAt, listedAt, pad}
 use Rattle.words.proofs.Parts.{pad-length}
 use Rattle.words.proofs.State.{store-length}
-use Rattle.lists.specs.Lists.{roomOf, placeLists, withLists}
+use Rattle.words.specs.Form.{roomOf}
+use Rattle.words.proofs.Form.{room-level, room-above}
+use Rattle.lists.specs.Lists.{placeLists, withLists}
 use Rattle.lists.proofs.Put.{counts-length}
-
-pub room-level : (g : Geometry) (i : ℕ) → i ≤ g .h → roomOf g i ≡ capacityOf g i
-unfolding roomOf
-room-level g i h = rw (le-leb i (g .h) h, roomOf)
-
-pub room-above : (g : Geometry) (i : ℕ) → g .h < i → roomOf g i ≡ 0
-unfolding roomOf
-room-above g i h = rw (lt-leb i (g .h) h, roomOf)
 
 -- "K(h) is at most 1,024": every list that fits its words fits a work array
 pub room-high : (g : Geometry) (i : ℕ) → Valid g → roomOf g i ≤ 1024

@@ -1,17 +1,11 @@
 -- The place lists apart from the words, and the words that they are put back to.
 use Prim.Native.Nat.{ℕ, suc}
-use mathlib.Core.Bool.{true, false}
 use mathlib.Core.List.{List, [], _∷_, _++_, map}
-use lib.Dec.{leb}
 use lib.ListN.{length, take}
 use Rattle.slices.specs.Slices.{putAt}
 use Rattle.geometry.specs.declared.Geometry.{Geometry}
 use Rattle.geometry.specs.Geometry.{capacityOf, listStart}
 use Rattle.words.specs.Layout.{pad}
-
--- the blocks that a level's list has room for at a call's ends: K(i), and none above h
-unfoldable pub roomOf : Geometry → ℕ → ℕ
-roomOf g i = elim (leb i (g .h)) [ true ↦ capacityOf g i | false ↦ 0 ]
 
 -- "For each level 1 to h, K(i) place numbers", "Unused .. list entries are 0": the lists of the levels from i on
 unfoldable pub placeLists : Geometry → ℕ → List (List ℕ) → List ℕ

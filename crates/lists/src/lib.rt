@@ -8,7 +8,8 @@ ghost use lib.ListN.{length, take};
 ghost use Rattle.slices.specs.Slices.{putAt};
 ghost use Rattle.geometry.specs.Geometry.{Valid, capacityOf, listStart, storeLength};
 ghost use Rattle.words.specs.Layout.{countAt, listedAt, pad};
-ghost use Rattle.lists.specs.Lists.{roomOf, withLists};
+ghost use Rattle.words.specs.Form.{roomOf};
+ghost use Rattle.lists.specs.Lists.{withLists};
 use geometry::Geometry;
 
 // The listed places of a level, to the front of `out`, and how many they are. Above h the count is 0, and nothing is

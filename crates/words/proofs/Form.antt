@@ -22,7 +22,7 @@ use Rattle.levels.specs.Every.{Every, allBlocks}
 use Rattle.levels.specs.Sound.{BlockFits, Fits, Tight, Sound}
 use Rattle.levels.proofs.Every.{every-turn, every-both, every-map, every-of-all, all-of-every}
 use Rattle.words.specs.Layout.{word, geometryAt, topCountAt, countAt, topSlots, topRecs, listedAt, recordCount, markWordAt, blockSlots, blockAt, levelAt, each, storeAt, pad, placeOf, headerWords, listWords, blockWords, areaOf, storeWords, part, placeWords}
-use Rattle.words.specs.Form.{allListed, listedPlaces, blank, liveExact, liveFits, cursorInside, topFits, countsFit, placesInside, placesOnce, blocksFilled, keysRise, bottomUnmarked, topUnusedZero, listsUnusedZero, blocksUnusedZero, tombstonesClean, pairsKept, levelsKept, clauses, formed}
+use Rattle.words.specs.Form.{allListed, listedPlaces, blank, liveExact, liveFits, cursorInside, topFits, roomOf, countsFit, placesInside, placesOnce, blocksFilled, keysRise, bottomUnmarked, topUnusedZero, listsUnusedZero, blocksUnusedZero, tombstonesClean, pairsKept, levelsKept, clauses, formed}
 use Rattle.words.specs.Passed.{Laid}
 use Rattle.words.proofs.Parts.{part-word, pad-word, part-cons}
 use Rattle.words.proofs.Slots.{slots-length, mark-low, padRecs, pad-blank}
@@ -112,13 +112,22 @@ unfolding blockAt
 places-of-blocks g ws [] = refl
 places-of-blocks g ws (p ∷ ps) = rw (places-of-blocks g ws ps)
 
--- "each block count is at most K(i)", "(zero above h)", for every level number
-count-fits : (g : Geometry) (ws : List ℕ) → countsFit g ws ≡ true → (i : ℕ) → 1 ≤ i → i ≤ 3 → countAt ws i ≤ (if leb i (g .h) then capacityOf g i else 0)
+-- "at most K(i)", "(zero above h)"
+pub room-level : (g : Geometry) (i : ℕ) → i ≤ g .h → roomOf g i ≡ capacityOf g i
+unfolding roomOf
+room-level g i h = rw (le-leb i (g .h) h)
+
+pub room-above : (g : Geometry) (i : ℕ) → g .h < i → roomOf g i ≡ 0
+unfolding roomOf
+room-above g i h = rw (lt-leb i (g .h) h)
+
+-- for every level number
+pub count-fits : (g : Geometry) (ws : List ℕ) → countsFit g ws ≡ true → (i : ℕ) → 1 ≤ i → i ≤ 3 → countAt ws i ≤ roomOf g i
 unfolding countsFit
 count-fits g ws e i l h = let k = simp and-eq-true-iff at e in go i l h (leb-true _ _ (k .0)) (leb-true _ _ (k .1 .0)) (leb-true _ _ (k .1 .1 .0))
   where
     Fit : ℕ → Type 0
-    Fit i = countAt ws i ≤ (if leb i (g .h) then capacityOf g i else 0)
+    Fit i = countAt ws i ≤ roomOf g i
 
     go : (i : ℕ) → 1 ≤ i → i ≤ 3 → Fit 1 → Fit 2 → Fit 3 → Fit i
     go zero l h a b c = absurd (omega arith)
@@ -136,10 +145,10 @@ bottom-level g ws h =
 -- What the form check says of words that pass it.
 module _ (g : Geometry) (ws : List ℕ) (v : Valid g) (long : length ws ≡ storeLength g) (c : Clauses g ws) where
   count-low : (i : ℕ) → 1 ≤ i → i ≤ g .h → countAt ws i ≤ capacityOf g i
-  count-low i l h = let k = count-fits g ws (c .counts-fit) i l (omega (arith, v .ranged .h-high)) in rw (le-leb i (g .h) h) at k
+  count-low i l h = let k = count-fits g ws (c .counts-fit) i l (omega (arith, v .ranged .h-high)) in rw (room-level g i h) at k
 
   count-none : (i : ℕ) → g .h < i → i ≤ 3 → countAt ws i ≡ 0
-  count-none i l h = let k = rw (lt-leb i (g .h) l) at (count-fits g ws (c .counts-fit) i (omega arith) h) in omega arith
+  count-none i l h = let k = rw (room-above g i l) at (count-fits g ws (c .counts-fit) i (omega arith) h) in omega arith
 
   pub clauses-listed : Listed g ws 1 (each (levelAt g ws) 1 (g .h))
   unfolding listsUnusedZero flashCapacityOf
@@ -324,7 +333,7 @@ module _ (g : Geometry) (ws : List ℕ) (s : Store) (v : Valid g) (f : Fits g s)
       (marks-small (g .b) (capacityOf g 0) (padRecs (topCapacityOf g) (s .top)))
 
   pub holds-clauses : Clauses g ws
-  unfolding liveExact liveFits cursorInside topFits countsFit placesInside placesOnce blocksFilled keysRise bottomUnmarked topUnusedZero listsUnusedZero blocksUnusedZero tombstonesClean pairsKept levelsKept
+  unfolding liveExact liveFits cursorInside topFits roomOf countsFit placesInside placesOnce blocksFilled keysRise bottomUnmarked topUnusedZero listsUnusedZero blocksUnusedZero tombstonesClean pairsKept levelsKept
   holds-clauses =
       let st = store-held g ws s v f k in
       record {

@@ -55,7 +55,7 @@ use Rattle.words.specs.Layout.{
   writeBlocks,
   storeWords,
 }
-use Rattle.words.specs.Form.{listedPlaces, liveExact, liveFits, cursorInside, topFits, countsFit, placesInside, placesOnce, blocksFilled, keysRise, bottomUnmarked, topUnusedZero, listsUnusedZero, blocksUnusedZero, tombstonesClean, pairsKept, levelsKept, clauses, formed, reasonOf}
+use Rattle.words.specs.Form.{listedPlaces, liveExact, liveFits, cursorInside, topFits, roomOf, countsFit, placesInside, placesOnce, blocksFilled, keysRise, bottomUnmarked, topUnusedZero, listsUnusedZero, blocksUnusedZero, tombstonesClean, pairsKept, levelsKept, clauses, formed, reasonOf}
 use Rattle.words.specs.Calls.{
   Outcome,
   ChangeAnswer,
@@ -102,7 +102,7 @@ unfolding
     placesStart placeStart storeLength sizeReason find into overlay view unmarked mapOf liveCount decides lookUp isLive firstFrom next cutAt freeAfter
     firstFree settle newlyUsed mergeCut compactLevel compactIfNeeded stepFive mergeRun mergeLevel deepestOver mergesBelow mergesFrom insert mergesFor enter
     put delete blocksMerged blocksCompacted countsOf slotsAt pageSlots topSlots topRecs listAt listedAt blockSlots blockAt levelAt storeAt markWord
-    headerWords topWords listWords blockWords writeBlock writeBlocks storeWords listedPlaces liveExact liveFits cursorInside topFits countsFit placesInside placesOnce
+    headerWords topWords listWords blockWords writeBlock writeBlocks storeWords listedPlaces liveExact liveFits cursorInside topFits roomOf countsFit placesInside placesOnce
     blocksFilled keysRise bottomUnmarked topUnusedZero listsUnusedZero blocksUnusedZero tombstonesClean pairsKept levelsKept clauses formed reasonOf formatWords formatOf
     checkOf lookUpOf nextOf enclosing showIn showOf leftWords changeOutcome putOf deleteOf
 perform ws (formatAs g) = let o = formatOf ws g in record { answer = o .answer .reason ∷ o .answer .limit ∷ []; words = o .words }

@@ -5,7 +5,7 @@ use Rattle.form.proofs.header_ok.Tie as tie
 use Rattle.form.proofs.header_ok.Reads as reads
 use Rattle.form.proofs.header_ok.Lts as lts
 use Rattle.chunks.proofs.word.Reads as word-reads
-use Rattle.form.proofs.limit.Reads as limit-reads
+use Rattle.form.proofs.room_of.Reads as room-of-reads
 use Rattle.geometry.proofs.Geometry.key_limit.Reads as key-limit-reads
 use Rattle.geometry.proofs.Geometry.places.Reads as places-reads
 use Rattle.geometry.proofs.Geometry.top_capacity.Reads as top-capacity-reads
@@ -19,14 +19,14 @@ places-requires c κs = search needs
 top-capacity-requires : tie.Need-top-capacity-requires
 top-capacity-requires c κs = search needs
 
-limit-requires : tie.Need-limit-requires
-limit-requires c κs = search needs
+room-of-requires : tie.Need-room-of-requires
+room-of-requires c κs = search needs
 
-limit-requires-2 : tie.Need-limit-requires-2
-limit-requires-2 c κs = search needs
+room-of-requires-2 : tie.Need-room-of-requires-2
+room-of-requires-2 c κs = search needs
 
-limit-requires-3 : tie.Need-limit-requires-3
-limit-requires-3 c κs = search needs
+room-of-requires-3 : tie.Need-room-of-requires-3
+room-of-requires-3 c κs = search needs
 
 word-requires : tie.Need-word-requires
 word-requires c κs = search needs
@@ -47,7 +47,7 @@ word-requires-6 : tie.Need-word-requires-6
 word-requires-6 c κs = search needs
 
 returns : tie.Need-returns
-returns c = rw (← header-is (c .before .before .before .before .before .before .before .before .before .before .before .before .before .args .g) (c .before .before .before .before .before .before .before .before .before .before .before .before .before .args .s .now), c .before .before .before .before .before .word .ensures .0, c .before .before .before .before .word2 .ensures .0, c .before .before .before .word3 .ensures .0, c .before .before .word4 .ensures .0, c .before .word5 .ensures .0, c .word6 .ensures .0, c .before .before .before .before .before .before .before .before .limit .ensures, c .before .before .before .before .before .before .before .limit2 .ensures, c .before .before .before .before .before .before .limit3 .ensures, c .before .before .before .before .before .before .before .before .before .top-capacity .ensures, c .before .before .before .before .before .before .before .before .before .before .places .ensures, c .before .before .before .before .before .before .before .before .before .before .before .key-limit .ensures)
+returns c = rw (← header-is (c .before .before .before .before .before .before .before .before .before .before .before .before .before .args .g) (c .before .before .before .before .before .before .before .before .before .before .before .before .before .args .s .now), c .before .before .before .before .before .word .ensures .0, c .before .before .before .before .word2 .ensures .0, c .before .before .before .word3 .ensures .0, c .before .before .word4 .ensures .0, c .before .word5 .ensures .0, c .word6 .ensures .0, c .before .before .before .before .before .before .before .before .room-of .ensures, c .before .before .before .before .before .before .before .room-of2 .ensures, c .before .before .before .before .before .before .room-of3 .ensures, c .before .before .before .before .before .before .before .before .before .top-capacity .ensures, c .before .before .before .before .before .before .before .before .before .before .places .ensures, c .before .before .before .before .before .before .before .before .before .before .before .key-limit .ensures)
 
 pub header-ok-spec : {M : Type 1} → statement M
 header-ok-spec =
@@ -56,9 +56,9 @@ header-ok-spec =
     key-limit-requires
     places-requires
     top-capacity-requires
-    limit-requires
-    limit-requires-2
-    limit-requires-3
+    room-of-requires
+    room-of-requires-2
+    room-of-requires-3
     word-requires
     word-requires-2
     word-requires-3

@@ -2,7 +2,8 @@ use Prim.Native.Nat.{_≤_}
 use mathlib.Core.Path.{_≡_, _∙_}
 use native.Mathlib.Omega.{arith}
 use Rattle.geometry.proofs.Laws.{store-length-low}
-use Rattle.lists.proofs.Room.{room-level, room-high, one-stored, two-stored, three-stored}
+use Rattle.words.proofs.Form.{room-level}
+use Rattle.lists.proofs.Room.{room-high, one-stored, two-stored, three-stored}
 use borrow.Author.Needs.{needs}
 use Rattle.lists.proofs.store_back.Statement.{statement}
 use Rattle.lists.proofs.store_back.Tie as tie
