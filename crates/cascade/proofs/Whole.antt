@@ -34,7 +34,7 @@ use Rattle.steps.specs.declared.Run.{Run}
 use Rattle.steps.specs.Running.{storeOf, Listed, Stands, numbersOf, plus, Few, Small, Leaving, StepReady, stepCounts}
 use Rattle.cascade.specs.Cascade.{Rolling, listCounts, FullStore, Loaded, MergedAll}
 use Rattle.steps.proofs.Standing.{stand}
-use Rattle.steps.proofs.Stepping.{top-fits}
+use Rattle.steps.proofs.Relisting.{top-fits}
 use Rattle.steps.proofs.Chaining.{grown-small, leaving-chain}
 use Rattle.cascade.proofs.Rolling.{counts-cons, step-low}
 

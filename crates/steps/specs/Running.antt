@@ -159,14 +159,15 @@ pub record OneLeft (t : Store) (blocks : List Block) (f : ℕ → levels.Counts)
   pub counts : Grown f tally (r .tally)
 
 -- the numbers of a run with those of level j + 1 anew
-unfoldable pub relisted : Run → ℕ → One → Run
-relisted r j d = elim (eqb j 0) [
-  | true ↦ record { n1 = d .n; n2 = r .n2; n3 = r .n3; cursor = d .cursor; tally = d .tally }
-  | false ↦ elim (eqb j 1) [
-    | true ↦ record { n1 = r .n1; n2 = d .n; n3 = r .n3; cursor = d .cursor; tally = d .tally }
-    | false ↦ record { n1 = r .n1; n2 = r .n2; n3 = d .n; cursor = d .cursor; tally = d .tally }
-  ]
-]
+abbrev pub relisted : Run → ℕ → One → Run
+relisted r j d =
+    record {
+      n1 = if eqb j 0 then d .n else r .n1;
+      n2 = if eqb j 1 then d .n else r .n2;
+      n3 = if eqb j 2 then d .n else r .n3;
+      cursor = d .cursor;
+      tally = d .tally;
+    }
 
 -- the counts of a merge without its step 5
 abbrev pub mergedCounts : Merge → ℕ → levels.Counts
