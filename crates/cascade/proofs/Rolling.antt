@@ -28,6 +28,7 @@ use Rattle.steps.specs.declared.Run.{Run}
 use Rattle.steps.specs.Running.{storeOf, Stands, numbersOf, plus, Leaving, StepReady, stepCounts}
 use Rattle.cascade.specs.Cascade.{deepestFor, Rolling, listCounts}
 use Rattle.steps.proofs.Chaining.{grown-small, small-more, plus-assoc}
+use Rattle.steps.proofs.Compacting.{same-counts}
 use Rattle.cascade.proofs.Depth.{deepest-is}
 
 -- the counts of a merge and those after it
@@ -99,11 +100,7 @@ module _ (n : ℕ) (g : Geometry) (ws0 one0 two0 three0 : List ℕ) (r0 : Run) (
       })
     where
       none : (c : levels.Counts) → c ≡ plus c (record { merges = 0; written = 0; compacted = 0 })
-      none c =
-          let x : c .merges ≡ c .merges + 0 = omega arith in
-          let y : c .written ≡ c .written + 0 = omega arith in
-          let z : c .compacted ≡ c .compacted + 0 = omega arith in
-          λ i. record { merges = x i; written = y i; compacted = z i }
+      none c = same-counts c (record { merges = 0; written = 0; compacted = 0 }) refl refl refl
 
   -- a merge is due
   module _ (j : ℕ) (dj : d ≡ suc j) where

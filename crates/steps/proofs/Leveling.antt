@@ -4,10 +4,8 @@ use mathlib.Core.Path.{_≡_, refl, subst}
 use mathlib.Core.Bool.{Bool}
 use mathlib.Core.List.{List, []}
 use mathlib.Core.Logic.{_≢_}
-use lib.Dec.{eqb}
 use lib.ListN.{length, getD, set}
 use Rattle.geometry.specs.declared.Geometry.{Geometry}
-use Rattle.levels.specs.Basics.{if_then_else_}
 use Rattle.levels.specs.Store.{Store, usedIn}
 use Rattle.levels.specs.Call.{mergeCut, mergeRun, mergeLevel}
 use Rattle.levels.specs.Inside.{Inside}
@@ -17,7 +15,7 @@ use Rattle.blocks.specs.Blocks.{Marks}
 use Rattle.steps.specs.declared.Run.{Run}
 use Rattle.steps.specs.declared.One.{One}
 use Rattle.steps.specs.declared.Two.{Two}
-use Rattle.steps.specs.Running.{namedIn, storeOf, Listed, Markable, Leaving, mergedCounts, OneLeft, TwoReady, TwoLeft, PageReady, StepReady, relisted}
+use Rattle.steps.specs.Running.{namedIn, storeOf, Listed, Markable, Leaving, mergedCounts, OneLeft, TwoReady, TwoLeft, PageReady, StepReady, anew, relisted}
 use Rattle.steps.proofs.Standing.{used-is, markable}
 use Rattle.steps.proofs.Relisting.{top-fits, relistedTwo, one-leaves, two-leaves}
 use Rattle.steps.proofs.Merging.{start-inside}
@@ -76,7 +74,7 @@ module _ (g : Geometry) (ws one two three : List ℕ) (level : ℕ) (r : Run) (k
           → (t : Store) → t ≡ store → Leaving g (mergeLevel g level t .finish) (mergeLevel g level t .written) (mergedCounts (mergeLevel g level t)) ws r ws' one' two three u
       merged-top ws' one' d u q left t et =
           rw (et, e, q)
-          (one-leaves g (k .entry) store (mergeLevel g 0 store .finish) ws one two three r (k .stands) (k .valid) (facts 0 e .finish-inside) (gap-short (k .entry) store g ws used one (r .n1) (r .cursor) (r .tally) page-asks) _ _ 0 (top-keeps g store) ws' one' d (left (k .entry) store page-asks))
+          (one-leaves g (k .entry) store (mergeLevel g 0 store .finish) ws one two three r (k .stands) (k .valid) (facts 0 e .finish-inside) (gap-short (k .entry) store g ws used one (r .n1) (r .cursor) (r .tally) page-asks) _ _ ws' 0 (top-keeps g store) one' d (left (k .entry) store page-asks))
 
     -- out of level j + 1: what `merge_two` asks, and what it leaves
     module _ (j : ℕ) (e : level ≡ suc j) (upper lower : List ℕ) (a n : ℕ) (x : Listed store j upper a) (y : Listed store (suc j) lower n) where
@@ -97,7 +95,7 @@ module _ (g : Geometry) (ws one two three : List ℕ) (level : ℕ) (r : Run) (k
       pub merged-below : (ws' upper' lower' : List ℕ) (d : Two) (u : Run) → u ≡ relistedTwo r j d
           → ((e t : Store) (i : ℕ) → TwoReady e t i g ws used upper lower (suc j) a n (r .cursor) (r .tally) → TwoLeft (mergeLevel g (suc i) t .finish) (mergeLevel g (suc i) t .written) (mergedCounts (mergeLevel g (suc i) t)) i g ws ws' upper' lower' (r .tally) d)
           → (t : Store) → t ≡ store
-          → Leaving g (mergeLevel g level t .finish) (mergeLevel g level t .written) (mergedCounts (mergeLevel g level t)) ws r ws' (if eqb (suc j) 0 then lower' else (if eqb j 0 then upper' else one)) (if eqb (suc j) 1 then lower' else (if eqb j 1 then upper' else two)) (if eqb (suc j) 2 then lower' else (if eqb j 2 then upper' else three)) u
+          → Leaving g (mergeLevel g level t .finish) (mergeLevel g level t .written) (mergedCounts (mergeLevel g level t)) ws r ws' (anew (suc j) lower' 0 (anew j upper' 0 one)) (anew (suc j) lower' 1 (anew j upper' 1 two)) (anew (suc j) lower' 2 (anew j upper' 2 three)) u
       merged-below ws' upper' lower' d u q left t et =
           rw (et, e, q)
-          (two-leaves g (k .entry) store (mergeLevel g (suc j) store .finish) ws one two three r (k .stands) (k .valid) (facts (suc j) e .finish-inside) (rw (merge-top-kept g store j) (top-fits g store ws one two three r (k .stands))) _ _ j (merge-keeps g store j) ws' upper' lower' d (left (k .entry) store j two-asks))
+          (two-leaves g (k .entry) store (mergeLevel g (suc j) store .finish) ws one two three r (k .stands) (k .valid) (facts (suc j) e .finish-inside) (rw (merge-top-kept g store j) (top-fits g store ws one two three r (k .stands))) _ _ ws' j (merge-keeps g store j) upper' lower' d (left (k .entry) store j two-asks))

@@ -5,10 +5,8 @@ use mathlib.Core.Bool.{Bool, true, false}
 use mathlib.Core.List.{List, []}
 use mathlib.Core.Logic.{_≢_}
 use native.Mathlib.Omega.{arith}
-use lib.Dec.{eqb}
 use lib.ListN.{length, getD}
 use Rattle.geometry.specs.declared.Geometry.{Geometry}
-use Rattle.levels.specs.Basics.{if_then_else_}
 use Rattle.levels.specs.Waste.{needsCompact}
 use Rattle.levels.specs.Store.{Store}
 use Rattle.levels.specs.Call.{Compaction, compactLevel, compactIfNeeded, afterCompactions}
@@ -21,7 +19,7 @@ use Rattle.blocks.specs.Blocks.{Marks}
 use Rattle.compaction.specs.Machine.{Countable}
 use Rattle.steps.specs.declared.Run.{Run}
 use Rattle.steps.specs.declared.One.{One}
-use Rattle.steps.specs.Running.{namedIn, storeOf, Listed, Leaving, Running, compactedCounts, wastes, dueOf, OneReady, OneAsked, OneLeft, relisted}
+use Rattle.steps.specs.Running.{namedIn, storeOf, Listed, Leaving, Running, compactedCounts, wastes, dueOf, OneReady, OneAsked, OneLeft, anew, relisted}
 use Rattle.steps.proofs.Standing.{used-is, listed-level, countable}
 use Rattle.steps.proofs.Relisting.{top-fits, one-leaves}
 use Rattle.steps.proofs.Compacting.{needed-is, not-needed, grown-none}
@@ -89,9 +87,9 @@ module _ (g : Geometry) (ws one two three : List ℕ) (r : Run) (k : Running 200
     pub compacted : (ws' list' : List ℕ) (d : One) (u : Run) → u ≡ relisted r j d
         → ((e t : Store) → OneReady e t g ws used list j n (r .cursor) (r .tally) → OneLeft (afterCompactions t (compactIfNeeded g (suc j) t)) (compactedBlocks (compactIfNeeded g (suc j) t)) (compactedCounts (compactIfNeeded g (suc j) t)) g ws ws' list' j (r .tally) d)
         → (t : Store) → t ≡ store
-        → Leaving g (afterCompactions t (compactIfNeeded g level t)) (compactedBlocks (compactIfNeeded g level t)) (compactedCounts (compactIfNeeded g level t)) ws r ws' (if eqb j 0 then list' else one) (if eqb j 1 then list' else two) (if eqb j 2 then list' else three) u
+        → Leaving g (afterCompactions t (compactIfNeeded g level t)) (compactedBlocks (compactIfNeeded g level t)) (compactedCounts (compactIfNeeded g level t)) ws r ws' (anew j list' 0 one) (anew j list' 1 two) (anew j list' 2 three) u
     compacted ws' list' d u q left t et =
         let p = needed-keeps g store j in
         rw (et, el, q)
         (one-leaves g (k .entry) store (afterCompactions store (compactIfNeeded g (suc j) store)) ws one two three r (k .stands) (k .valid) (needed-stepped g (k .entry) store j (k .valid) (omega (arith, el, high)) (k .inside) .0 .inside)
-        (rw (p .0) (top-fits g store ws one two three r (k .stands))) _ _ j (p .1) ws' list' d (left (k .entry) store ready))
+        (rw (p .0) (top-fits g store ws one two three r (k .stands))) _ _ ws' j (p .1) list' d (left (k .entry) store ready))

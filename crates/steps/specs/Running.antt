@@ -158,13 +158,17 @@ pub record OneLeft (t : Store) (blocks : List Block) (f : ℕ → levels.Counts)
   pub area : areaOf g ws' ≡ writeBlocks g (areaOf g ws) blocks
   pub counts : Grown f tally (r .tally)
 
+-- what list i has, where list j has a and the others keep what they had
+abbrev pub anew : {A : Type 0} → ℕ → A → ℕ → A → A
+anew j a i b = if eqb j i then a else b
+
 -- the numbers of a run with those of level j + 1 anew
 abbrev pub relisted : Run → ℕ → One → Run
 relisted r j d =
     record {
-      n1 = if eqb j 0 then d .n else r .n1;
-      n2 = if eqb j 1 then d .n else r .n2;
-      n3 = if eqb j 2 then d .n else r .n3;
+      n1 = anew j (d .n) 0 (r .n1);
+      n2 = anew j (d .n) 1 (r .n2);
+      n3 = anew j (d .n) 2 (r .n3);
       cursor = d .cursor;
       tally = d .tally;
     }
