@@ -1,24 +1,21 @@
 -- The merges out of listed levels, one after the other.
-use Prim.Native.Nat.{ℕ, suc, _+_, _-_, _*_, _≤_, _<_}
+use Prim.Native.Nat.{ℕ, suc, _+_, _-_, _≤_, _<_}
 use mathlib.Core.Path.{_≡_, refl, sym, ap, _∙_, subst}
 use mathlib.Core.Bool.{Bool, true, false}
 use mathlib.Core.List.{List, [], _∷_, _++_, append-assoc}
 use native.Mathlib.Omega.{arith}
 use lib.Dec.{eqb}
-use lib.ListN.{length}
 use Rattle.geometry.specs.declared.Geometry.{Geometry}
 use Rattle.geometry.specs.Geometry.{Valid}
 use Rattle.levels.specs.Basics.{if_then_else_, total}
 use Rattle.levels.specs.Store.{Store, rows}
-use Rattle.levels.specs.Call.{Compaction, Merge, mergeLevel, afterMerge, afterMerges, deepestOver, mergesBelow}
-use Rattle.levels.specs.Count.{blocksMerged, blocksCompacted, totalInto, totalCompacted, countsOf}
+use Rattle.levels.specs.Call.{Merge, mergeLevel, afterMerge, afterMerges, deepestOver, mergesBelow}
+use Rattle.levels.specs.Count.{blocksMerged, totalInto, totalCompacted, countsOf}
 use Rattle.levels.specs.Count as levels
-use Rattle.levels.specs.Every.{Every}
 use Rattle.levels.specs.Inside.{load}
-use Rattle.levels.specs.InCall.{CompactionFacts, MergeFacts}
-use Rattle.levels.proofs.CompactInside.{compaction-newly}
+use Rattle.levels.specs.InCall.{MergeFacts}
 use Rattle.levels.proofs.InCall.{next-facts, merge-start, below-stop, below-next}
-use Rattle.levels.proofs.CallCounts.{merge-short}
+use Rattle.levels.proofs.CallCounts.{compacted-most, merge-short}
 use Rattle.levels.proofs.MergeBounds.{merge-written}
 use Rattle.words.specs.Layout.{areaOf, writeBlocks}
 use Rattle.words.specs.Calls.{compactedBlocks, writtenBlocks}
@@ -45,14 +42,6 @@ counts-cons m ms j =
     λ i. record { merges = x i; written = y i; compacted = z i }
 
 -- no merge with its step 5 counts more than 16,384 blocks
-compacted-most : (g : Geometry) (e : Store) (j : ℕ) (cs : List Compaction) → Valid g → Every (CompactionFacts g e) cs → totalCompacted j cs ≤ 8192 * length cs
-compacted-most g e j [] v f = omega arith
-compacted-most g e j (c ∷ cs) v f = pick (eqb (c .level) j) (compacted-most g e j cs v (f .1))
-  where
-    pick : (t : Bool) → totalCompacted j cs ≤ 8192 * length cs → (if t then blocksCompacted c else 0) + totalCompacted j cs ≤ 8192 * suc (length cs)
-    pick true q = omega (arith, compaction-newly g e c (f .0), f .0 .room, v .places-high)
-    pick false q = omega arith
-
 pub step-low : (g : Geometry) (e : Store) (m : Merge) → Valid g → MergeFacts g e m → (j : ℕ) → (stepCounts m j .merges ≤ 16384) × (stepCounts m j .written ≤ 16384) × (stepCounts m j .compacted ≤ 16384)
 unfolding countsOf
 step-low g e m v f j = pick (eqb (suc (m .level)) j)

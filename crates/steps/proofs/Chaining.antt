@@ -18,7 +18,7 @@ use Rattle.levels.specs.Count as levels
 use Rattle.levels.specs.Every.{Every}
 use Rattle.levels.specs.Inside.{Inside}
 use Rattle.levels.specs.InCall.{CompactionFacts, MergeFacts}
-use Rattle.levels.proofs.CompactInside.{compaction-newly, needed-stepped}
+use Rattle.levels.proofs.CompactInside.{compaction-newly, after-append, needed-stepped}
 use Rattle.levels.proofs.MergeBounds.{merge-written}
 use Rattle.words.specs.Layout.{areaOf, writeBlocks}
 use Rattle.words.specs.Calls.{compactedBlocks}
@@ -92,10 +92,6 @@ running-after n g e t ws one two three r v i s k = record {
 }
 
 -- step 5 in two parts
-after-both : (s : Store) (cs ds : List Compaction) → afterCompactions s (cs ++ ds) ≡ afterCompactions (afterCompactions s cs) ds
-after-both s [] ds = refl
-after-both s (c ∷ cs) ds = after-both (c .finish) cs ds
-
 blocks-both : (cs ds : List Compaction) → compactedBlocks (cs ++ ds) ≡ compactedBlocks cs ++ compactedBlocks ds
 blocks-both [] ds = refl
 blocks-both (c ∷ cs) ds = ap (λ (bs : List Block). c .written ++ bs) (blocks-both cs ds) ∙ sym (append-assoc (c .written) (compactedBlocks cs) (compactedBlocks ds))
@@ -231,7 +227,7 @@ module _ (g : Geometry) (ws one two three : List ℕ) (level : ℕ) (r : Run) (k
           let q : mergeLevel g level t .compactions ≡ cs ++ ds = five-below g t level low in
           let d = leaving-chain g _ _ _ _ _ _ ws r ws1 one1 two1 three1 r1 ws3 one3 two3 three3 r3 a (leaving-chain g _ _ _ _ _ _ ws1 r1 ws2 one2 two2 three2 r2 ws3 one3 two3 three3 r3 b c) in
           record {
-            stands = subst (λ (z : Store). Stands g z ws3 one3 two3 three3 r3) (sym (ap (afterCompactions x) q ∙ after-both x cs ds)) (d .stands);
+            stands = subst (λ (z : Store). Stands g z ws3 one3 two3 three3 r3) (sym (ap (afterCompactions x) q ∙ after-append x cs ds)) (d .stands);
             area = d .area ∙ ap (λ (bs : List Block). writeBlocks g (areaOf g ws) (mergeLevel g level t .written ++ bs)) (sym (ap compactedBlocks q ∙ blocks-both cs ds));
             counts = grown-same _ (stepCounts (mergeLevel g level t)) (r .tally) (r3 .tally) (λ j. ap (plus (mergedCounts (mergeLevel g level t) j)) (sym (ap (λ (es : List Compaction). compactedCounts es j) q ∙ compacted-both cs ds j)) ∙ step-counts (mergeLevel g level t) j) (d .counts);
           }
