@@ -14,7 +14,7 @@ use Rattle.levels.specs.Record.{Level, records, rising}
 use Rattle.levels.specs.Choose.{choose}
 use Rattle.levels.specs.Place.{Allocation, Settled}
 use Rattle.levels.specs.Store.{Store, blocksOf, usedIn, allocationOf}
-use Rattle.levels.specs.Call.{Merge, mergeCut, mergeRun, mergeLevel}
+use Rattle.levels.specs.Call.{mergeCut, mergeRun, mergeLevel}
 use Rattle.levels.specs.Count.{blocksMerged, aboveOf, underOf}
 use Rattle.levels.specs.Count as levels
 use Rattle.levels.specs.InCall.{Due, MergeFacts}
@@ -161,9 +161,6 @@ module _ (e t : Store) (j : ℕ) (g : Geometry) (ws : List ℕ) (used : List Boo
         subst (λ (x : Level). PairOf g (allocationOf t) ws ws' used' upper' lower' r (suc j) (getD (t .levels) j []) x) under-is
         (subst (λ (x : Level). PairOf g (allocationOf t) ws ws' used' upper' lower' r (suc j) x (levelOf g ws lower n)) above-is
         (subst (λ (i : ℕ). PairOf g (allocationOf t) ws ws' used' upper' lower' r i (levelOf g ws upper a) (levelOf g ws lower n)) (k .level-is) left))
-
-    m : Merge
-    m = mergeLevel g (suc j) t
 
     writes-is : r .writes ≡ length (mergeLevel g (suc j) t .written)
     unfolding left-is PairOf upperAfter lowerAfter mergeLevel mergeRun mergeCut

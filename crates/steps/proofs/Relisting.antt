@@ -50,6 +50,7 @@ relistedTwo r j d = relisted (relisted r j (record { n = d .a; cursor = d .curso
 
 -- A change of the store t, which stands, to x.
 module _ (g : Geometry) (e t x : Store) (ws one two three : List ℕ) (r : Run) (s : Stands g t ws one two three r) (v : Valid g) (i : Inside g e x) (h : length (x .top) ≤ topCapacityOf g) (blocks : List Block) (f : ℕ → levels.Counts) (ws' : List ℕ) where
+  -- of any lists: list i is new i of the one before
   lists-leave : (new : ℕ → List ℕ → List ℕ) (many : ℕ → ℕ → ℕ) (c : ℕ) (tally : Tally) → ((i : ℕ) (list : List ℕ) (n : ℕ) → Listed t i list n → Listed x i (new i list) (many i n))
       → HoldsBut g ws' x → c ≡ x .cursor → areaOf g ws' ≡ writeBlocks g (areaOf g ws) blocks → Grown f (r .tally) tally
       → Leaving g x blocks f ws r ws' (new 0 one) (new 1 two) (new 2 three) (record { n1 = many 0 (r .n1); n2 = many 1 (r .n2); n3 = many 2 (r .n3); cursor = c; tally = tally })

@@ -84,6 +84,7 @@ module _ (g : Geometry) (ws one two three : List ℕ) (r : Run) (k : Running 200
     pub one-asks : dueOf g ws one two three r level ≡ true → OneAsked g ws used list j n (r .cursor) (r .tally) × (wastes g ws list n ≡ true)
     one-asks h = (record { entry = k .entry; store = store; ready = ready }, wastes-is j list n l ∙ sym (due-is j (omega (arith, el, high))) ∙ (rw el at h))
 
+    -- what it leaves
     pub compacted : (ws' list' : List ℕ) (d : One) (u : Run) → u ≡ relisted r j d
         → ((e t : Store) → OneReady e t g ws used list j n (r .cursor) (r .tally) → OneLeft (afterCompactions t (compactIfNeeded g (suc j) t)) (compactedBlocks (compactIfNeeded g (suc j) t)) (compactedCounts (compactIfNeeded g (suc j) t)) g ws ws' list' j (r .tally) d)
         → (t : Store) → t ≡ store
