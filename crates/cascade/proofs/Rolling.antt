@@ -1,24 +1,21 @@
 -- The merges out of listed levels, one after the other.
-use Prim.Native.Nat.{ℕ, suc, _+_, _-_, _*_, _≤_, _<_}
+use Prim.Native.Nat.{ℕ, suc, _+_, _-_, _≤_, _<_}
 use mathlib.Core.Path.{_≡_, refl, sym, ap, _∙_, subst}
 use mathlib.Core.Bool.{Bool, true, false}
 use mathlib.Core.List.{List, [], _∷_, _++_, append-assoc}
 use native.Mathlib.Omega.{arith}
 use lib.Dec.{eqb}
-use lib.ListN.{length}
 use Rattle.geometry.specs.declared.Geometry.{Geometry}
 use Rattle.geometry.specs.Geometry.{Valid}
 use Rattle.levels.specs.Basics.{if_then_else_, total}
 use Rattle.levels.specs.Store.{Store, rows}
-use Rattle.levels.specs.Call.{Compaction, Merge, mergeLevel, afterMerge, afterMerges, deepestOver, mergesBelow}
-use Rattle.levels.specs.Count.{blocksMerged, blocksCompacted, totalInto, totalCompacted, countsOf}
+use Rattle.levels.specs.Call.{Merge, mergeLevel, afterMerge, afterMerges, deepestOver, mergesBelow}
+use Rattle.levels.specs.Count.{blocksMerged, totalInto, totalCompacted, countsOf}
 use Rattle.levels.specs.Count as levels
-use Rattle.levels.specs.Every.{Every}
 use Rattle.levels.specs.Inside.{load}
-use Rattle.levels.specs.InCall.{CompactionFacts, MergeFacts}
-use Rattle.levels.proofs.CompactInside.{compaction-newly}
+use Rattle.levels.specs.InCall.{MergeFacts}
 use Rattle.levels.proofs.InCall.{next-facts, merge-start, below-stop, below-next}
-use Rattle.levels.proofs.CallCounts.{merge-short}
+use Rattle.levels.proofs.CallCounts.{compacted-most, merge-short}
 use Rattle.levels.proofs.MergeBounds.{merge-written}
 use Rattle.words.specs.Layout.{areaOf, writeBlocks}
 use Rattle.words.specs.Calls.{compactedBlocks, writtenBlocks}
@@ -28,6 +25,7 @@ use Rattle.steps.specs.declared.Run.{Run}
 use Rattle.steps.specs.Running.{storeOf, Stands, numbersOf, plus, Leaving, StepReady, stepCounts}
 use Rattle.cascade.specs.Cascade.{deepestFor, Rolling, listCounts}
 use Rattle.steps.proofs.Chaining.{grown-small, small-more, plus-assoc}
+use Rattle.steps.proofs.Compacting.{same-counts}
 use Rattle.cascade.proofs.Depth.{deepest-is}
 
 -- the counts of a merge and those after it
@@ -44,14 +42,6 @@ counts-cons m ms j =
     λ i. record { merges = x i; written = y i; compacted = z i }
 
 -- no merge with its step 5 counts more than 16,384 blocks
-compacted-most : (g : Geometry) (e : Store) (j : ℕ) (cs : List Compaction) → Valid g → Every (CompactionFacts g e) cs → totalCompacted j cs ≤ 8192 * length cs
-compacted-most g e j [] v f = omega arith
-compacted-most g e j (c ∷ cs) v f = pick (eqb (c .level) j) (compacted-most g e j cs v (f .1))
-  where
-    pick : (t : Bool) → totalCompacted j cs ≤ 8192 * length cs → (if t then blocksCompacted c else 0) + totalCompacted j cs ≤ 8192 * suc (length cs)
-    pick true q = omega (arith, compaction-newly g e c (f .0), f .0 .room, v .places-high)
-    pick false q = omega arith
-
 pub step-low : (g : Geometry) (e : Store) (m : Merge) → Valid g → MergeFacts g e m → (j : ℕ) → (stepCounts m j .merges ≤ 16384) × (stepCounts m j .written ≤ 16384) × (stepCounts m j .compacted ≤ 16384)
 unfolding countsOf
 step-low g e m v f j = pick (eqb (suc (m .level)) j)
@@ -77,20 +67,19 @@ pub goes-first : (n : ℕ) (g : Geometry) (ws one two three : List ℕ) (r : Run
 goes-first n g ws one two three r k = record { steps = n; rolling = k; rest = record { store = refl; area = refl; one = refl; two = refl; three = refl } }
 
 module _ (n : ℕ) (g : Geometry) (ws0 one0 two0 three0 : List ℕ) (r0 : Run) (ws one two three : List ℕ) (r : Run) (k : Goes n g ws0 one0 two0 three0 r0 ws one two three r) (d : ℕ) (ed : d ≡ deepestFor g (g .h) (r .n1) (r .n2)) where
-  t : Store
+  abbrev pub t : Store
   t = storeOf g ws one two three r
 
-  deepest : d ≡ deepestOver g (g .h - 1) (storeOf g ws one two three r)
-  deepest = let s = k .rolling .stands in deepest-is g (storeOf g ws one two three r) (r .n1) (r .n2) d (k .rolling .valid .ranged) (s .first .count) (s .second .count) ed
+  deepest : d ≡ deepestOver g (g .h - 1) t
+  deepest = let s = k .rolling .stands in deepest-is g t (r .n1) (r .n2) d (k .rolling .valid .ranged) (s .first .count) (s .second .count) ed
 
   -- nothing is over its capacity
   pub goes-last : (u : Run) → u ≡ r → d ≡ 0 → (t0 : Store) → t0 ≡ storeOf g ws0 one0 two0 three0 r0 → Leaving g (afterMerges t0 (mergesBelow n g t0)) (writtenBlocks (mergesBelow n g t0)) (listCounts (mergesBelow n g t0)) ws0 r0 ws one two three u
   unfolding countsOf writeBlocks
   goes-last u eu z t0 et =
-      let x : Store = storeOf g ws one two three r in
-      let q : mergesBelow (k .steps) g x ≡ [] = below-stop (k .steps) g x (sym deepest ∙ z) in
+      let q : mergesBelow (k .steps) g t ≡ [] = below-stop (k .steps) g t (sym deepest ∙ z) in
       let e = k .rest in
-      let f = subst (λ (ms : List Merge). Rest g (storeOf g ws0 one0 two0 three0 r0) (mergesBelow n g (storeOf g ws0 one0 two0 three0 r0)) ws0 r0 x ms ws r) q e in
+      let f = subst (λ (ms : List Merge). Rest g (storeOf g ws0 one0 two0 three0 r0) (mergesBelow n g (storeOf g ws0 one0 two0 three0 r0)) ws0 r0 t ms ws r) q e in
       rw (et, eu)
       (record {
         stands = subst (λ (y : Store). Stands g y ws one two three r) (f .store) (k .rolling .stands);
@@ -99,16 +88,12 @@ module _ (n : ℕ) (g : Geometry) (ws0 one0 two0 three0 : List ℕ) (r0 : Run) (
       })
     where
       none : (c : levels.Counts) → c ≡ plus c (record { merges = 0; written = 0; compacted = 0 })
-      none c =
-          let x : c .merges ≡ c .merges + 0 = omega arith in
-          let y : c .written ≡ c .written + 0 = omega arith in
-          let z : c .compacted ≡ c .compacted + 0 = omega arith in
-          λ i. record { merges = x i; written = y i; compacted = z i }
+      none c = same-counts c (record { merges = 0; written = 0; compacted = 0 }) refl refl refl
 
   -- a merge is due
   module _ (j : ℕ) (dj : d ≡ suc j) where
-    facts : MergeFacts g (k .rolling .entry) (mergeLevel g (suc j) (storeOf g ws one two three r))
-    facts = let p = k .rolling in next-facts g (p .entry) (storeOf g ws one two three r) j (p .valid) (p .entry-is) (p .inside) (p .ruled) (sym deepest ∙ dj)
+    facts : MergeFacts g (k .rolling .entry) (mergeLevel g (suc j) t)
+    facts = let p = k .rolling in next-facts g (p .entry) t j (p .valid) (p .entry-is) (p .inside) (p .ruled) (sym deepest ∙ dj)
 
     pub goes-asks : StepReady 1900000000 g ws one two three d r
     goes-asks =
@@ -117,20 +102,20 @@ module _ (n : ℕ) (g : Geometry) (ws0 one0 two0 three0 : List ℕ) (r0 : Run) (
           valid = p .valid;
           entry = p .entry;
           stands = p .stands;
-          facts = subst (λ (i : ℕ). MergeFacts g (p .entry) (mergeLevel g i (storeOf g ws one two three r))) (sym dj) facts;
+          facts = subst (λ (i : ℕ). MergeFacts g (p .entry) (mergeLevel g i t)) (sym dj) facts;
           full = λ z. absurd (omega (arith, z, dj));
           small = small-more (p .bound) 1900000000 (r .tally) (omega (arith, p .bound-low)) (p .small);
         }
 
-    falls : load (rows (afterMerge (mergeLevel g (suc j) (storeOf g ws one two three r)))) < load (rows (storeOf g ws one two three r))
-    falls = omega (arith, facts .falls, ap (λ (x : Store). load (rows x)) (merge-start g (suc j) (storeOf g ws one two three r)))
+    falls : load (rows (afterMerge (mergeLevel g (suc j) t))) < load (rows t)
+    falls = omega (arith, facts .falls, ap (λ (x : Store). load (rows x)) (merge-start g (suc j) t))
 
     module _ (ws' one' two' three' : List ℕ) (r' : Run)
-        (l : Leaving g (afterMerge (mergeLevel g d (storeOf g ws one two three r))) (mergeLevel g d (storeOf g ws one two three r) .written ++ compactedBlocks (mergeLevel g d (storeOf g ws one two three r) .compactions)) (stepCounts (mergeLevel g d (storeOf g ws one two three r))) ws r ws' one' two' three' r') where
-      left : let m : Merge = mergeLevel g (suc j) (storeOf g ws one two three r) in Leaving g (afterMerge m) (m .written ++ compactedBlocks (m .compactions)) (stepCounts m) ws r ws' one' two' three' r'
-      left = subst (λ (i : ℕ). let m : Merge = mergeLevel g i (storeOf g ws one two three r) in Leaving g (afterMerge m) (m .written ++ compactedBlocks (m .compactions)) (stepCounts m) ws r ws' one' two' three' r') dj l
+        (l : Leaving g (afterMerge (mergeLevel g d t)) (mergeLevel g d t .written ++ compactedBlocks (mergeLevel g d t .compactions)) (stepCounts (mergeLevel g d t)) ws r ws' one' two' three' r') where
+      left : let m : Merge = mergeLevel g (suc j) t in Leaving g (afterMerge m) (m .written ++ compactedBlocks (m .compactions)) (stepCounts m) ws r ws' one' two' three' r'
+      left = subst (λ (i : ℕ). let m : Merge = mergeLevel g i t in Leaving g (afterMerge m) (m .written ++ compactedBlocks (m .compactions)) (stepCounts m) ws r ws' one' two' three' r') dj l
 
-      pub goes-less : load (rows (storeOf g ws' one' two' three' r')) < load (rows (storeOf g ws one two three r))
+      pub goes-less : load (rows (storeOf g ws' one' two' three' r')) < load (rows t)
       unfolding left
       goes-less = omega (arith, falls, ap (λ (x : Store). load (rows x)) (left .stands .store))
 
@@ -138,14 +123,13 @@ module _ (n : ℕ) (g : Geometry) (ws0 one0 two0 three0 : List ℕ) (r0 : Run) (
       unfolding left
       goes-on =
           let p = k .rolling in
-          let x : Store = storeOf g ws one two three r in
-          let m : Merge = mergeLevel g (suc j) x in
+          let m : Merge = mergeLevel g (suc j) t in
           let y : Store = afterMerge m in
           let s = left .stands in
           let f = facts in
           let st = k .steps in
-          let q : mergesBelow st g x ≡ m ∷ mergesBelow (st - 1) g y = below-next st g (p .entry) x j (p .valid) (p .entry-is) (p .inside) (p .ruled) (p .load-low) (sym deepest ∙ dj) in
-          let e = subst (λ (ms : List Merge). Rest g (storeOf g ws0 one0 two0 three0 r0) (mergesBelow n g (storeOf g ws0 one0 two0 three0 r0)) ws0 r0 x ms ws r) q (k .rest) in
+          let q : mergesBelow st g t ≡ m ∷ mergesBelow (st - 1) g y = below-next st g (p .entry) t j (p .valid) (p .entry-is) (p .inside) (p .ruled) (p .load-low) (sym deepest ∙ dj) in
+          let e = subst (λ (ms : List Merge). Rest g (storeOf g ws0 one0 two0 three0 r0) (mergesBelow n g (storeOf g ws0 one0 two0 three0 r0)) ws0 r0 t ms ws r) q (k .rest) in
           let ms : List Merge = mergesBelow (st - 1) g y in
           let count : (i : ℕ) (c c' : levels.Counts) → c' ≡ plus c (stepCounts m i) → plus c' (countsOf i ms) ≡ plus c (countsOf i (m ∷ ms)) = λ i c c' a. ap (λ (z : levels.Counts). plus z (countsOf i ms)) a ∙ plus-assoc c (stepCounts m i) (countsOf i ms) ∙ ap (plus c) (sym (counts-cons m ms i)) in
           let now : Rest g (storeOf g ws0 one0 two0 three0 r0) (mergesBelow n g (storeOf g ws0 one0 two0 three0 r0)) ws0 r0 y ms ws' r' = record {

@@ -23,7 +23,6 @@ use Rattle.levels.proofs.CallMerges.{from-is, first-facts, from-facts, from-end
 use Rattle.levels.proofs.CallCounts.{steps-high}
 use Rattle.words.specs.Layout.{countAt, listedAt, cursorAt, storeAt, areaOf, storeWords, writeBlocks}
 use Rattle.words.specs.Calls.{compactedBlocks, writtenBlocks, leftWords}
-use Rattle.words.specs.Passed.{Passed}
 use Rattle.words.proofs.State.{Holds, words-hold, cursor-held, top-count-held}
 use Rattle.words.specs.Form.{roomOf}
 use Rattle.words.proofs.Form.{room-level}
@@ -35,56 +34,67 @@ use Rattle.steps.specs.declared.Run.{Run}
 use Rattle.steps.specs.Running.{storeOf, Listed, Stands, numbersOf, plus, Few, Small, Leaving, StepReady, stepCounts}
 use Rattle.cascade.specs.Cascade.{Rolling, listCounts, FullStore, Loaded, MergedAll}
 use Rattle.steps.proofs.Standing.{stand}
-use Rattle.steps.proofs.Stepping.{top-fits}
+use Rattle.steps.proofs.Relisting.{top-fits}
 use Rattle.steps.proofs.Chaining.{grown-small, leaving-chain}
 use Rattle.cascade.proofs.Rolling.{counts-cons, step-low}
 
 module _ (g : Geometry) (ws : List ℕ) (k : FullStore g ws) where
-  abbrev p : Passed g ws
-  p = k .passed
-
-  s0 : Store
+  abbrev pub s0 : Store
   s0 = storeAt g ws
 
-  holds : Holds g ws (storeAt g ws)
-  holds = subst (λ (x : List ℕ). Holds g x (storeAt g ws)) (k .passed .written) (words-hold g (storeAt g ws) (areaOf g ws) (k .passed .valid) (k .passed .fits) (k .passed .laid .full) (k .passed .laid))
+  -- the first merge, those after it, and all
+  abbrev pub m0 : Merge
+  m0 = mergeLevel g 0 s0
+
+  abbrev pub later : List Merge
+  later = mergesBelow 98304 g (afterMerge m0)
+
+  abbrev pub all : List Merge
+  all = mergesFrom g s0
+
+  -- the store at the end
+  abbrev pub end : Store
+  end = afterMerges s0 all
+
+  holds : Holds g ws s0
+  holds = subst (λ (x : List ℕ). Holds g x s0) (k .passed .written) (words-hold g s0 (areaOf g ws) (k .passed .valid) (k .passed .fits) (k .passed .laid .full) (k .passed .laid))
 
   -- what `load` asks
   pub load-asks : (i level : ℕ) → level ≡ suc i → i < 3 → Valid g × ((length ws ≡ storeLength g) × ((1 ≤ level) × ((level ≤ 3) × (countAt ws level ≤ roomOf g level))))
-  load-asks i level e h = (k .passed .valid, (k .passed .long, (omega (arith, e), (omega (arith, e), rw e (count-room g ws (storeAt g ws) (k .passed .valid) (k .passed .fits) holds i h)))))
+  load-asks i level e h = (k .passed .valid, (k .passed .long, (omega (arith, e), (omega (arith, e), rw e (count-room g ws s0 (k .passed .valid) (k .passed .fits) holds i h)))))
 
-  listed : (i level : ℕ) (list : List ℕ) (n : ℕ) → level ≡ suc i → i < 3 → (n ≡ countAt ws level) × ((take n list ≡ listedAt g ws level) × (length list ≡ 4096)) → Listed (storeAt g ws) i list n
+  listed : (i level : ℕ) (list : List ℕ) (n : ℕ) → level ≡ suc i → i < 3 → (n ≡ countAt ws level) × ((take n list ≡ listedAt g ws level) × (length list ≡ 4096)) → Listed s0 i list n
   listed i level list n e h l = record {
     long = l .1 .1;
-    count = l .0 ∙ ap (countAt ws) e ∙ count-held g ws (storeAt g ws) (k .passed .valid) (k .passed .fits) holds i h;
-    places = l .1 .0 ∙ ap (listedAt g ws) e ∙ places-listed g ws (storeAt g ws) (k .passed .valid) (k .passed .fits) holds i h;
+    count = l .0 ∙ ap (countAt ws) e ∙ count-held g ws s0 (k .passed .valid) (k .passed .fits) holds i h;
+    places = l .1 .0 ∙ ap (listedAt g ws) e ∙ places-listed g ws s0 (k .passed .valid) (k .passed .fits) holds i h;
   }
 
-  inside : Inside g (storeAt g ws) (storeAt g ws)
-  inside = entry-inside g (storeAt g ws) (k .passed .valid) (k .passed .fits) (k .passed .sound)
+  inside : Inside g s0 s0
+  inside = entry-inside g s0 (k .passed .valid) (k .passed .fits) (k .passed .sound)
 
   -- the cursor is small
   pub cursor-small : cursorAt ws ≤ 8192
-  cursor-small = omega (arith, cursor-held g ws (storeAt g ws) (k .passed .valid) (k .passed .fits) holds, k .passed .sound .cursor-inside, k .passed .valid .places-high)
+  cursor-small = omega (arith, cursor-held g ws s0 (k .passed .valid) (k .passed .fits) holds, k .passed .sound .cursor-inside, k .passed .valid .places-high)
 
   pub loaded : (one two three : List ℕ) (r : Run) → (r .n1 ≡ countAt ws 1) × ((take (r .n1) one ≡ listedAt g ws 1) × (length one ≡ 4096)) → (r .n2 ≡ countAt ws 2) × ((take (r .n2) two ≡ listedAt g ws 2) × (length two ≡ 4096))
       → (r .n3 ≡ countAt ws 3) × ((take (r .n3) three ≡ listedAt g ws 3) × (length three ≡ 4096)) → r .cursor ≡ cursorAt ws
       → r .tally ≡ record { one = record { merges = 0; written = 0; compacted = 0 }; two = record { merges = 0; written = 0; compacted = 0 }; three = record { merges = 0; written = 0; compacted = 0 } }
       → Loaded g ws one two three r
   loaded one two three r a b c d z = record {
-    stands = stand g (storeAt g ws) (storeAt g ws) ws one two three r (k .passed .valid) inside (but-held g ws (storeAt g ws) (k .passed .valid) (k .passed .fits) holds) (k .passed .fits .top-fits)
-        (listed 0 1 one (r .n1) refl (omega arith) a) (listed 1 2 two (r .n2) refl (omega arith) b) (listed 2 3 three (r .n3) refl (omega arith) c) (d ∙ cursor-held g ws (storeAt g ws) (k .passed .valid) (k .passed .fits) holds);
+    stands = stand g s0 s0 ws one two three r (k .passed .valid) inside (but-held g ws s0 (k .passed .valid) (k .passed .fits) holds) (k .passed .fits .top-fits)
+        (listed 0 1 one (r .n1) refl (omega arith) a) (listed 1 2 two (r .n2) refl (omega arith) b) (listed 2 3 three (r .n3) refl (omega arith) c) (d ∙ cursor-held g ws s0 (k .passed .valid) (k .passed .fits) holds);
     none = z;
   }
 
-  full : length (storeAt g ws .top) ≡ topCapacityOf g
-  full = sym (top-count-held g ws (storeAt g ws) (k .passed .valid) (k .passed .fits) holds) ∙ k .full
+  full : length (s0 .top) ≡ topCapacityOf g
+  full = sym (top-count-held g ws s0 (k .passed .valid) (k .passed .fits) holds) ∙ k .full
 
-  facts : MergeFacts g (storeAt g ws) (mergeLevel g 0 (storeAt g ws))
-  facts = first-facts g (storeAt g ws) (k .passed .valid) (k .passed .fits) (k .passed .sound) full
+  facts : MergeFacts g s0 m0
+  facts = first-facts g s0 (k .passed .valid) (k .passed .fits) (k .passed .sound) full
 
   module _ (one two three : List ℕ) (r : Run) (l : Loaded g ws one two three r) where
-    is : storeOf g ws one two three r ≡ storeAt g ws
+    is : storeOf g ws one two three r ≡ s0
     is = l .stands .store
 
     none-few : (n : ℕ) → Small n (r .tally)
@@ -94,83 +104,77 @@ module _ (g : Geometry) (ws : List ℕ) (k : FullStore g ws) where
     pub first-ready : StepReady 1900000000 g ws one two three 0 r
     first-ready = record {
       valid = k .passed .valid;
-      entry = storeAt g ws;
+      entry = s0;
       stands = subst (λ (x : Store). Stands g x ws one two three r) (sym is) (l .stands);
-      facts = subst (λ (x : Store). MergeFacts g (storeAt g ws) (mergeLevel g 0 x)) (sym is) facts;
+      facts = subst (λ (x : Store). MergeFacts g s0 (mergeLevel g 0 x)) (sym is) facts;
       full = λ z. ap (λ (x : Store). length (x .top)) is ∙ full;
       small = none-few 1900000000;
     }
 
-    load-high : load (rows (storeAt g ws)) ≤ 98304
-    load-high = omega (arith, load-enough g (storeAt g ws) (k .passed .fits .level-count), steps-high g (storeAt g ws) (k .passed .valid) (k .passed .fits) (k .passed .sound))
+    load-high : load (rows s0) ≤ 98304
+    load-high = omega (arith, load-enough g s0 (k .passed .fits .level-count), steps-high g s0 (k .passed .valid) (k .passed .fits) (k .passed .sound))
 
-    load-falls : load (rows (afterMerge (mergeLevel g 0 (storeAt g ws)))) < load (rows (storeAt g ws))
-    load-falls = omega (arith, facts .falls, ap (λ (x : Store). load (rows x)) (merge-start g 0 (storeAt g ws)))
+    load-falls : load (rows (afterMerge m0)) < load (rows s0)
+    load-falls = omega (arith, facts .falls, ap (λ (x : Store). load (rows x)) (merge-start g 0 s0))
 
     module _ (ws1 one1 two1 three1 : List ℕ) (r1 : Run)
-        (a : let m : Merge = mergeLevel g 0 (storeAt g ws) in Leaving g (afterMerge m) (m .written ++ compactedBlocks (m .compactions)) (stepCounts m) ws r ws1 one1 two1 three1 r1) where
+        (a : Leaving g (afterMerge m0) (m0 .written ++ compactedBlocks (m0 .compactions)) (stepCounts m0) ws r ws1 one1 two1 three1 r1) where
       -- what the later merges ask
       pub below-ready : Rolling 98304 g ws1 one1 two1 three1 r1
       below-ready =
-          let m : Merge = mergeLevel g 0 (storeAt g ws) in
           let s = a .stands in
           record {
             valid = k .passed .valid;
-            entry = storeAt g ws;
-            entry-is = entry-of g (storeAt g ws) (k .passed .valid) (k .passed .fits) (k .passed .sound);
+            entry = s0;
+            entry-is = entry-of g s0 (k .passed .valid) (k .passed .fits) (k .passed .sound);
             inside = rw (s .store) (facts .five .inside);
             ruled = rw (s .store) (facts .after-ruled);
             stands = subst (λ (z : Store). Stands g z ws1 one1 two1 three1 r1) (sym (s .store)) s;
             load-low = omega (arith, load-falls, load-high, ap (λ (x : Store). load (rows x)) (s .store));
             bound = 16384;
-            small = grown-small (stepCounts m) (r .tally) (r1 .tally) 0 16384 16384 (step-low g (storeAt g ws) m (k .passed .valid) facts) (omega arith) (none-few 0) (a .counts);
+            small = grown-small (stepCounts m0) (r .tally) (r1 .tally) 0 16384 16384 (step-low g s0 m0 (k .passed .valid) facts) (omega arith) (none-few 0) (a .counts);
             bound-low = omega arith;
           }
 
       -- the whole list of merges
-      later : List Merge
-      later = mergesBelow 98304 g (afterMerge (mergeLevel g 0 (storeAt g ws)))
-
-      all-is : mergesFrom g (storeAt g ws) ≡ mergeLevel g 0 (storeAt g ws) ∷ mergesBelow 98304 g (afterMerge (mergeLevel g 0 (storeAt g ws)))
+      all-is : all ≡ m0 ∷ later
       all-is =
-          let s : Store = storeAt g ws in
-          let m : Merge = mergeLevel g 0 s in
-          from-is g s
-          ∙ ap (λ (ms : List Merge). m ∷ ms)
-          (below-same (enoughSteps g s) 98304 g s (afterMerge m) (k .passed .valid) (entry-of g s (k .passed .valid) (k .passed .fits) (k .passed .sound)) (facts .five .inside) (facts .after-ruled)
-          (omega (arith, load-falls, load-enough g s (k .passed .fits .level-count))) (omega (arith, load-falls, load-high)))
+          from-is g s0
+          ∙ ap (λ (ms : List Merge). m0 ∷ ms)
+          (below-same (enoughSteps g s0) 98304 g s0 (afterMerge m0) (k .passed .valid) (entry-of g s0 (k .passed .valid) (k .passed .fits) (k .passed .sound)) (facts .five .inside) (facts .after-ruled)
+          (omega (arith, load-falls, load-enough g s0 (k .passed .fits .level-count))) (omega (arith, load-falls, load-high)))
 
-      listing : ListFacts g (storeAt g ws) (storeAt g ws) (mergesFrom g (storeAt g ws))
-      listing = from-facts g (storeAt g ws) (k .passed .valid) (k .passed .fits) (k .passed .sound) full
+      listing : ListFacts g s0 s0 all
+      listing = from-facts g s0 (k .passed .valid) (k .passed .fits) (k .passed .sound) full
 
       -- each level fits its K(i) words again
-      ends-within : (i : ℕ) → 1 ≤ i → i ≤ g .h → length (blocksOf g i (afterMerges (storeAt g ws) (mergesFrom g (storeAt g ws)))) ≤ capacityOf g i
+      ends-within : (i : ℕ) → 1 ≤ i → i ≤ g .h → length (blocksOf g i end) ≤ capacityOf g i
       ends-within i l h = last (ℕ-discrete i (g .h))
         where
-          last : Dec (i ≡ g .h) → length (blocksOf g i (afterMerges (storeAt g ws) (mergesFrom g (storeAt g ws)))) ≤ capacityOf g i
+          last : Dec (i ≡ g .h) → length (blocksOf g i end) ≤ capacityOf g i
           last (yes z) =
-              subst (λ (m : ℕ). length (blocksOf g m (afterMerges (storeAt g ws) (mergesFrom g (storeAt g ws)))) ≤ capacityOf g m) (sym z)
-              (inside-bottom g (storeAt g ws) (afterMerges (storeAt g ws) (mergesFrom g (storeAt g ws))) (listing .inside) (k .passed .valid) (entry-of g (storeAt g ws) (k .passed .valid) (k .passed .fits) (k .passed .sound)) (listing .ruled))
-          last (no z) = deepest-says g (afterMerges (storeAt g ws) (mergesFrom g (storeAt g ws))) (g .h - 1) 0 (from-ends g (storeAt g ws) (k .passed .valid) (k .passed .fits) (k .passed .sound) full) .0 i (omega arith) (omega arith)
+              subst (λ (m : ℕ). length (blocksOf g m end) ≤ capacityOf g m) (sym z)
+              (inside-bottom g s0 end (listing .inside) (k .passed .valid) (entry-of g s0 (k .passed .valid) (k .passed .fits) (k .passed .sound)) (listing .ruled))
+          last (no z) = deepest-says g end (g .h - 1) 0 (from-ends g s0 (k .passed .valid) (k .passed .fits) (k .passed .sound) full) .0 i (omega arith) (omega arith)
 
       module _ (ws2 one2 two2 three2 : List ℕ) (r2 : Run)
-          (b : let y : Store = afterMerge (mergeLevel g 0 (storeAt g ws)) in Leaving g (afterMerges y (mergesBelow 98304 g y)) (writtenBlocks (mergesBelow 98304 g y)) (listCounts (mergesBelow 98304 g y)) ws1 r1 ws2 one2 two2 three2 r2) where
-        end-stands : Stands g (afterMerges (storeAt g ws) (mergesFrom g (storeAt g ws))) ws2 one2 two2 three2 r2
-        end-stands = subst (λ (ms : List Merge). Stands g (afterMerges (storeAt g ws) ms) ws2 one2 two2 three2 r2) (sym all-is) (b .stands)
+          (b : Leaving g (afterMerges (afterMerge m0) later) (writtenBlocks later) (listCounts later) ws1 r1 ws2 one2 two2 three2 r2) where
+        end-stands : Stands g end ws2 one2 two2 three2 r2
+        end-stands = subst (λ (ms : List Merge). Stands g (afterMerges s0 ms) ws2 one2 two2 three2 r2) (sym all-is) (b .stands)
 
-        end-fits : Fits g (afterMerges (storeAt g ws) (mergesFrom g (storeAt g ws)))
+        end-fits : Fits g end
         end-fits = record {
           level-count = listing .inside .many;
-          top-fits = top-fits g (afterMerges (storeAt g ws) (mergesFrom g (storeAt g ws))) ws2 one2 two2 three2 r2 end-stands;
+          top-fits = top-fits g end ws2 one2 two2 three2 r2 end-stands;
           level-fits = λ i h. ends-within (suc i) (omega arith) h;
-          blocks-fit = inside-fit g (storeAt g ws) (afterMerges (storeAt g ws) (mergesFrom g (storeAt g ws))) (listing .inside);
+          blocks-fit = inside-fit g s0 end (listing .inside);
         }
 
-        room : (i : ℕ) (list : List ℕ) (n : ℕ) → Listed (afterMerges (storeAt g ws) (mergesFrom g (storeAt g ws))) i list n → n ≤ roomOf g (suc i)
+        room : (i : ℕ) (list : List ℕ) (n : ℕ) → Listed end i list n → n ≤ roomOf g (suc i)
         room i list n l =
             dite (decLt i (g .h))
             (λ y. rw (room-level g (suc i) y) (omega (arith, l .count, end-fits .level-fits i y)))
-            (λ y. let z : getD (afterMerges (storeAt g ws) (mergesFrom g (storeAt g ws)) .levels) i [] ≡ [] = List·getD-eq-default (afterMerges (storeAt g ws) (mergesFrom g (storeAt g ws)) .levels) [] (omega (arith, listing .inside .many)) in
+            (λ y. let z : getD (end .levels) i [] ≡ [] = List·getD-eq-default (end .levels) [] (omega (arith, listing .inside .many)) in
             let c : n ≡ 0 = l .count ∙ ap length z in rw c (omega arith))
 
         -- what `store_back` asks
@@ -184,22 +188,19 @@ module _ (g : Geometry) (ws : List ℕ) (k : FullStore g ws) where
         unfolding leftWords
         merged-all ws3 e =
             let s = end-stands in
-            let t : Store = afterMerges (storeAt g ws) (mergesFrom g (storeAt g ws)) in
-            let m : Merge = mergeLevel g 0 (storeAt g ws) in
-            let ms : List Merge = mergesBelow 98304 g (afterMerge m) in
             let v = k .passed .valid in
             let ls = take (r2 .n1) one2 ∷ take (r2 .n2) two2 ∷ take (r2 .n3) three2 ∷ [] in
-            let q : take (g .h) ls ≡ placesIn (t .levels) = three-places (g .h) (t .levels) _ _ _ (listing .inside .many) (v .ranged .h-high) (s .first .places) (s .second .places) (s .third .places) in
+            let q : take (g .h) ls ≡ placesIn (end .levels) = three-places (g .h) (end .levels) _ _ _ (listing .inside .many) (v .ranged .h-high) (s .first .places) (s .second .places) (s .third .places) in
             let c = leaving-chain g _ _ _ _ _ _ ws r ws1 one1 two1 three1 r1 ws2 one2 two2 three2 r2 a b in
-            let area : areaOf g ws2 ≡ writeBlocks g (areaOf g ws) (writtenBlocks (mergesFrom g (storeAt g ws))) =
-            c .area ∙ ap (writeBlocks g (areaOf g ws)) (append-assoc (m .written) (compactedBlocks (m .compactions)) (writtenBlocks ms) ∙ ap writtenBlocks (sym all-is)) in
-            let counts : (j : ℕ) (x : levels.Counts) → x ≡ plus (record { merges = 0; written = 0; compacted = 0 }) (plus (stepCounts m j) (countsOf j ms)) → x ≡ countsOf j (mergesFrom g (storeAt g ws)) =
-            λ j x d. d ∙ zero-plus (plus (stepCounts m j) (countsOf j ms)) ∙ sym (counts-cons m ms j) ∙ ap (countsOf j) (sym all-is) in
+            let area : areaOf g ws2 ≡ writeBlocks g (areaOf g ws) (writtenBlocks all) =
+            c .area ∙ ap (writeBlocks g (areaOf g ws)) (append-assoc (m0 .written) (compactedBlocks (m0 .compactions)) (writtenBlocks later) ∙ ap writtenBlocks (sym all-is)) in
+            let counts : (j : ℕ) (x : levels.Counts) → x ≡ plus (record { merges = 0; written = 0; compacted = 0 }) (plus (stepCounts m0 j) (countsOf j later)) → x ≡ countsOf j all =
+            λ j x d. d ∙ zero-plus (plus (stepCounts m0 j) (countsOf j later)) ∙ sym (counts-cons m0 later j) ∙ ap (countsOf j) (sym all-is) in
             record {
-              words = e ∙ ap (λ (x : ℕ). withLists g ws2 x ls) (s .cursor) ∙ lists-back g ws2 t v end-fits (s .held) ls q ∙ ap (storeWords g t) area;
-              one = counts 1 _ (c .counts .one ∙ ap (λ (z : Tally). plus (numbersOf (z .one)) (plus (stepCounts m 1) (countsOf 1 ms))) (l .none));
-              two = counts 2 _ (c .counts .two ∙ ap (λ (z : Tally). plus (numbersOf (z .two)) (plus (stepCounts m 2) (countsOf 2 ms))) (l .none));
-              three = counts 3 _ (c .counts .three ∙ ap (λ (z : Tally). plus (numbersOf (z .three)) (plus (stepCounts m 3) (countsOf 3 ms))) (l .none));
+              words = e ∙ ap (λ (x : ℕ). withLists g ws2 x ls) (s .cursor) ∙ lists-back g ws2 end v end-fits (s .held) ls q ∙ ap (storeWords g end) area;
+              one = counts 1 _ (c .counts .one ∙ ap (λ (z : Tally). plus (numbersOf (z .one)) (plus (stepCounts m0 1) (countsOf 1 later))) (l .none));
+              two = counts 2 _ (c .counts .two ∙ ap (λ (z : Tally). plus (numbersOf (z .two)) (plus (stepCounts m0 2) (countsOf 2 later))) (l .none));
+              three = counts 3 _ (c .counts .three ∙ ap (λ (z : Tally). plus (numbersOf (z .three)) (plus (stepCounts m0 3) (countsOf 3 later))) (l .none));
             }
           where
             zero-plus : (c : levels.Counts) → plus (record { merges = 0; written = 0; compacted = 0 }) c ≡ c

@@ -67,7 +67,7 @@ total-most : (c : ℕ) (f : Merge → ℕ) (ms : List Merge) → Every (λ m. f 
 total-most c f [] h = omega arith
 total-most c f (m ∷ ms) h = omega (arith, h .0, total-most c f ms (h .1))
 
-compacted-most : (g : Geometry) (e : Store) (j : ℕ) (cs : List Compaction) → Valid g → Every (CompactionFacts g e) cs → totalCompacted j cs ≤ 8191 * length cs
+pub compacted-most : (g : Geometry) (e : Store) (j : ℕ) (cs : List Compaction) → Valid g → Every (CompactionFacts g e) cs → totalCompacted j cs ≤ 8191 * length cs
 compacted-most g e j [] v f = omega arith
 compacted-most g e j (c ∷ cs) v f = pick (eqb (c .level) j) (compacted-most g e j cs v (f .1))
   where

@@ -146,7 +146,7 @@ needed-stepped g e s j v low n = go (needsCompact (g .b) (getD (s .levels) j [])
         other i h (yes z) = ap (λ (m : ℕ). needsCompact (g .b) (getD (s .levels) m [])) z ∙ q
         other i h (no z) = h z
 
-after-append : (s : Store) (cs ds : List Compaction) → afterCompactions s (cs ++ ds) ≡ afterCompactions (afterCompactions s cs) ds
+pub after-append : (s : Store) (cs ds : List Compaction) → afterCompactions s (cs ++ ds) ≡ afterCompactions (afterCompactions s cs) ds
 after-append s [] ds = refl
 after-append s (c ∷ cs) ds = after-append (c .finish) cs ds
 

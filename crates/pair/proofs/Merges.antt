@@ -8,6 +8,7 @@ use lib.ListN.{length, take, drop, length-map, length-drop}
 use lib.Seq.{take-all, length-take-le}
 use Rattle.geometry.specs.declared.Geometry.{Geometry}
 use Rattle.levels.specs.Record.{Level}
+use Rattle.levels.specs.Choose.{choose}
 use Rattle.levels.specs.Merge.{merge}
 use Rattle.levels.specs.Place.{Settled}
 use Rattle.words.specs.Layout.{blockAt}
@@ -17,7 +18,8 @@ use Rattle.merging.specs.declared.Cut.{Cut}
 use Rattle.merging.specs.declared.Merged.{Merged}
 use Rattle.merging.specs.Contract.{blocksOf, runOf, mergeOf, Mergeable, Leaves}
 use Rattle.merging.proofs.Close.{rested-length}
-use Rattle.pair.specs.Contract.{levelOf}
+use Rattle.pair.specs.declared.Picked.{Picked}
+use Rattle.pair.specs.Contract.{levelOf, Chosen, LowerLeaves}
 use Rattle.pair.proofs.Lists.{copied-take, take-drop}
 
 -- any list of the full length may take the entries
@@ -57,6 +59,21 @@ leaves-copied g st ws ws' used' out list r e k =
       marks = k .marks;
       marks-long = k .marks-long;
       writes = k .writes;
+    }
+
+-- what it leaves of the lower level, for the run that was chosen
+pub lower-leaves : (g : Geometry) (st : Settled) (ws ws' : List ℕ) (used' : List Bool) (list' : List ℕ) (v : Merged) → Leaves g st ws ws' used' list' v → (w : ℕ) (above under : Level) (p : Picked) → Chosen w above under p → (a writes : ℕ)
+    → LowerLeaves st (choose w above under) used' list' (record { above = a; under = v .count; cursor = v .cursor; writes = writes; first = p .first; overlap = p .overlap })
+lower-leaves g st ws ws' used' list' v k w above under p c a writes =
+    record {
+      lower = k .list;
+      lower-long = k .list-long;
+      under = k .count;
+      cursor = k .cursor;
+      marks = k .marks;
+      marks-long = k .marks-long;
+      first = c .first;
+      overlap = c .overlap;
     }
 
 -- m blocks from block i on are a part of the level

@@ -34,6 +34,7 @@ use Rattle.pair.specs.declared.Picked.{Picked}
 use Rattle.pair.specs.Contract.{levelOf, meetsAt, cutOf, lowerAfter, InUse, Chosen, Readables, Paged, PagesReady, PagesLeaves}
 use Rattle.pair.proofs.Chosen.{run-inside, ends-in-order, ends-inside, overlap-is}
 use Rattle.pair.proofs.Room.{count-few}
+use Rattle.pair.proofs.Merges.{lower-leaves}
 use Rattle.pair.proofs.Below.{met-merge}
 use Rattle.pair.proofs.Pair.{stored-ordered, stored-readable, stored-length}
 
@@ -189,15 +190,8 @@ module _ (g : Geometry) (ws : List ℕ) (used : List Bool) (lower : List ℕ) (n
           (record {
             words = q .words;
             above = refl;
-            lower = q .list;
-            lower-long = q .list-long;
-            under = q .count;
-            cursor = q .cursor;
-            marks = q .marks;
-            marks-long = q .marks-long;
+            below = lower-leaves g _ ws ws2 used2 lower2 v q w above under r ch _ _;
             writes = q .writes;
-            first = ch .first;
-            overlap = ch .overlap;
           })
 
   -- the same with the numbers as the code has them

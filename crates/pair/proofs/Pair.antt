@@ -36,7 +36,7 @@ use Rattle.pair.proofs.Kept.{base-take, base-drop}
 use Rattle.pair.proofs.Chosen.{run-inside, ends-in-order, ends-inside, overlap-is}
 use Rattle.pair.proofs.Below.{met-merge}
 use Rattle.pair.proofs.Room.{count-few}
-use Rattle.pair.proofs.Merges.{part-is, level-length}
+use Rattle.pair.proofs.Merges.{lower-leaves, part-is, level-length}
 use Rattle.pair.proofs.After.{listed-fresh, close-fit, close-one, after-long, after-cursor, after-in-use, after-count, after-block, after-level}
 
 -- a listed block holds as many records as its count says
@@ -297,13 +297,6 @@ module _ (g : Geometry) (ws : List ℕ) (used : List Bool) (upper lower : List �
               upper = p .list;
               upper-long = p .list-long;
               above = p .count;
-              lower = q .list;
-              lower-long = q .list-long;
-              under = q .count;
-              cursor = q .cursor;
-              marks = q .marks;
-              marks-long = q .marks-long;
+              below = lower-leaves g _ ws1 ws2 used2 lower2 v q w above under r ch _ _;
               writes = omega (arith, p .writes, q .writes, length-append us vs);
-              first = ch .first;
-              overlap = ch .overlap;
             })

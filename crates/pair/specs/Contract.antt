@@ -81,21 +81,25 @@ pub record PairReady (g : Geometry) (ws : List ℕ) (used : List Bool) (upper lo
   pub free : length (in-use .places) + (windowOf g i + choose (windowOf g i) (levelOf g ws upper a) (levelOf g ws lower n) .value) + 2 ≤ g .p
   pub room : n + 2 * (windowOf g i + choose (windowOf g i) (levelOf g ws upper a) (levelOf g ws lower n) .value) + 2 ≤ 4096
 
--- what a merge from level i leaves: u is level i and l is level i + 1 then
-pub record PairLeaves (g : Geometry) (u l : Settled) (chosen : Least) (ws ws' : List ℕ) (used' : List Bool) (upper' lower' : List ℕ) (r : Step) : Type 0 where
-  pub words : ws' ≡ take (placesStart g) ws ++ writeBlocks g (areaOf g ws) (u .written ++ l .written)
-  pub upper : take (r .above) upper' ≡ placesOf (u .level)
-  pub upper-long : length upper' ≡ 4096
-  pub above : r .above ≡ length (u .level)
+-- what a merge leaves of the lower level, which is l then, and the run that was chosen
+pub record LowerLeaves (l : Settled) (chosen : Least) (used' : List Bool) (lower' : List ℕ) (r : Step) : Type 0 where
   pub lower : take (r .under) lower' ≡ placesOf (l .level)
   pub lower-long : length lower' ≡ 4096
   pub under : r .under ≡ length (l .level)
   pub cursor : r .cursor ≡ l .allocation .cursor
   pub marks : Marks used' (l .allocation .used)
   pub marks-long : length used' ≡ 8192
-  pub writes : r .writes ≡ length (u .written ++ l .written)
   pub first : r .first ≡ chosen .at
   pub overlap : r .overlap ≡ chosen .value
+
+-- what a merge from level i leaves: u is level i and l is level i + 1 then
+pub record PairLeaves (g : Geometry) (u l : Settled) (chosen : Least) (ws ws' : List ℕ) (used' : List Bool) (upper' lower' : List ℕ) (r : Step) : Type 0 where
+  pub words : ws' ≡ take (placesStart g) ws ++ writeBlocks g (areaOf g ws) (u .written ++ l .written)
+  pub upper : take (r .above) upper' ≡ placesOf (u .level)
+  pub upper-long : length upper' ≡ 4096
+  pub above : r .above ≡ length (u .level)
+  pub below : LowerLeaves l chosen used' lower' r
+  pub writes : r .writes ≡ length (u .written ++ l .written)
 
 -- what a merge of the chosen run from level i leaves of two levels, for the places in use at its start: "step 2's block takes its place before those of steps 3 and 4"
 abbrev pub PairMerged : Geometry → ℕ → Level → Level → Allocation → List ℕ → List ℕ → List Bool → List ℕ → List ℕ → Step → Type 0
@@ -151,15 +155,8 @@ pub record PagesReady (g : Geometry) (ws : List ℕ) (used : List Bool) (lower :
 pub record PagesLeaves (g : Geometry) (l : Settled) (chosen : Least) (ws ws' : List ℕ) (used' : List Bool) (lower' : List ℕ) (r : Step) : Type 0 where
   pub words : ws' ≡ take (placesStart g) ws ++ writeBlocks g (areaOf g ws) (l .written)
   pub above : r .above ≡ capacityOf g 0 - windowOf g 0
-  pub lower : take (r .under) lower' ≡ placesOf (l .level)
-  pub lower-long : length lower' ≡ 4096
-  pub under : r .under ≡ length (l .level)
-  pub cursor : r .cursor ≡ l .allocation .cursor
-  pub marks : Marks used' (l .allocation .used)
-  pub marks-long : length used' ≡ 8192
+  pub below : LowerLeaves l chosen used' lower' r
   pub writes : r .writes ≡ length (l .written)
-  pub first : r .first ≡ chosen .at
-  pub overlap : r .overlap ≡ chosen .value
 
 abbrev pub PagesMerged : Geometry → Level → Allocation → List ℕ → List ℕ → List Bool → List ℕ → Step → Type 0
 PagesMerged g under al ws ws' used' lower' r =

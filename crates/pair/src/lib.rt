@@ -54,22 +54,26 @@ impl Picked {
     }
 }
 
-// Step 1, over the fences of both levels.
+// Step 1, over the fences of the level above and those of the listed level below.
 fn pick(
+    s: &[u32],
+    lower: &[u32; 4096],
+    g: Geometry,
     firsts: &[u32],
     lasts: &[u32],
     a: usize,
-    starts: &[u32],
-    ends: &[u32],
     n: usize,
     w: usize,
 ) -> Picked
-    requires { ⌜ (1 ≤ w) × ((w ≤ a) × (Fenced (now firsts) (now lasts) 0 a × Fenced (now starts) (now ends) 0 n)) ⌝ }
-    ensures { λ r. ⌜ ((above under : Level) → fencesOf (now (firsts .entry)) (now (lasts .entry)) a ≡ map fenceOf above → fencesOf (now (starts .entry)) (now (ends .entry)) n ≡ map fenceOf under → Chosen w above under r) ⌝ }
+    requires { ⌜ Valid g × ((length (now s) ≡ storeLength g) × ((1 ≤ w) × ((w ≤ a) × (Fenced (now firsts) (now lasts) 0 a × Readables g (now s) (now lower) n)))) ⌝ }
+    ensures { λ r. ⌜ ((above : Level) → fencesOf (now (firsts .entry)) (now (lasts .entry)) a ≡ map fenceOf above → Chosen w above (levelOf g (now (s .entry)) (now (lower .entry)) n) r) ⌝ }
 {
-    let c = choice::choose_run(firsts, lasts, a, starts, ends, n, w);
+    let mut starts = [0u32; 2048];
+    let mut ends = [0u32; 2048];
+    choice::fence_blocks(s, g, lower, n, &mut starts, &mut ends);
+    let c = choice::choose_run(firsts, lasts, a, &starts, &ends, n, w);
     let first = c.first;
-    let y = choice::below_run(firsts, lasts, first, w, starts, ends, n);
+    let y = choice::below_run(firsts, lasts, first, w, &starts, &ends, n);
     Picked {
         first: first,
         overlap: c.overlap,
@@ -93,11 +97,8 @@ fn choose_listed(
 {
     let mut firsts = [0u32; 2048];
     let mut lasts = [0u32; 2048];
-    let mut starts = [0u32; 2048];
-    let mut ends = [0u32; 2048];
     choice::fence_blocks(s, g, upper, a, &mut firsts, &mut lasts);
-    choice::fence_blocks(s, g, lower, n, &mut starts, &mut ends);
-    pick(&firsts, &lasts, a, &starts, &ends, n, w)
+    pick(s, lower, g, &firsts, &lasts, a, n, w)
 }
 
 // Step 1 out of level 0, all of whose pages are full.
@@ -107,11 +108,8 @@ fn choose_pages(s: &[u32], lower: &[u32; 4096], g: Geometry, a: usize, n: usize,
 {
     let mut firsts = [0u32; 2048];
     let mut lasts = [0u32; 2048];
-    let mut starts = [0u32; 2048];
-    let mut ends = [0u32; 2048];
     choice::fence_pages(s, g, a, &mut firsts, &mut lasts);
-    choice::fence_blocks(s, g, lower, n, &mut starts, &mut ends);
-    pick(&firsts, &lasts, a, &starts, &ends, n, w)
+    pick(s, lower, g, &firsts, &lasts, a, n, w)
 }
 
 // Steps 3 and 4 with the new list put in the place of the old one, which its blocks are read from till the end.

@@ -18,7 +18,7 @@ use Rattle.levels.specs.Count as levels
 use Rattle.levels.specs.Every.{Every}
 use Rattle.levels.specs.Inside.{Inside}
 use Rattle.levels.specs.InCall.{CompactionFacts, MergeFacts}
-use Rattle.levels.proofs.CompactInside.{compaction-newly, needed-stepped}
+use Rattle.levels.proofs.CompactInside.{compaction-newly, after-append, needed-stepped}
 use Rattle.levels.proofs.MergeBounds.{merge-written}
 use Rattle.words.specs.Layout.{areaOf, writeBlocks}
 use Rattle.words.specs.Calls.{compactedBlocks}
@@ -92,10 +92,6 @@ running-after n g e t ws one two three r v i s k = record {
 }
 
 -- step 5 in two parts
-after-both : (s : Store) (cs ds : List Compaction) → afterCompactions s (cs ++ ds) ≡ afterCompactions (afterCompactions s cs) ds
-after-both s [] ds = refl
-after-both s (c ∷ cs) ds = after-both (c .finish) cs ds
-
 blocks-both : (cs ds : List Compaction) → compactedBlocks (cs ++ ds) ≡ compactedBlocks cs ++ compactedBlocks ds
 blocks-both [] ds = refl
 blocks-both (c ∷ cs) ds = ap (λ (bs : List Block). c .written ++ bs) (blocks-both cs ds) ∙ sym (append-assoc (c .written) (compactedBlocks cs) (compactedBlocks ds))
@@ -111,11 +107,19 @@ step-counts m j =
     let z : 0 + totalCompacted j (m .compactions) ≡ totalCompacted j (m .compactions) + 0 = omega arith in
     ap (λ (x : ℕ). record { merges = (if eqb (suc (m .level)) j then 1 else 0) + 0; written = (if eqb (suc (m .level)) j then blocksMerged m else 0) + 0; compacted = x }) z
 
-plus-both : (a b c d : levels.Counts) → d ≡ plus b c → plus (plus a b) c ≡ plus a d
-plus-both a b c d e = plus-assoc a b c ∙ ap (plus a) (sym e)
-
 compacted-both : (cs ds : List Compaction) (j : ℕ) → compactedCounts (cs ++ ds) j ≡ plus (compactedCounts cs j) (compactedCounts ds j)
 compacted-both cs ds j = ap (λ (x : ℕ). record { merges = 0; written = 0; compacted = x }) (total-both j cs ds)
+
+compactions-chain : (g : Geometry) (t : Store) (cs ds : List Compaction) (ws : List ℕ) (r : Run) (ws1 one1 two1 three1 : List ℕ) (r1 : Run) (ws2 one2 two2 three2 : List ℕ) (r2 : Run)
+    → Leaving g (afterCompactions t cs) (compactedBlocks cs) (compactedCounts cs) ws r ws1 one1 two1 three1 r1 → Leaving g (afterCompactions (afterCompactions t cs) ds) (compactedBlocks ds) (compactedCounts ds) ws1 r1 ws2 one2 two2 three2 r2
+    → Leaving g (afterCompactions t (cs ++ ds)) (compactedBlocks (cs ++ ds)) (compactedCounts (cs ++ ds)) ws r ws2 one2 two2 three2 r2
+compactions-chain g t cs ds ws r ws1 one1 two1 three1 r1 ws2 one2 two2 three2 r2 a b =
+    let c = leaving-chain g _ _ _ _ _ _ ws r ws1 one1 two1 three1 r1 ws2 one2 two2 three2 r2 a b in
+    record {
+      stands = subst (λ (x : Store). Stands g x ws2 one2 two2 three2 r2) (sym (after-append t cs ds)) (c .stands);
+      area = c .area ∙ ap (writeBlocks g (areaOf g ws)) (sym (blocks-both cs ds));
+      counts = grown-same _ (compactedCounts (cs ++ ds)) (r .tally) (r2 .tally) (λ j. sym (compacted-both cs ds j)) (c .counts);
+    }
 
 -- no merge and no compaction counts more than 8,192 blocks
 merged-low : (g : Geometry) (e t : Store) (i : ℕ) → Valid g → MergeFacts g e (mergeLevel g i t) → (j : ℕ) → (mergedCounts (mergeLevel g i t) j .merges ≤ 8192) × (mergedCounts (mergeLevel g i t) j .written ≤ 8192) × (mergedCounts (mergeLevel g i t) j .compacted ≤ 8192)
@@ -143,11 +147,11 @@ unfolding mergeLevel mergeRun stepFive
 five-top g t zero e = refl
 five-top g t (suc i) e = absurd (omega arith)
 
-five-below : (g : Geometry) (t : Store) (i : ℕ) → 1 ≤ i → mergeLevel g i t .compactions
-    ≡ compactIfNeeded g i (mergeLevel g i t .finish) ++ compactIfNeeded g (suc i) (afterCompactions (mergeLevel g i t .finish) (compactIfNeeded g i (mergeLevel g i t .finish)))
+five-below : (g : Geometry) (t : Store) (i n : ℕ) → 1 ≤ i → n ≡ suc i → mergeLevel g i t .compactions
+    ≡ compactIfNeeded g i (mergeLevel g i t .finish) ++ compactIfNeeded g n (afterCompactions (mergeLevel g i t .finish) (compactIfNeeded g i (mergeLevel g i t .finish)))
 unfolding mergeLevel mergeRun stepFive
-five-below g t zero h = absurd (omega arith)
-five-below g t (suc i) h = refl
+five-below g t zero n h e = absurd (omega arith)
+five-below g t (suc i) n h e = rw e
 
 -- step 5 for a level keeps what holds inside a call
 needed-inside : (g : Geometry) (e x : Store) (i : ℕ) → Valid g → 1 ≤ i → i ≤ g .h → Inside g e x → Inside g e (afterCompactions x (compactIfNeeded g i x))
@@ -173,39 +177,41 @@ module _ (g : Geometry) (ws one two three : List ℕ) (level : ℕ) (r : Run) (k
 
   module _ (t : Store) (et : t ≡ storeOf g ws one two three r) (ws1 one1 two1 three1 : List ℕ) (r1 : Run)
       (a : Leaving g (mergeLevel g level t .finish) (mergeLevel g level t .written) (mergedCounts (mergeLevel g level t)) ws r ws1 one1 two1 three1 r1) where
-    facts : MergeFacts g (k .entry) (mergeLevel g level t)
-    facts = subst (λ (x : Store). MergeFacts g (k .entry) (mergeLevel g level x)) (sym et) (k .facts)
+    abbrev pub merged : Merge
+    merged = mergeLevel g level t
 
-    small-1 : Small 1900008192 (r1 .tally)
-    small-1 = grown-small (mergedCounts (mergeLevel g level t)) (r .tally) (r1 .tally) 1900000000 1900008192 8192 (merged-low g (k .entry) t level (k .valid) facts) (omega arith) (k .small) (a .counts)
-
-    -- what the first compaction asks
-    pub first-asks : Running 2000000000 g ws1 one1 two1 three1 r1
-    first-asks = running-after 2000000000 g (k .entry) (mergeLevel g level t .finish) ws1 one1 two1 three1 r1 (k .valid) (facts .finish-inside) (a .stands) (small-more 1900008192 2000000000 (r1 .tally) (omega arith) small-1)
-
-    -- out of level 0, that is all
-    pub step-top : (ws2 one2 two2 three2 : List ℕ) (r2 : Run) → level ≡ 0
-        → Leaving g (afterCompactions (mergeLevel g level t .finish) (compactIfNeeded g 1 (mergeLevel g level t .finish))) (compactedBlocks (compactIfNeeded g 1 (mergeLevel g level t .finish))) (compactedCounts (compactIfNeeded g 1 (mergeLevel g level t .finish))) ws1 r1 ws2 one2 two2 three2 r2
-        → Leaving g (afterMerge (mergeLevel g level t)) (mergeLevel g level t .written ++ compactedBlocks (mergeLevel g level t .compactions)) (stepCounts (mergeLevel g level t)) ws r ws2 one2 two2 three2 r2
-    step-top ws2 one2 two2 three2 r2 e b =
-        let cs : List Compaction = compactIfNeeded g 1 (mergeLevel g level t .finish) in
-        let q : mergeLevel g level t .compactions ≡ cs = five-top g t level e in
-        let c = leaving-chain g _ _ _ _ _ _ ws r ws1 one1 two1 three1 r1 ws2 one2 two2 three2 r2 a b in
-        record {
-          stands = subst (λ (ds : List Compaction). Stands g (afterCompactions (mergeLevel g level t .finish) ds) ws2 one2 two2 three2 r2) (sym q) (c .stands);
-          area = c .area ∙ ap (λ (ds : List Compaction). writeBlocks g (areaOf g ws) (mergeLevel g level t .written ++ compactedBlocks ds)) (sym q);
-          counts = grown-same _ (stepCounts (mergeLevel g level t)) (r .tally) (r2 .tally) (λ j. ap (λ (ds : List Compaction). plus (mergedCounts (mergeLevel g level t) j) (compactedCounts ds j)) (sym q) ∙ step-counts (mergeLevel g level t) j) (c .counts);
-        }
-
-    -- out of another level
-    abbrev pub finish : Store
-    finish = mergeLevel g level t .finish
-
+    -- what step 5 makes of the upper level
     abbrev pub first : List Compaction
     first = compactIfNeeded g level (mergeLevel g level t .finish)
 
+    facts : MergeFacts g (k .entry) merged
+    facts = subst (λ (x : Store). MergeFacts g (k .entry) (mergeLevel g level x)) (sym et) (k .facts)
+
+    small-1 : Small 1900008192 (r1 .tally)
+    small-1 = grown-small (mergedCounts merged) (r .tally) (r1 .tally) 1900000000 1900008192 8192 (merged-low g (k .entry) t level (k .valid) facts) (omega arith) (k .small) (a .counts)
+
+    -- what the first compaction asks
+    pub first-asks : Running 2000000000 g ws1 one1 two1 three1 r1
+    first-asks = running-after 2000000000 g (k .entry) (merged .finish) ws1 one1 two1 three1 r1 (k .valid) (facts .finish-inside) (a .stands) (small-more 1900008192 2000000000 (r1 .tally) (omega arith) small-1)
+
+    -- the merge and what step 5 compacts
+    step-five : (cs : List Compaction) → merged .compactions ≡ cs → (ws2 one2 two2 three2 : List ℕ) (r2 : Run)
+        → Leaving g (afterCompactions (merged .finish) cs) (compactedBlocks cs) (compactedCounts cs) ws1 r1 ws2 one2 two2 three2 r2
+        → Leaving g (afterMerge merged) (merged .written ++ compactedBlocks (merged .compactions)) (stepCounts merged) ws r ws2 one2 two2 three2 r2
+    step-five cs q ws2 one2 two2 three2 r2 b =
+        let b' = subst (λ (ds : List Compaction). Leaving g (afterCompactions (merged .finish) ds) (compactedBlocks ds) (compactedCounts ds) ws1 r1 ws2 one2 two2 three2 r2) (sym q) b in
+        let c = leaving-chain g _ _ _ _ _ _ ws r ws1 one1 two1 three1 r1 ws2 one2 two2 three2 r2 a b' in
+        record { stands = c .stands; area = c .area; counts = grown-same _ (stepCounts merged) (r .tally) (r2 .tally) (step-counts merged) (c .counts) }
+
+    -- out of level 0
+    pub step-top : (ws2 one2 two2 three2 : List ℕ) (r2 : Run) → level ≡ 0
+        → Leaving g (afterCompactions (merged .finish) (compactIfNeeded g 1 (merged .finish))) (compactedBlocks (compactIfNeeded g 1 (merged .finish))) (compactedCounts (compactIfNeeded g 1 (merged .finish))) ws1 r1 ws2 one2 two2 three2 r2
+        → Leaving g (afterMerge merged) (merged .written ++ compactedBlocks (merged .compactions)) (stepCounts merged) ws r ws2 one2 two2 three2 r2
+    step-top ws2 one2 two2 three2 r2 e = step-five (compactIfNeeded g 1 (merged .finish)) (five-top g t level e) ws2 one2 two2 three2 r2
+
+    -- out of another level
     module _ (low : 1 ≤ level) (ws2 one2 two2 three2 : List ℕ) (r2 : Run)
-        (b : Leaving g (afterCompactions (mergeLevel g level t .finish) (compactIfNeeded g level (mergeLevel g level t .finish))) (compactedBlocks (compactIfNeeded g level (mergeLevel g level t .finish))) (compactedCounts (compactIfNeeded g level (mergeLevel g level t .finish))) ws1 r1 ws2 one2 two2 three2 r2) where
+        (b : Leaving g (afterCompactions (merged .finish) first) (compactedBlocks first) (compactedCounts first) ws1 r1 ws2 one2 two2 three2 r2) where
       high : level < g .h
       high = level-low g (k .entry) t level (k .valid) facts
 
@@ -213,25 +219,14 @@ module _ (g : Geometry) (ws one two three : List ℕ) (level : ℕ) (r : Run) (k
       pub second-asks : Running 2000000000 g ws2 one2 two2 three2 r2
       unfolding high
       second-asks =
-          let x : Store = mergeLevel g level t .finish in
+          let x : Store = merged .finish in
           let h = high in
           running-after 2000000000 g (k .entry) (afterCompactions x (compactIfNeeded g level x)) ws2 one2 two2 three2 r2 (k .valid) (needed-inside g (k .entry) x level (k .valid) low (omega arith) (facts .finish-inside)) (b .stands)
           (grown-small (compactedCounts (compactIfNeeded g level x)) (r1 .tally) (r2 .tally) 1900008192 2000000000 8192 (needed-few g (k .entry) x level (k .valid) low (omega arith) (facts .finish-inside)) (omega arith) small-1 (b .counts))
 
       pub step-below : (i : ℕ) (ws3 one3 two3 three3 : List ℕ) (r3 : Run) → i ≡ suc level
-          → Leaving g (afterCompactions (afterCompactions finish first) (compactIfNeeded g i (afterCompactions finish first))) (compactedBlocks (compactIfNeeded g i (afterCompactions finish first))) (compactedCounts (compactIfNeeded g i (afterCompactions finish first))) ws2 r2 ws3 one3 two3 three3 r3
-          → Leaving g (afterMerge (mergeLevel g level t)) (mergeLevel g level t .written ++ compactedBlocks (mergeLevel g level t .compactions)) (stepCounts (mergeLevel g level t)) ws r ws3 one3 two3 three3 r3
-      step-below i ws3 one3 two3 three3 r3 ei c0 =
-          let x : Store = mergeLevel g level t .finish in
-          let cs : List Compaction = compactIfNeeded g level x in
-          let y : Store = afterCompactions x cs in
-          let ds : List Compaction = compactIfNeeded g (suc level) y in
-          let c : Leaving g (afterCompactions y ds) (compactedBlocks ds) (compactedCounts ds) ws2 r2 ws3 one3 two3 three3 r3 =
-          subst (λ (n : ℕ). Leaving g (afterCompactions y (compactIfNeeded g n y)) (compactedBlocks (compactIfNeeded g n y)) (compactedCounts (compactIfNeeded g n y)) ws2 r2 ws3 one3 two3 three3 r3) ei c0 in
-          let q : mergeLevel g level t .compactions ≡ cs ++ ds = five-below g t level low in
-          let d = leaving-chain g _ _ _ _ _ _ ws r ws1 one1 two1 three1 r1 ws3 one3 two3 three3 r3 a (leaving-chain g _ _ _ _ _ _ ws1 r1 ws2 one2 two2 three2 r2 ws3 one3 two3 three3 r3 b c) in
-          record {
-            stands = subst (λ (z : Store). Stands g z ws3 one3 two3 three3 r3) (sym (ap (afterCompactions x) q ∙ after-both x cs ds)) (d .stands);
-            area = d .area ∙ ap (λ (bs : List Block). writeBlocks g (areaOf g ws) (mergeLevel g level t .written ++ bs)) (sym (ap compactedBlocks q ∙ blocks-both cs ds));
-            counts = grown-same _ (stepCounts (mergeLevel g level t)) (r .tally) (r3 .tally) (λ j. ap (plus (mergedCounts (mergeLevel g level t) j)) (sym (ap (λ (es : List Compaction). compactedCounts es j) q ∙ compacted-both cs ds j)) ∙ step-counts (mergeLevel g level t) j) (d .counts);
-          }
+          → Leaving g (afterCompactions (afterCompactions (merged .finish) first) (compactIfNeeded g i (afterCompactions (merged .finish) first))) (compactedBlocks (compactIfNeeded g i (afterCompactions (merged .finish) first))) (compactedCounts (compactIfNeeded g i (afterCompactions (merged .finish) first))) ws2 r2 ws3 one3 two3 three3 r3
+          → Leaving g (afterMerge merged) (merged .written ++ compactedBlocks (merged .compactions)) (stepCounts merged) ws r ws3 one3 two3 three3 r3
+      step-below i ws3 one3 two3 three3 r3 e c =
+          let ds : List Compaction = compactIfNeeded g i (afterCompactions (merged .finish) first) in
+          step-five (first ++ ds) (five-below g t level i low e) ws3 one3 two3 three3 r3 (compactions-chain g (merged .finish) first ds ws1 r1 ws2 one2 two2 three2 r2 ws3 one3 two3 three3 r3 b c)

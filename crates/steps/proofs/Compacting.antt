@@ -40,7 +40,7 @@ use Rattle.pair.proofs.Room.{count-few}
 use Rattle.steps.specs.declared.Counts.{Counts}
 use Rattle.steps.specs.declared.Tally.{Tally}
 use Rattle.steps.specs.declared.One.{One}
-use Rattle.steps.specs.Running.{Listed, numbersOf, plus, counted, Grown, compactedCounts, OneReady, OneLeft}
+use Rattle.steps.specs.Running.{Listed, numbersOf, plus, sumOf, counted, Grown, compactedCounts, OneReady, OneLeft, anew}
 use Rattle.steps.proofs.Standing.{inside-short, listed-block, listed-level}
 
 -- the clauses of compactIfNeeded, as laws
@@ -53,7 +53,7 @@ unfolding compactIfNeeded
 not-needed g t j h = rw (h, compactIfNeeded)
 
 -- The tally. Nothing more:
-same-counts : (a b : levels.Counts) → b .merges ≡ 0 → b .written ≡ 0 → b .compacted ≡ 0 → a ≡ plus a b
+pub same-counts : (a b : levels.Counts) → b .merges ≡ 0 → b .written ≡ 0 → b .compacted ≡ 0 → a ≡ plus a b
 same-counts a b x y z =
     let m : a .merges ≡ a .merges + b .merges = omega arith in
     let w : a .written ≡ a .written + b .written = omega arith in
@@ -71,25 +71,23 @@ abbrev none : levels.Counts
 none = record { merges = 0; written = 0; compacted = 0 }
 
 -- c more for level 1, 2 or 3
-pub grown-counted : (f : ℕ → levels.Counts) (t u : Tally) (level : ℕ) (c : Counts) → 1 ≤ level → level ≤ 3 → u ≡ counted t level c → ((i : ℕ) → f i ≡ (if eqb level i then numbersOf c else none)) → Grown f t u
+counted-is : (t : Tally) (level : ℕ) (c : Counts) → 1 ≤ level → level ≤ 3 → counted t level c ≡ record { one = anew level (sumOf (t .one) c) 1 (t .one); two = anew level (sumOf (t .two) c) 2 (t .two); three = anew level (sumOf (t .three) c) 3 (t .three) }
 unfolding counted
-grown-counted f t u zero c l h e q = absurd (omega arith)
-grown-counted f t u (suc zero) c l h e q = rw e (record {
-  one = rw (q 1);
-  two = rw (q 2) (same-counts (numbersOf (t .two)) none refl refl refl);
-  three = rw (q 3) (same-counts (numbersOf (t .three)) none refl refl refl);
-})
-grown-counted f t u (suc (suc zero)) c l h e q = rw e (record {
-  one = rw (q 1) (same-counts (numbersOf (t .one)) none refl refl refl);
-  two = rw (q 2);
-  three = rw (q 3) (same-counts (numbersOf (t .three)) none refl refl refl);
-})
-grown-counted f t u (suc (suc (suc zero))) c l h e q = rw e (record {
-  one = rw (q 1) (same-counts (numbersOf (t .one)) none refl refl refl);
-  two = rw (q 2) (same-counts (numbersOf (t .two)) none refl refl refl);
-  three = rw (q 3);
-})
-grown-counted f t u (suc (suc (suc (suc n)))) c l h e q = absurd (omega arith)
+counted-is t zero c l h = absurd (omega arith)
+counted-is t (suc zero) c l h = refl
+counted-is t (suc (suc zero)) c l h = refl
+counted-is t (suc (suc (suc zero))) c l h = refl
+counted-is t (suc (suc (suc (suc n)))) c l h = absurd (omega arith)
+
+pub grown-counted : (f : ℕ → levels.Counts) (t u : Tally) (level : ℕ) (c : Counts) → 1 ≤ level → level ≤ 3 → u ≡ counted t level c → ((i : ℕ) → f i ≡ (if eqb level i then numbersOf c else none)) → Grown f t u
+grown-counted f t u level c l h e q = rw (e ∙ counted-is t level c l h) (record { one = more 1 (t .one); two = more 2 (t .two); three = more 3 (t .three) })
+  where
+    at : (a : Counts) (b : Bool) → numbersOf (if b then sumOf a c else a) ≡ plus (numbersOf a) (if b then numbersOf c else none)
+    at a true = refl
+    at a false = same-counts (numbersOf a) none refl refl refl
+
+    more : (i : ℕ) (a : Counts) → numbersOf (anew level (sumOf a c) i a) ≡ plus (numbersOf a) (f i)
+    more i a = at a (eqb level i) ∙ ap (plus (numbersOf a)) (sym (q i))
 
 -- the counts of one compaction
 compacted-one : (c : Compaction) (n level : ℕ) → c .level ≡ level → blocksCompacted c ≡ n → (i : ℕ) → compactedCounts (c ∷ []) i ≡ (if eqb level i then (record { merges = 0; written = 0; compacted = n }) else none)

@@ -1,6 +1,7 @@
 pub mod Marking
 pub mod Standing
 pub mod Compacting
+pub mod Relisting
 pub mod Stepping
 pub mod Merging
 pub mod Paging

@@ -14,7 +14,7 @@ use Rattle.levels.specs.Record.{Level, records, rising}
 use Rattle.levels.specs.Choose.{choose}
 use Rattle.levels.specs.Place.{Allocation, Settled}
 use Rattle.levels.specs.Store.{Store, blocksOf, usedIn, allocationOf}
-use Rattle.levels.specs.Call.{Merge, mergeCut, mergeRun, mergeLevel}
+use Rattle.levels.specs.Call.{mergeCut, mergeRun, mergeLevel}
 use Rattle.levels.specs.Count.{blocksMerged, aboveOf, underOf}
 use Rattle.levels.specs.Count as levels
 use Rattle.levels.specs.InCall.{Due, MergeFacts}
@@ -162,9 +162,6 @@ module _ (e t : Store) (j : ℕ) (g : Geometry) (ws : List ℕ) (used : List Boo
         (subst (λ (x : Level). PairOf g (allocationOf t) ws ws' used' upper' lower' r (suc j) x (levelOf g ws lower n)) above-is
         (subst (λ (i : ℕ). PairOf g (allocationOf t) ws ws' used' upper' lower' r i (levelOf g ws upper a) (levelOf g ws lower n)) (k .level-is) left))
 
-    m : Merge
-    m = mergeLevel g (suc j) t
-
     writes-is : r .writes ≡ length (mergeLevel g (suc j) t .written)
     unfolding left-is PairOf upperAfter lowerAfter mergeLevel mergeRun mergeCut
     writes-is = left-is .writes
@@ -189,8 +186,8 @@ module _ (e t : Store) (j : ℕ) (g : Geometry) (ws : List ℕ) (used : List Boo
         (record {
           held = rw (left-is .words) (but-area g ws area t x v (k .held) refl refl (laid-merge g e (mergeLevel g (suc j) t) (areaOf g ws) (k .facts) (k .held .laid)));
           above = listed-new g x j (us .level) upper' (r .above) (blocks-at (BlockFits g) (x .levels) j f) ha (left-is .upper-long) (left-is .above) (left-is .upper);
-          under = listed-new g x (suc j) (ls .level) lower' (r .under) (blocks-at (BlockFits g) (x .levels) (suc j) f) hu (left-is .lower-long) (left-is .under) (left-is .lower);
-          cursor = left-is .cursor;
+          under = listed-new g x (suc j) (ls .level) lower' (r .under) (blocks-at (BlockFits g) (x .levels) (suc j) f) hu (left-is .below .lower-long) (left-is .below .under) (left-is .below .lower);
+          cursor = left-is .below .cursor;
           area = ap (areaOf g) (left-is .words) ∙ base-drop g ws (k .held .long) area;
           counts = merged-grown g e t (suc j) v (k .facts) tally more (level + 1) (r .writes) (omega (arith, k .level-is)) writes-is em;
         })

@@ -206,7 +206,7 @@ module _ (e t : Store) (g : Geometry) (ws : List ℕ) (used : List Bool) (list :
 
     first-is : r .first ≡ at
     unfolding PagesOf at
-    first-is = left-is .first
+    first-is = left-is .below .first
 
     -- what `close_gap` asks
     pub gap-ready : (w : ℕ) → w ≡ windowOf g 0 → TopReady g ws' × ((topCountAt ws' ≡ topCapacityOf g) × (r .first + w ≤ capacityOf g 0))
@@ -239,8 +239,8 @@ module _ (e t : Store) (g : Geometry) (ws : List ℕ) (used : List Bool) (list :
         rw eu
         (record {
           held = rw (q ∙ s .0) (but-top g ws' between x v held-between refl refl gap-short);
-          listed = listed-new g x 0 (ls .level) list' (r .under) (blocks-at (BlockFits g) (x .levels) 0 f) hu (left-is .lower-long) (left-is .under) (left-is .lower);
-          cursor = left-is .cursor;
+          listed = listed-new g x 0 (ls .level) list' (r .under) (blocks-at (BlockFits g) (x .levels) 0 f) hu (left-is .below .lower-long) (left-is .below .under) (left-is .below .lower);
+          cursor = left-is .below .cursor;
           area = ap (areaOf g) q ∙ s .1 ∙ ap (areaOf g) (left-is .words) ∙ base-drop g ws (k .held .long) area;
           counts = merged-grown g e t 0 v (k .facts) tally more 1 (r .writes) refl writes-is em;
         })

@@ -25,6 +25,7 @@ use Rattle.words.specs.Layout.{recordCount, topSlots, topRecs, blockAt, placeOf
 use Rattle.words.proofs.Slots.{mark-low, padRecs}
 use Rattle.words.proofs.Blocks.{place-words, place-of, place-below, count-read, mark-read, block-read}
 use Rattle.words.proofs.Top.{top-read}
+use Rattle.words.proofs.Lists.{blocks-back}
 use Rattle.words.proofs.Laid.{places-are, in-use-are, member-map}
 use Rattle.words.proofs.State.{top-inside}
 use Rattle.lists.specs.Holds.{HoldsBut}
@@ -51,10 +52,6 @@ take-word zero xs k h = absurd (omega arith)
 take-word (suc n) [] k h = refl
 take-word (suc n) (x ∷ xs) zero h = refl
 take-word (suc n) (x ∷ xs) (suc k) h = take-word n xs k (omega arith)
-
-blocks-back : (g : Geometry) (ws : List ℕ) (bs : Level) → Every (λ b. blockAt g ws (placeOf b) ≡ b) bs → map (blockAt g ws) (map placeOf bs) ≡ bs
-blocks-back g ws [] h = refl
-blocks-back g ws (b ∷ bs) h = rw (h .0, blocks-back g ws bs (h .1))
 
 levels-back : (g : Geometry) (ws : List ℕ) (ls : List Level) → Every (λ b. blockAt g ws (placeOf b) ≡ b) (allBlocks ls) → map (λ (l : List ℕ). map (blockAt g ws) l) (placesIn ls) ≡ ls
 levels-back g ws ls h = go ls (λ j. blocks-at (λ b. blockAt g ws (placeOf b) ≡ b) ls j h)

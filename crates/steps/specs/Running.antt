@@ -158,15 +158,20 @@ pub record OneLeft (t : Store) (blocks : List Block) (f : ℕ → levels.Counts)
   pub area : areaOf g ws' ≡ writeBlocks g (areaOf g ws) blocks
   pub counts : Grown f tally (r .tally)
 
+-- what list i has, where list j has a and the others keep what they had
+abbrev pub anew : {A : Type 0} → ℕ → A → ℕ → A → A
+anew j a i b = if eqb j i then a else b
+
 -- the numbers of a run with those of level j + 1 anew
-unfoldable pub relisted : Run → ℕ → One → Run
-relisted r j d = elim (eqb j 0) [
-  | true ↦ record { n1 = d .n; n2 = r .n2; n3 = r .n3; cursor = d .cursor; tally = d .tally }
-  | false ↦ elim (eqb j 1) [
-    | true ↦ record { n1 = r .n1; n2 = d .n; n3 = r .n3; cursor = d .cursor; tally = d .tally }
-    | false ↦ record { n1 = r .n1; n2 = r .n2; n3 = d .n; cursor = d .cursor; tally = d .tally }
-  ]
-]
+abbrev pub relisted : Run → ℕ → One → Run
+relisted r j d =
+    record {
+      n1 = anew j (d .n) 0 (r .n1);
+      n2 = anew j (d .n) 1 (r .n2);
+      n3 = anew j (d .n) 2 (r .n3);
+      cursor = d .cursor;
+      tally = d .tally;
+    }
 
 -- the counts of a merge without its step 5
 abbrev pub mergedCounts : Merge → ℕ → levels.Counts

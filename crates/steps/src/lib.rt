@@ -5,6 +5,7 @@ ghost use mathlib.Core.Bool.{true};
 ghost use Prim.Native.Nat.{ℕ, suc, _+_, _≤_};
 ghost use lib.ListN.{length, take};
 ghost use mathlib.Core.List.{map, _++_};
+ghost use Rattle.levels.specs.Basics.{if_then_else_};
 ghost use Rattle.levels.specs.Waste as waste;
 ghost use Rattle.levels.specs.Place.{Allocation, settle};
 ghost use Rattle.words.specs.Layout.{blockAt};
@@ -161,39 +162,27 @@ fn compact_one(
     }
 }
 
+// The length of a list: n if the list is new, else as it was.
+fn length_of(new: bool, n: usize, old: usize) -> usize
+    ensures { λ r. ⌜ r ≡ (if new then n else old) ⌝ }
+{
+    if new {
+        return n;
+    }
+    old
+}
+
 // The numbers of level j + 1 anew.
 fn relist(r: Run, j: usize, d: One) -> Run
     ensures { λ u. ⌜ u ≡ relisted r j d ⌝ }
 {
-    let n1 = r.n1;
-    let n2 = r.n2;
-    let n3 = r.n3;
     let n = d.n;
-    let cursor = d.cursor;
     let tally = d.tally;
-    if j == 0 {
-        return Run {
-            n1: n,
-            n2: n2,
-            n3: n3,
-            cursor: cursor,
-            tally: tally,
-        };
-    }
-    if j == 1 {
-        return Run {
-            n1: n1,
-            n2: n,
-            n3: n3,
-            cursor: cursor,
-            tally: tally,
-        };
-    }
     Run {
-        n1: n1,
-        n2: n2,
-        n3: n,
-        cursor: cursor,
+        n1: length_of(j == 0, n, r.n1),
+        n2: length_of(j == 1, n, r.n2),
+        n3: length_of(j == 2, n, r.n3),
+        cursor: d.cursor,
         tally: tally,
     }
 }

@@ -92,7 +92,7 @@ listed-places g ws [] i k = refl
 listed-places g ws (l ∷ ls) i k =
     rw (listed-at g ws l i (k .0) (k .1), listed-places g ws ls (suc i) (k .2)) (sym (map-append placeOf l (allBlocks ls)))
 
-blocks-back : (g : Geometry) (ws : List ℕ) (l : Level) → Every (λ b. blockAt g ws (placeOf b) ≡ b) l → map (blockAt g ws) (map placeOf l) ≡ l
+pub blocks-back : (g : Geometry) (ws : List ℕ) (l : Level) → Every (λ b. blockAt g ws (placeOf b) ≡ b) l → map (blockAt g ws) (map placeOf l) ≡ l
 blocks-back g ws [] h = refl
 blocks-back g ws (b ∷ bs) h = rw (h .0, blocks-back g ws bs (h .1))
 

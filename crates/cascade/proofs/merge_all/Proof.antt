@@ -1,4 +1,4 @@
-use mathlib.Core.Path.{refl, sym}
+use mathlib.Core.Path.{sym}
 use Rattle.cascade.proofs.Whole.{first-ready, below-ready, back-ready, merged-all}
 use borrow.Author.Needs.{needs}
 use Rattle.cascade.proofs.merge_all.Statement.{statement}

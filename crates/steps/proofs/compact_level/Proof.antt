@@ -2,7 +2,7 @@ use mathlib.Core.Path.{refl, sym, _∙_}
 use borrow.Author.Tests.{not-true, not-false}
 use native.Mathlib.Omega.{arith}
 use Rattle.steps.proofs.Standing.{markable}
-use Rattle.steps.proofs.Stepping.{one-asks, all-countable, kept-level, due-first, due-second, due-third, compacted-first, compacted-second, compacted-third}
+use Rattle.steps.proofs.Stepping.{all-countable, kept-level, one-asks, compacted}
 use borrow.Author.Needs.{needs}
 use Rattle.steps.proofs.compact_level.Statement.{statement}
 use Rattle.steps.proofs.compact_level.Tie as tie
@@ -22,7 +22,7 @@ same-length c = search needs
 returns : tie.Need-returns
 returns c =
     let p = c .before .before .before .before .before .before .before .pre in
-    λ t e. kept-level _ _ _ _ _ _ (p .0) t e _ _ refl (p .1 .0) (p .1 .1) (sym (c .before .is-due .ensures) ∙ not-true _ (c .if1 .taken))
+    kept-level _ _ _ _ _ _ (p .0) _ _ refl (p .1 .0) (p .1 .1) (sym (c .before .is-due .ensures) ∙ not-true _ (c .if1 .taken))
 
 marks-requires : tie.Need-marks-requires
 marks-requires c κs = let p = c .before .before .before .before .before .before .before .before .before .before .pre .0 in markable _ _ _ _ _ _ _ _ (p .valid) (p .inside) (p .stands)
@@ -30,9 +30,7 @@ marks-requires c κs = let p = c .before .before .before .before .before .before
 compact-one-requires : tie.Need-compact-one-requires
 compact-one-requires c κs =
     let p = c .before .before .before .before .before .before .before .before .before .before .before .before .before .before .before .before .pre in
-    let k = p .0 in
-    let m = c .before .before .before .before .before .marks .ensures in
-    (record { entry = k .entry; store = _; ready = one-asks _ _ _ _ _ _ k _ (m .0) (m .1) 0 _ _ (omega (arith, p .1 .0, p .1 .1)) (k .stands .first) }, sym (due-first _ _ _ _ _ _ _ (c .before .before .before .if2 .taken)) ∙ sym (c .before .before .before .before .before .before .before .before .before .before .is-due .ensures) ∙ not-false _ (c .before .before .before .before .before .before .before .before .before .if1 .left))
+    one-asks _ _ _ _ _ _ (p .0) _ (c .before .before .before .before .before .marks .ensures) 0 _ _ (p .0 .stands .first) _ (c .before .before .before .if2 .taken) (p .1 .1) (sym (c .before .before .before .before .before .before .before .before .before .before .is-due .ensures) ∙ not-false _ (c .before .before .before .before .before .before .before .before .before .if1 .left))
 
 relist-requires : tie.Need-relist-requires
 relist-requires c κs = search needs
@@ -43,16 +41,12 @@ same-length-2 c = search needs
 returns-2 : tie.Need-returns-2
 returns-2 c =
     let p = c .before .before .before .before .before .before .before .before .before .before .before .before .before .before .before .before .before .before .before .before .pre in
-    let k = p .0 in
-    let m = c .before .before .before .before .before .before .before .before .before .marks .ensures in
-    λ t e. compacted-first _ _ _ _ _ _ k t e _ _ _ _ _ (c .before .before .before .before .before .before .before .if2 .taken) (omega (arith, p .1 .0, p .1 .1)) (c .relist .ensures) (rw e (c .before .before .before .compact-one .ensures (k .entry) _ (one-asks _ _ _ _ _ _ k _ (m .0) (m .1) 0 _ _ (omega (arith, p .1 .0, p .1 .1)) (k .stands .first))))
+    compacted _ _ _ _ _ _ (p .0) _ (c .before .before .before .before .before .before .before .before .before .marks .ensures) 0 _ _ (p .0 .stands .first) _ (c .before .before .before .before .before .before .before .if2 .taken) (p .1 .1) _ _ _ _ (c .relist .ensures) (c .before .before .before .compact-one .ensures)
 
 compact-one-requires-2 : tie.Need-compact-one-requires-2
 compact-one-requires-2 c κs =
     let p = c .before .before .before .before .before .before .before .before .before .before .before .before .before .before .before .before .before .pre in
-    let k = p .0 in
-    let m = c .before .before .before .before .before .before .marks .ensures in
-    (record { entry = k .entry; store = _; ready = one-asks _ _ _ _ _ _ k _ (m .0) (m .1) 1 _ _ (omega (arith, p .1 .1, c .before .before .before .if3 .taken)) (k .stands .second) }, sym (due-second _ _ _ _ _ _ _ (c .before .before .before .if3 .taken)) ∙ sym (c .before .before .before .before .before .before .before .before .before .before .before .is-due .ensures) ∙ not-false _ (c .before .before .before .before .before .before .before .before .before .before .if1 .left))
+    one-asks _ _ _ _ _ _ (p .0) _ (c .before .before .before .before .before .before .marks .ensures) 1 _ _ (p .0 .stands .second) _ (c .before .before .before .if3 .taken) (p .1 .1) (sym (c .before .before .before .before .before .before .before .before .before .before .before .is-due .ensures) ∙ not-false _ (c .before .before .before .before .before .before .before .before .before .before .if1 .left))
 
 relist-requires-2 : tie.Need-relist-requires-2
 relist-requires-2 c κs = search needs
@@ -63,16 +57,12 @@ same-length-3 c = search needs
 returns-3 : tie.Need-returns-3
 returns-3 c =
     let p = c .before .before .before .before .before .before .before .before .before .before .before .before .before .before .before .before .before .before .before .before .before .pre in
-    let k = p .0 in
-    let m = c .before .before .before .before .before .before .before .before .before .before .marks .ensures in
-    λ t e. compacted-second _ _ _ _ _ _ k t e _ _ _ _ _ (c .before .before .before .before .before .before .before .if3 .taken) (omega (arith, p .1 .1, c .before .before .before .before .before .before .before .if3 .taken)) (c .relist2 .ensures) (rw e (c .before .before .before .compact-one2 .ensures (k .entry) _ (one-asks _ _ _ _ _ _ k _ (m .0) (m .1) 1 _ _ (omega (arith, p .1 .1, c .before .before .before .before .before .before .before .if3 .taken)) (k .stands .second))))
+    compacted _ _ _ _ _ _ (p .0) _ (c .before .before .before .before .before .before .before .before .before .before .marks .ensures) 1 _ _ (p .0 .stands .second) _ (c .before .before .before .before .before .before .before .if3 .taken) (p .1 .1) _ _ _ _ (c .relist2 .ensures) (c .before .before .before .compact-one2 .ensures)
 
 compact-one-requires-3 : tie.Need-compact-one-requires-3
 compact-one-requires-3 c κs =
     let p = c .before .before .before .before .before .before .before .before .before .before .before .before .before .before .before .before .before .pre in
-    let k = p .0 in
-    let m = c .before .before .before .before .before .before .marks .ensures in
-    (record { entry = k .entry; store = _; ready = one-asks _ _ _ _ _ _ k _ (m .0) (m .1) 2 _ _ (omega (arith, p .1 .0, p .1 .1, c .before .before .before .if3 .left, c .before .before .before .before .if2 .left)) (k .stands .third) }, sym (due-third _ _ _ _ _ _ _ (c .before .before .before .before .if2 .left) (c .before .before .before .if3 .left)) ∙ sym (c .before .before .before .before .before .before .before .before .before .before .before .is-due .ensures) ∙ not-false _ (c .before .before .before .before .before .before .before .before .before .before .if1 .left))
+    one-asks _ _ _ _ _ _ (p .0) _ (c .before .before .before .before .before .before .marks .ensures) 2 _ _ (p .0 .stands .third) _ (omega (arith, p .1 .0, p .1 .1, p .0 .valid .ranged .h-high, c .before .before .before .if3 .left, c .before .before .before .before .if2 .left)) (p .1 .1) (sym (c .before .before .before .before .before .before .before .before .before .before .before .is-due .ensures) ∙ not-false _ (c .before .before .before .before .before .before .before .before .before .before .if1 .left))
 
 relist-requires-3 : tie.Need-relist-requires-3
 relist-requires-3 c κs = search needs
@@ -83,9 +73,7 @@ same-length-4 c = search needs
 returns-4 : tie.Need-returns-4
 returns-4 c =
     let p = c .before .before .before .before .before .before .before .before .before .before .before .before .before .before .before .before .before .before .before .before .before .pre in
-    let k = p .0 in
-    let m = c .before .before .before .before .before .before .before .before .before .before .marks .ensures in
-    λ t e. compacted-third _ _ _ _ _ _ k t e _ _ _ _ _ (omega (arith, p .1 .0, p .1 .1, k .valid .ranged .h-high, c .before .before .before .before .before .before .before .if3 .left, c .before .before .before .before .before .before .before .before .if2 .left)) (omega (arith, p .1 .0, p .1 .1, c .before .before .before .before .before .before .before .if3 .left, c .before .before .before .before .before .before .before .before .if2 .left)) (c .relist3 .ensures) (rw e (c .before .before .before .compact-one3 .ensures (k .entry) _ (one-asks _ _ _ _ _ _ k _ (m .0) (m .1) 2 _ _ (omega (arith, p .1 .0, p .1 .1, c .before .before .before .before .before .before .before .if3 .left, c .before .before .before .before .before .before .before .before .if2 .left)) (k .stands .third))))
+    compacted _ _ _ _ _ _ (p .0) _ (c .before .before .before .before .before .before .before .before .before .before .marks .ensures) 2 _ _ (p .0 .stands .third) _ (omega (arith, p .1 .0, p .1 .1, p .0 .valid .ranged .h-high, c .before .before .before .before .before .before .before .if3 .left, c .before .before .before .before .before .before .before .before .if2 .left)) (p .1 .1) _ _ _ _ (c .relist3 .ensures) (c .before .before .before .compact-one3 .ensures)
 
 pub compact-level-spec : {M : Type 1} → statement M
 compact-level-spec =

@@ -1,5 +1,5 @@
-use mathlib.Core.Path.{sym, _∙_}
-use Rattle.steps.proofs.Stepping.{due-first, due-second, due-third}
+use borrow.Author.Tests.{ne-eqb}
+use Rattle.steps.specs.Running.{dueOf}
 use borrow.Author.Needs.{needs}
 use Rattle.steps.proofs.is_due.Statement.{statement}
 use Rattle.steps.proofs.is_due.Tie as tie
@@ -11,19 +11,22 @@ needs-compacting-requires : tie.Need-needs-compacting-requires
 needs-compacting-requires c κs = search needs
 
 returns : tie.Need-returns
-returns c = c .needs-compacting .ensures ∙ sym (due-first _ _ _ _ _ _ _ (c .before .if1 .taken))
+unfolding dueOf
+returns c = rw (c .before .if1 .taken) (c .needs-compacting .ensures)
 
 needs-compacting-requires-2 : tie.Need-needs-compacting-requires-2
 needs-compacting-requires-2 c κs = search needs
 
 returns-2 : tie.Need-returns-2
-returns-2 c = c .needs-compacting2 .ensures ∙ sym (due-second _ _ _ _ _ _ _ (c .before .if2 .taken))
+unfolding dueOf
+returns-2 c = rw (c .before .if2 .taken) (c .needs-compacting2 .ensures)
 
 needs-compacting-requires-3 : tie.Need-needs-compacting-requires-3
 needs-compacting-requires-3 c κs = search needs
 
 returns-3 : tie.Need-returns-3
-returns-3 c = c .needs-compacting3 .ensures ∙ sym (due-third _ _ _ _ _ _ _ (c .before .before .if1 .left) (c .before .if2 .left))
+unfolding dueOf
+returns-3 c = rw (ne-eqb _ 1 (c .before .before .if1 .left), ne-eqb _ 2 (c .before .if2 .left)) (c .needs-compacting3 .ensures)
 
 pub is-due-spec : {M : Type 1} → statement M
 is-due-spec =
