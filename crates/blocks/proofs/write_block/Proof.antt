@@ -1,8 +1,8 @@
 use native.Mathlib.Omega.{arith}
 use Prim.Native.Nat.{_+_, _*_, _≤_}
-use mathlib.Core.Path.{_≡_, _∙_, sym, refl}
+use mathlib.Core.Path.{_∙_}
 use lib.ListN.{length, length-set}
-use Rattle.blocks.specs.Blocks.{startOf, written}
+use Rattle.blocks.specs.Blocks.{written}
 use Rattle.blocks.proofs.Laws.{ends}
 use Rattle.blocks.proofs.Written.{written-records}
 use borrow.Author.Needs.{needs}
