@@ -15,6 +15,7 @@ use Rattle.geometry.specs.declared.Geometry.{Geometry}
 use Rattle.geometry.specs.Geometry.{Valid, topCapacityOf, blockWidth, placeStart, storeLength}
 use Rattle.geometry.proofs.Laws.{marks-end, keys-end, pays-end, lists-apart, list-inside, store-length-high}
 use Rattle.levels.specs.Place.{after}
+use Rattle.levels.proofs.FirstFree.{after-inside}
 use Rattle.blocks.specs.declared.Layout.{Layout}
 use Rattle.blocks.specs.Blocks.{Sized, layoutOf, startOf, afterBy, Free, SomeFree, freeMark, nextMark, marked}
 
@@ -37,10 +38,6 @@ ends z xs k place h = let l = in-store z xs k place (1 + 2 * z .b) h (omega arit
 pub marked-more : (used : List Bool) (list : List ℕ) (i : ℕ) → set (marked used list i) (getD list i 0) true ≡ marked used list (i + 1)
 unfolding marked
 marked-more used list i = rw add-one
-
--- going round stays among the places
-pub after-low : (p q : ℕ) → 1 ≤ p → q < p → after p q < p
-after-low p q l h = dite (decLt (suc q) p) (λ y. rw (lt-leb p (suc q) y) y) (λ n. rw (le-leb p (suc q) (omega arith)) l)
 
 pub after-by-low : (p cursor k : ℕ) → cursor < p → k ≤ p → afterBy p cursor k < p
 unfolding afterBy
@@ -134,11 +131,11 @@ module _ (used : List Bool) (p cursor : ℕ) (h : cursor < p) where
 pub free-low : (n p : ℕ) (used : List Bool) (q : ℕ) → q < p → freeMark n p used q < p
 unfolding freeMark
 free-low zero p used q h = h
-free-low (suc n) p used q h = go (getD used (after p q) false) refl (free-low n p used (after p q) (after-low p q (omega arith) h))
+free-low (suc n) p used q h = go (getD used (after p q) false) refl (free-low n p used (after p q) (after-inside p q (omega arith)))
   where
     go : (t : Bool) → getD used (after p q) false ≡ t → freeMark n p used (after p q) < p → freeMark (suc n) p used q < p
     go true e ih = rw (e, freeMark) ih
-    go false e ih = rw (e, freeMark) (after-low p q (omega arith) h)
+    go false e ih = rw (e, freeMark) (after-inside p q (omega arith))
 
 -- a store of a legal geometry's length has its layout
 pub sized-of : (g : Geometry) (xs : List ℕ) → Valid g → length xs ≡ storeLength g → Sized (layoutOf g) xs

@@ -3,7 +3,7 @@ use Prim.Native.Nat.{ℕ, zero, suc, _+_, _-_, _*_, _≤_, _<_}
 use mathlib.Core.Path.{_≡_, refl, sym, ap, _∙_}
 use mathlib.Core.List.{List, [], _∷_, _++_, append-assoc}
 use native.Mathlib.Omega.{arith}
-use lib.ListN.{length, set, take, drop, replicate, length-append, length-map, length-replicate}
+use lib.ListN.{length, set, take, drop, replicate, length-append, length-map}
 use lib.Seq.{sets, length-take-le, take-append-add, take-add, drop-drop}
 use Rattle.slices.specs.Slices.{putAt}
 use Rattle.slices.proofs.Put.{set-put, put-more, put-join, put-sets}
@@ -11,6 +11,7 @@ use Rattle.geometry.specs.declared.Geometry.{Geometry}
 use Rattle.geometry.specs.Geometry.{placesStart, blockWidth}
 use Rattle.levels.specs.Record.{Rec}
 use Rattle.words.specs.Layout.{pad, keysOf, paysOf, markWord, blockWords, writeBlock}
+use Rattle.words.proofs.Parts.{pad-length}
 use Rattle.blocks.specs.declared.Layout.{Layout}
 use Rattle.blocks.specs.declared.Buffer.{Buffer}
 use Rattle.blocks.specs.Blocks.{Sized, layoutOf, startOf, bufferOf, written, withBlock, WritesRecords}
@@ -41,9 +42,6 @@ take-pad b xs h l =
     few zero m h = refl
     few (suc n) zero h = absurd (omega arith)
     few (suc n) (suc m) h = ap (λ (ys : List ℕ). 0 ∷ ys) (few n m (omega arith))
-
-pad-length : (n : ℕ) (xs : List ℕ) → length xs ≤ n → length (pad n xs) ≡ n
-pad-length n xs h = length-append xs (replicate (n - length xs) 0) ∙ rw length-replicate (omega arith)
 
 -- a buffer that holds rs writes a block of rs
 pub written-block : (g : Geometry) (xs : List ℕ) (q : ℕ) (rs : List Rec) → Sized (layoutOf g) xs → q < g .p → length rs ≤ g .b → written (layoutOf g) xs q (bufferOf rs) ≡ withBlock g xs q rs

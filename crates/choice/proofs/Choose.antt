@@ -11,9 +11,10 @@ use lib.Seq.{take-suc, take-all, length-take-le}
 use borrow.Author.Tests.{leb-true, leb-false, ltb-true, ltb-false, le-leb, lt-leb, lt-ltb, le-ltb}
 use Rattle.levels.specs.Basics.{if_then_else_}
 use Rattle.levels.specs.Choose.{Least, least, leastOf}
+use Rattle.levels.proofs.Lists.{getD-map-in}
+use Rattle.levels.proofs.Choice.{IsLeast, least-of-is}
 use Rattle.choice.specs.declared.Choice.{Choice}
 use Rattle.choice.specs.Fences.{Fence, fencesFrom, fencesOf, Ordered, fenceRuns, fenceOverlap, overlapsOf, chooseFences, choiceOf, better, stretchOf}
-use Rattle.choice.proofs.Lists.{getD-map-in}
 use Rattle.choice.proofs.Order.{overlap-stretch}
 use Rattle.choice.proofs.Keys.{run-from, fences-length}
 
@@ -130,36 +131,20 @@ module _ (firsts lasts starts ends : List ℕ) (a n w : ℕ) (p : 1 ≤ w) where
 
 -- The chosen run.
 
--- the least of a list is one of its numbers
-abbrev Stands : List ℕ → Least → Type 0
-Stands qs r = (r .at < length qs) × (getD qs (r .at) 0 ≡ r .value)
-
-least-stands : (q : ℕ) (qs : List ℕ) → Stands (q ∷ qs) (least q qs)
-least-stands q [] = (omega arith, refl)
-least-stands q (p ∷ ps) = go (leb q (least p ps .value)) refl (least-stands p ps)
-  where
-    go : (t : Bool) → leb q (least p ps .value) ≡ t → Stands (p ∷ ps) (least p ps) → Stands (q ∷ p ∷ ps) (least q (p ∷ ps))
-    go true e s = rw e (omega arith, refl)
-    go false e s = rw e (omega (arith, s .0), s .1)
-
-least-of : (qs : List ℕ) → 0 < length qs → Stands qs (leastOf qs)
-least-of [] h = absurd (omega arith)
-least-of (q ∷ qs) h = least-stands q qs
-
 module _ (w : ℕ) (above under : List Fence) (p : 1 ≤ w) (h : w ≤ length above) where
-  chosen : Stands (overlapsOf w above under) (chooseFences w above under)
+  chosen : IsLeast (overlapsOf w above under) (chooseFences w above under)
   unfolding chooseFences
-  chosen = least-of (overlapsOf w above under) (omega (arith, overlaps-length w above under p))
+  chosen = least-of-is (overlapsOf w above under) (omega (arith, overlaps-length w above under p))
 
   -- it lies in the level above
   pub chosen-inside : chooseFences w above under .at + w ≤ length above
-  chosen-inside = omega (arith, chosen .0, overlaps-length w above under p)
+  chosen-inside = omega (arith, chosen .inside, overlaps-length w above under p)
 
   -- its overlap is the length of the stretch below it
   pub chosen-overlap : Ordered 0 under
       → chooseFences w above under .value ≡ stretchOf (take w (drop (chooseFences w above under .at) above)) under .end - stretchOf (take w (drop (chooseFences w above under .at) above)) under .start
   chosen-overlap u =
-      sym (chosen .1)
+      sym (chosen .stands)
       ∙ overlaps-at w above under (chooseFences w above under .at) p chosen-inside
       ∙ overlap-stretch (take w (drop (chooseFences w above under .at) above)) under u
 

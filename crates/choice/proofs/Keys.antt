@@ -6,7 +6,7 @@ use native.Mathlib.Omega.{arith}
 use lib.ListN.{length, getD, take, drop}
 use Rattle.levels.specs.Record.{Level}
 use Rattle.choice.specs.Fences.{Fence, fenceOf, fenceAt, fencesFrom, fencesOf, Ordered, Fenced, lowOf, highOf, countBelow, countAtMost, Rising, firstKeys, lastKeys, stretchOf}
-use Rattle.choice.proofs.Lists.{length-each, each-take, each-drop, map-each, each-getD}
+use Rattle.words.proofs.Each.{length-each, each-take, each-drop, map-each, each-getD}
 use Rattle.choice.proofs.Order.{lasts-rise, firsts-rise, ordered-drop, ordered-take}
 
 pub run-from : (firsts lasts : List ℕ) (a i w : ℕ) → i + w ≤ a → take w (drop i (fencesOf firsts lasts a)) ≡ fencesFrom firsts lasts i w

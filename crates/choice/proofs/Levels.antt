@@ -1,17 +1,20 @@
 -- The fences of levels: the choice by fences is the choice by blocks, and a level whose keys rise has ordered fences.
-use Prim.Native.Nat.{ℕ, suc, _≤_}
+use Prim.Native.Nat.{ℕ, suc}
 use mathlib.Core.Path.{_≡_, refl, sym, ap}
-use mathlib.Core.Bool.{Bool, true, false, and-eq-true-iff}
-use mathlib.Core.List.{List, [], _∷_, _++_, map}
-use native.Mathlib.Omega.{arith}
+use mathlib.Core.Bool.{Bool, true, false}
+use mathlib.Core.List.{List, [], _∷_, map}
 use lib.Dec.{leb}
 use lib.ListN.{length, take, length-map}
-use borrow.Author.Tests.{leb-true}
 use Rattle.levels.specs.Basics.{if_then_else_}
-use Rattle.levels.specs.Record.{Rec, Level, size, records, rising, firstKey, lastKey}
+use Rattle.levels.specs.Record.{Level, records, rising, lastKey}
 use Rattle.levels.specs.Choose.{runs, loOf, hiOf, countMeets, overlap, choose}
 use Rattle.choice.specs.Fences.{fenceOf, fencesOf, Ordered, fenceRuns, lowOf, highOf, countOver, fenceOverlap, overlapsOf, chooseFences, choiceOf}
-use Rattle.choice.proofs.Lists.{map-take, map-of-map}
+use Rattle.levels.proofs.Lists.{map-take}
+use Rattle.levels.proofs.Rising.{test-rising}
+use Rattle.levels.proofs.Levels as levels
+use Rattle.choice.proofs.Lists.{map-of-map}
+use Rattle.levels.proofs.Levels.{Filled}
+pub use Rattle.levels.proofs.Levels.{Filled}
 
 runs-fences : (w : ℕ) (l : Level) → fenceRuns w (map fenceOf l) ≡ map (map fenceOf) (runs w l)
 unfolding fenceRuns
@@ -56,24 +59,10 @@ choice-fences firsts lasts starts ends a n w above under e d = rw (e, d) (ap cho
 
 -- Blocks in key order.
 
--- every block has a record
-abbrev pub Filled : Level → Type 0
-Filled [] = Unit {0}
-Filled (b ∷ bs) = (1 ≤ size b) × Filled bs
-
-block-range : (low : ℕ) (rs ys : List Rec) → 1 ≤ length rs → rising low (rs ++ ys) ≡ true → (low ≤ firstKey rs) × ((firstKey rs ≤ lastKey rs) × (rising (suc (lastKey rs)) ys ≡ true))
-block-range low [] ys h e = absurd (omega arith)
-block-range low (r ∷ []) ys h e =
-    let k = and-eq-true-iff _ _ .0 e in
-    (leb-true low (r .key) (k .0), (omega arith, k .1))
-block-range low (r ∷ s ∷ rs) ys h e =
-    let k : (leb low (r .key) ≡ true) × (rising (suc (r .key)) ((s ∷ rs) ++ ys) ≡ true) = and-eq-true-iff _ _ .0 e in
-    let ih = block-range (suc (r .key)) (s ∷ rs) ys (omega arith) (k .1) in
-    (leb-true low (r .key) (k .0), (omega (arith, ih .0, ih .1 .0), ih .1 .1))
+ordered-fences : (low : ℕ) (l : Level) → levels.Ordered low l → Ordered low (map fenceOf l)
+ordered-fences low [] o = tt
+ordered-fences low (b ∷ bs) o = (o .0, (o .1, ordered-fences (suc (lastKey (b .recs))) bs (o .2)))
 
 -- a level whose keys rise has its blocks in key order
 pub level-ordered : (low : ℕ) (l : Level) → Filled l → rising low (records l) ≡ true → Ordered low (map fenceOf l)
-level-ordered low [] f e = tt
-level-ordered low (b ∷ bs) f e =
-    let r = block-range low (b .recs) (records bs) (f .0) e in
-    (r .0, (r .1 .0, level-ordered (suc (lastKey (b .recs))) bs (f .1) (r .1 .1)))
+level-ordered low l f e = ordered-fences low l (levels.rising-ordered low l f (test-rising low (records l) e))

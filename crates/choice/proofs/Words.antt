@@ -1,25 +1,22 @@
 -- Where the words have the first and last keys of listed blocks and of the pages of level 0.
 use Prim.Native.Nat.{ℕ, zero, suc, _+_, _-_, _*_, _/_, _≤_, _<_}
 use mathlib.Core.Path.{_≡_, refl, sym, ap, _∙_}
-use mathlib.Core.Bool.{Bool, true, false}
-use mathlib.Core.List.{List, [], _∷_, _++_, map, append-assoc}
+use mathlib.Core.List.{List, [], _∷_, map, map-append}
 use native.Mathlib.Nat.{mul-le-mul-right}
 use native.Mathlib.Omega.{arith}
-use lib.Dec.{leb}
-use lib.ListN.{length, getD, take, drop, length-map, length-drop, length-append}
-use lib.Seq.{drop-drop, take-all}
-use borrow.Author.Tests.{leb-true, leb-false}
+use lib.ListN.{length, getD, take, drop, length-map}
+use lib.Seq.{take-all}
 use Rattle.geometry.specs.declared.Geometry.{Geometry}
 use Rattle.geometry.specs.Geometry.{Valid, capacityOf, topCapacityOf, keysStart, placeStart, blockWidth, storeLength}
 use Rattle.geometry.proofs.Laws.{keys-end, pays-end, list-inside, places-first, place-inside, place-word-inside}
-use Rattle.levels.specs.Record.{Rec, Block, firstKey, lastKey, new, pack, pages}
+use Rattle.levels.specs.Record.{Rec, Block, firstKey, lastKey, new, pages}
 use Rattle.words.specs.Layout.{word, each, keysOf, slotsAt, pageSlots, topSlots, topRecs, topCountAt, blockSlots, blockAt, recordCount}
 use Rattle.choice.specs.Fences.{Fence, fenceOf, fenceAt, fencesFrom, fencesOf, fill, listedFence, pageFence, Readable}
-use Rattle.choice.proofs.Lists.{length-each, each-add, each-take, each-drop, getD-each, each-same, each-getD, map-each, map-take, map-drop, fill-same, fill-inside}
-
-map-append : {A B : Type 0} (f : A → B) (xs ys : List A) → map f (xs ++ ys) ≡ map f xs ++ map f ys
-map-append f [] ys = refl
-map-append f (x ∷ xs) ys = ap (λ r. f x ∷ r) (map-append f xs ys)
+use Rattle.levels.proofs.Lists.{map-take, map-drop}
+use Rattle.levels.proofs.Compaction.{pages-at, pages-full}
+use Rattle.words.proofs.Each.{length-each, each-add, each-take, each-drop, getD-each, each-same, each-getD, map-each}
+use Rattle.words.proofs.Top.{top-length}
+use Rattle.choice.proofs.Lists.{fill-same, fill-inside}
 
 -- Keys by index.
 
@@ -64,40 +61,6 @@ listed-words g ws list i k =
 
 -- Pages of level 0.
 
-pack-full : (B : ℕ) (buffer rs : List Rec) → length buffer < B → B ≤ length buffer + length rs
-    → pack B buffer rs ≡ new (buffer ++ take (B - length buffer) rs) ∷ pack B [] (drop (B - length buffer) rs)
-pack-full B buffer [] l h = absurd (omega arith)
-pack-full B buffer (r ∷ rs) l h = go (leb B (suc (length buffer))) refl (λ x y. pack-full B (buffer ++ (r ∷ [])) rs x y)
-  where
-    more : length (buffer ++ (r ∷ [])) ≡ suc (length buffer)
-    more = omega (arith, length-append buffer (r ∷ []))
-
-    Full : List Rec → Type 0
-    Full buf = pack B buf rs ≡ new (buf ++ take (B - length buf) rs) ∷ pack B [] (drop (B - length buf) rs)
-
-    go : (t : Bool) → leb B (suc (length buffer)) ≡ t
-        → (length (buffer ++ (r ∷ [])) < B → B ≤ length (buffer ++ (r ∷ [])) + length rs → Full (buffer ++ (r ∷ [])))
-        → elim t [ true ↦ new (buffer ++ (r ∷ [])) ∷ pack B [] rs | false ↦ pack B (buffer ++ (r ∷ [])) rs ]
-        ≡ new (buffer ++ take (B - length buffer) (r ∷ rs)) ∷ pack B [] (drop (B - length buffer) (r ∷ rs))
-    go true e ih =
-        let k = leb-true B (suc (length buffer)) e in
-        let n : B - length buffer ≡ 1 = omega arith in
-        rw n
-    go false e ih =
-        let k = leb-false B (suc (length buffer)) e in
-        let n : B - length buffer ≡ suc (B - suc (length buffer)) = omega arith in
-        rw n (rw (more, append-assoc) at (ih (omega (arith, more)) (omega (arith, more))))
-
--- a list of at least B records starts with a full page
-pages-first : (B : ℕ) (rs : List Rec) → 1 ≤ B → B ≤ length rs → pages B rs ≡ new (take B rs) ∷ pages B (drop B rs)
-pages-first B rs p h = let e : B - 0 ≡ B = omega arith in rw e at (pack-full B [] rs p (omega arith))
-
-pages-at : (B i : ℕ) (rs : List Rec) → 1 ≤ B → suc i * B ≤ length rs → getD (pages B rs) i (new []) ≡ new (take B (drop (i * B) rs))
-pages-at B zero rs p h = let e : 0 * B ≡ 0 = omega arith in rw (e, pages-first B rs p (omega arith))
-pages-at B (suc i) rs p h =
-    let e : suc i * B ≡ B + i * B = omega arith in
-    rw (pages-first B rs p (omega arith), e, ← drop-drop (i * B) B rs) (pages-at B i (drop B rs) p (omega (arith, length-drop B rs)))
-
 keys-pages : (g : Geometry) (ws : List ℕ) (i n : ℕ) → keysOf (pageSlots g ws i n) ≡ each (word ws) (keysStart g + i * g .b) (n * g .b)
 unfolding pageSlots
 keys-pages g ws i zero = let e : 0 * g .b ≡ 0 = omega arith in rw e
@@ -111,10 +74,6 @@ unfolding topRecs topSlots topCapacityOf
 keys-top g ws h =
     let e : keysStart g + 0 * g .b ≡ keysStart g = omega arith in
     map-take (λ (r : Rec). r .key) (topCountAt ws) (topSlots g ws) ∙ rw (keys-pages g ws 0 (capacityOf g 0), e) (each-take (word ws) (keysStart g) (topCountAt ws) (capacityOf g 0 * g .b) h)
-
-top-length : (g : Geometry) (ws : List ℕ) → topCountAt ws ≤ topCapacityOf g → length (topRecs g ws) ≡ topCountAt ws
-top-length g ws h =
-    sym (length-map (topRecs g ws) (λ (r : Rec). r .key)) ∙ ap length (keys-top g ws h) ∙ length-each (word ws) (keysStart g) (topCountAt ws)
 
 -- the fence of a full page of level 0
 pub page-words : (g : Geometry) (ws : List ℕ) (i : ℕ) → 1 ≤ g .b → suc i * g .b ≤ topCountAt ws → topCountAt ws ≤ topCapacityOf g
@@ -172,7 +131,7 @@ fill-fences : (f : ℕ → Fence) (n : ℕ) (xs ys firsts lasts : List ℕ) → 
 unfolding fencesFrom
 fill-fences f n xs ys firsts lasts e d =
     each-same (fenceAt firsts lasts) f 0 n
-    (λ j l. let k : j < n = omega arith in rw (e, d, fill-inside (λ i. f i .first) n xs j k, fill-inside (λ i. f i .last) n ys j k))
+    (λ j a l. let k : j < n = omega arith in rw (e, d, fill-inside (λ i. f i .first) n xs j k, fill-inside (λ i. f i .last) n ys j k))
 
 -- the listed blocks: with the list of a level, `levelAt`
 pub listed-fences : (g : Geometry) (ws list : List ℕ) (n : ℕ) (xs ys firsts lasts : List ℕ)
@@ -183,11 +142,6 @@ listed-fences g ws list n xs ys firsts lasts e d h =
     fill-fences (listedFence g ws list) n xs ys firsts lasts e d
     ∙ sym (ap (map fenceOf) (ap (map (blockAt g ws)) (sym (each-getD 0 list n h)) ∙ map-each (blockAt g ws) (word list) 0 n) ∙ map-each fenceOf (λ (i : ℕ). blockAt g ws (word list i)) 0 n)
 
-pages-length : (B n : ℕ) (rs : List Rec) → 1 ≤ B → length rs ≡ n * B → length (pages B rs) ≡ n
-pages-length B zero [] p e = refl
-pages-length B zero (r ∷ rs) p e = absurd (omega arith)
-pages-length B (suc n) rs p e = rw (pages-first B rs p (omega arith)) (ap suc (pages-length B n (drop B rs) p (omega (arith, length-drop B rs))))
-
 -- the pages of a level 0 of n full pages
 pub page-fences : (g : Geometry) (ws : List ℕ) (n : ℕ) (xs ys firsts lasts : List ℕ)
     → firsts ≡ fill (λ i. pageFence g ws i .first) n xs → lasts ≡ fill (λ i. pageFence g ws i .last) n ys
@@ -196,6 +150,6 @@ pub page-fences : (g : Geometry) (ws : List ℕ) (n : ℕ) (xs ys firsts lasts :
 unfolding pageFence
 page-fences g ws n xs ys firsts lasts a b p e l =
     let ps = pages (g .b) (topRecs g ws) in
-    let m : length ps ≡ n = pages-length (g .b) n (topRecs g ws) p (top-length g ws l ∙ e) in
+    let m : length ps ≡ n = pages-full (g .b) n (topRecs g ws) p (top-length g ws l ∙ e) in
     fill-fences (pageFence g ws) n xs ys firsts lasts a b
     ∙ sym (ap (map fenceOf) (sym (each-getD (new []) ps n (omega arith) ∙ take-all n ps (omega arith))) ∙ map-each fenceOf (λ (i : ℕ). getD ps i (new [])) 0 n)

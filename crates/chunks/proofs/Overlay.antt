@@ -1,5 +1,5 @@
 -- Lists of records laid over each other, taken apart from the least key on: the least key leaves every list that has it, and the uppermost record stands.
-use Prim.Native.Nat.{ℕ, suc, _+_, _≤_}
+use Prim.Native.Nat.{ℕ, _+_, _≤_}
 use mathlib.Core.Path.{_≡_, refl, _∙_}
 use mathlib.Core.Bool.{Bool, true, false, not, _&&_}
 use mathlib.Core.List.{List, [], _∷_, _++_}
@@ -13,6 +13,7 @@ use Rattle.levels.specs.Basics.{if_then_else_}
 use Rattle.levels.specs.Record.{Rec}
 use Rattle.levels.specs.Map.{overlay, into, unmarked, firstFrom}
 use Rattle.chunks.specs.Peel.{taken, past, orList, Least, Peeled, liveBit}
+use Rattle.levels.proofs.Laid.{overlay-length, kept-length}
 use Rattle.levels.proofs.Overlay.Way.{less, same, more}
 use Rattle.levels.proofs.Overlay.{into-below, into-same, into-above, Way, way}
 
@@ -126,36 +127,10 @@ module _ (q : ℕ) (r : Rec) (rs : List Rec) where
       go true false l h = cc
       go false false l h = rw (l, firstFrom)
 
--- no more records live than there are
-pub live-high : (rs : List Rec) → length (unmarked rs) ≤ length rs
-unfolding unmarked
-live-high [] = omega arith
-live-high (r ∷ rs) = go (r .tombstone) (live-high rs)
-  where
-    go : (t : Bool) → length (unmarked rs) ≤ length rs → length {A = Rec} (elim t [ true ↦ unmarked rs | false ↦ r ∷ unmarked rs ]) ≤ suc (length rs)
-    go true h = omega arith
-    go false h = omega arith
-
-into-length : (x : Rec) (xs : List Rec) (f : List Rec → List Rec) → ((zs : List Rec) → length (f zs) ≤ length xs + length zs) → (ys : List Rec) → length (into x f ys) ≤ suc (length xs) + length ys
-unfolding into
-into-length x xs f h [] = let k = h [] in omega arith
-into-length x xs f h (y ∷ ys) = go (way (y .key) (x .key)) (into-length x xs f h ys)
-  where
-    go : Way (y .key) (x .key) → length (into x f ys) ≤ suc (length xs) + length ys → length (into x f (y ∷ ys)) ≤ suc (length xs) + suc (length ys)
-    go (less e) ih = rw (into-below x f y ys e) (omega arith)
-    go (same e) ih = let k = h ys in rw (into-same x f y ys e) (omega arith)
-    go (more e) ih = let k : length (f (y ∷ ys)) ≤ length xs + suc (length ys) = h (y ∷ ys) in rw (into-above x f y ys e) (omega arith)
-
--- an overlay has no more records than its two lists
-pub overlay-length : (xs ys : List Rec) → length (overlay xs ys) ≤ length xs + length ys
-unfolding overlay
-overlay-length [] ys = omega arith
-overlay-length (x ∷ xs) ys = into-length x xs (λ zs. overlay xs zs) (λ zs. overlay-length xs zs) ys
-
 -- four lists have no more live keys than records
 pub four-live-high : (a b c d : List Rec) → length (unmarked (overlay a (overlay b (overlay c d)))) ≤ length a + (length b + (length c + length d))
 four-live-high a b c d =
-    let p = live-high (overlay a (overlay b (overlay c d))) in
+    let p = kept-length true (overlay a (overlay b (overlay c d))) in
     let q = overlay-length a (overlay b (overlay c d)) in
     let r = overlay-length b (overlay c d) in
     let s = overlay-length c d in

@@ -1,17 +1,16 @@
 -- Steps of the passes over a chunk, and what they say of its records.
 use Prim.Native.Nat.{ℕ, zero, suc, _+_, _-_, _/_, _%_, _^_, _≤_, _<_}
-use mathlib.Core.Path.{_≡_, sym, ap, _∙_, refl}
+use mathlib.Core.Path.{_≡_, sym, _∙_, refl}
 use mathlib.Core.Bool.{Bool, true, false, not, _&&_, _||_, and-assoc}
 use mathlib.Core.List.{List, [], _∷_, _++_}
-use native.Mathlib.Nat.{pow-succ', div-div-eq-div-mul}
 use native.Mathlib.Numerals.{add-one}
 use native.Mathlib.Omega.{arith}
 use borrow.Author.Tests.{le-leb, lt-leb, eq-eqb, ne-eqb}
 use lib.Dec.{leb, eqb}
-use lib.ListN.{length}
 use Rattle.levels.specs.Basics.{if_then_else_}
 use Rattle.levels.specs.Record.{Rec, rising, cleanTombstones}
 use Rattle.words.specs.Layout.{word, slotsAt}
+use Rattle.words.proofs.Slots.{shift-suc}
 use Rattle.chunks.specs.declared.Rise.{Rise}
 use Rattle.chunks.specs.declared.Rise.the-variants.{To, Broken}
 use Rattle.chunks.specs.Chunks.{zerosAt, nextLow, riseOf, cleanOf}
@@ -107,10 +106,6 @@ rise-clean ws m k v (suc n) low =
     go false false true x = refl
     go false false false x = refl
 
--- bits past the first are those of the halved word past one fewer
-pub shift-suc : (m n : ℕ) → m / 2 ^ suc n ≡ m / 2 / 2 ^ n
-shift-suc m n = ap (_/_ m) (pow-succ' 2 n) ∙ sym (div-div-eq-div-mul m 2 (2 ^ n))
-
 -- the pass says: keys rise strictly, payloads of tombstones are 0, and no bit is set past the count
 pub rise-is : (ws : List ℕ) (m k v n low : ℕ) → riseOf ws m k v n low ≡ (if rising low (slotsAt ws m k v n) && (cleanTombstones (slotsAt ws m k v n) && eqb (m / 2 ^ n) 0) then To (nextLow low (slotsAt ws m k v n)) else Broken)
 unfolding riseOf slotsAt nextLow
@@ -125,11 +120,6 @@ rise-is ws m k v (suc n) low =
     go true true false true d e x = refl
     go true true false false d e x = refl
 
-pub slots-length : (ws : List ℕ) (m k v n : ℕ) → length (slotsAt ws m k v n) ≡ n
-unfolding slotsAt
-slots-length ws m k v zero = refl
-slots-length ws m k v (suc n) = ap suc (slots-length ws (m / 2) (suc k) (suc v) n)
-
 -- the first of n slots, and those after it
 pub slots-first : (ws : List ℕ) (m k v n : ℕ) → 1 ≤ n → slotsAt ws m k v n ≡ record { key = word ws k; tombstone = eqb (m % 2) 1; pay = word ws v } ∷ slotsAt ws (m / 2) (k + 1) (v + 1) (n - 1)
 unfolding slotsAt
@@ -141,18 +131,3 @@ pub rising-append : (low : ℕ) (rs ss : List Rec) → rising low (rs ++ ss) ≡
 unfolding nextLow
 rising-append low [] ss = refl
 rising-append low (r ∷ rs) ss = rw (rising-append (suc (r .key)) rs ss) (sym (and-assoc (leb low (r .key)) (rising (suc (r .key)) rs) (rising (nextLow (suc (r .key)) rs) ss)))
-
--- a row of slots in two parts
-pub slots-split : (ws : List ℕ) (m k v j n : ℕ) → slotsAt ws m k v (j + n) ≡ slotsAt ws m k v j ++ slotsAt ws (m / 2 ^ j) (k + j) (v + j) n
-unfolding slotsAt
-slots-split ws m k v zero n =
-    let e : m / 2 ^ 0 ≡ m = omega arith in
-    let a : 0 + n ≡ n = omega arith in
-    let b : k + 0 ≡ k = omega arith in
-    let c : v + 0 ≡ v = omega arith in
-    rw (e, a, b, c)
-slots-split ws m k v (suc j) n =
-    let a : suc j + n ≡ suc (j + n) = omega arith in
-    let b : k + suc j ≡ suc k + j = omega arith in
-    let c : v + suc j ≡ suc v + j = omega arith in
-    rw (shift-suc m j, a, b, c, slots-split ws (m / 2) (suc k) (suc v) j n)

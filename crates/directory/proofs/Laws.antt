@@ -1,7 +1,7 @@
 -- Laws of chunks and of the pass over a level.
 use Prim.Native.Nat.{ℕ, zero, suc, _+_, _-_, _*_, _/_, _^_, _≤_, _<_}
 use mathlib.Core.Path.{_≡_, sym, ap, _∙_, refl}
-use mathlib.Core.Bool.{Bool, true, false, not, _&&_, and-eq-true-iff}
+use mathlib.Core.Bool.{Bool, true, false, not, _&&_, and-eq-true-iff, and-false}
 use mathlib.Core.Logic.{dite}
 use mathlib.Core.List.{List, [], _++_}
 use native.Mathlib.Decide.{decLt}
@@ -20,7 +20,8 @@ use Rattle.chunks.specs.declared.Rise.{Rise}
 use Rattle.chunks.specs.declared.Rise.the-variants.{To, Broken}
 use Rattle.chunks.specs.Chunks.{chunkRecs, riseOf, nextLow}
 use Rattle.levels.proofs.Rising.{test-rising}
-use Rattle.chunks.proofs.Slots.{rise-is, slots-length, rising-append}
+use Rattle.words.proofs.Slots.{slots-length}
+use Rattle.chunks.proofs.Slots.{rise-is, rising-append}
 use Rattle.directory.specs.declared.Directory.{Directory}
 use Rattle.directory.specs.Directory.{pageOf, blockOf, startOf, chunkAt, recordsFrom, recordsOf, Within, keptOf, leanLevel, onRise, passOf, levelFormed, tidyChunk, tidyFrom, levelRules, Formed}
 
@@ -80,11 +81,7 @@ pass-start ws d n = let p : n - 0 ≡ n = omega arith in rw p
 -- seven tests, taken chunk by chunk or rule by rule
 shuffle : (k r c z t q y : Bool) → (k && (r && (c && z) && (t && (q && y)))) ≡ ((k && (c && z)) && t && ((r && q) && y))
 shuffle false r c z t q y = refl
-shuffle true false c z t q y = go (c && z && t)
-  where
-    go : (b : Bool) → false ≡ (b && false)
-    go true = refl
-    go false = refl
+shuffle true false c z t q y = sym (and-false (c && z && t))
 shuffle true true false z t q y = refl
 shuffle true true true false t q y = refl
 shuffle true true true true t q y = refl

@@ -4,16 +4,17 @@ use mathlib.Core.Path.{_≡_, refl, sym}
 use mathlib.Core.Bool.{Bool, true, false}
 use mathlib.Core.List.{List}
 use native.Mathlib.Omega.{arith}
-use lib.Dec.{ltb, eqb}
+use lib.Dec.{eqb}
 use lib.ListN.{length}
-use borrow.Author.Tests.{lt-ltb, le-ltb, ltb-true, ltb-false, eqb-true, eqb-false, eq-eqb, ne-eqb}
+use borrow.Author.Tests.{lt-ltb, le-ltb, eqb-true, eqb-false, eq-eqb, ne-eqb}
 use Rattle.geometry.specs.declared.Geometry.{Geometry}
 use Rattle.geometry.specs.declared.Built.the-variants.{Legal, Broken}
 use Rattle.geometry.specs.Geometry.{Valid, isLegal, builtOf, headerLength, storeLength, sizeReason}
-use Rattle.geometry.proofs.Laws.{legal-valid, valid-legal, built-valid, built-broken, store-length-low, store-length-high}
+use Rattle.geometry.proofs.Laws.{valid-legal, built-valid, built-broken, store-length-low, store-length-high}
 use Rattle.levels.specs.Basics.{if_then_else_}
 use Rattle.words.specs.Layout.{geometryAt}
 use Rattle.words.specs.Form.{formed, reasonOf}
+use Rattle.words.proofs.Reason.{size-none, size-legal}
 use Rattle.entry.specs.declared.Opened.the-variants.{Ready, Refused}
 use Rattle.entry.specs.Entry.{Sized, pickOpened, fitOf, openedOf}
 
@@ -31,33 +32,6 @@ size-broken n g h l = rw (le-ltb n headerLength h, l, sizeReason)
 pub size-other : (n : ℕ) (g : Geometry) → 12 ≤ n → isLegal g ≡ true → (n ≡ storeLength g → ⊥) → sizeReason n g ≡ 3
 unfolding sizeReason
 size-other n g h l k = rw (le-ltb n headerLength h, l, ne-eqb n (storeLength g) k, sizeReason)
-
--- no reason: the geometry keeps every limit, and the words are as many as its layout has
-pub size-right : (n : ℕ) (g : Geometry) → 12 ≤ n → isLegal g ≡ true → n ≡ storeLength g → sizeReason n g ≡ 0
-unfolding sizeReason
-size-right n g h l k = rw (le-ltb n headerLength h, l, eq-eqb n (storeLength g) k, sizeReason)
-
--- what `Ready` says of n words and six numbers
-record Right (n : ℕ) (g : Geometry) : Type 0 where
-  valid : Valid g
-  words : n ≡ storeLength g
-  long : 12 ≤ n
-
-size-none : (n : ℕ) (g : Geometry) → sizeReason n g ≡ 0 → Right n g
-unfolding sizeReason
-size-none n g e = short (ltb n headerLength) refl
-  where
-    same : (a : Bool) → 12 ≤ n → isLegal g ≡ true → eqb n (storeLength g) ≡ a → Right n g
-    same true h l k = record { valid = legal-valid g l; words = eqb-true n (storeLength g) k; long = h }
-    same false h l k = absurd (let z = size-other n g h l (λ w. absurd (eqb-false n (storeLength g) k w)) in omega arith)
-
-    legal : (a : Bool) → 12 ≤ n → isLegal g ≡ a → Right n g
-    legal true h l = same (eqb n (storeLength g)) h l refl
-    legal false h l = absurd (let z = size-broken n g h l in omega arith)
-
-    short : (a : Bool) → ltb n headerLength ≡ a → Right n g
-    short true k = absurd (let z = size-short n g (omega (arith, ltb-true n headerLength k)) in omega arith)
-    short false k = legal (isLegal g) (ltb-false n headerLength k) refl
 
 -- the two cases of an answer to the reason r
 pub pick-ready : (r : ℕ) (s g : Geometry) → pickOpened r s ≡ Ready g → (g ≡ s) × (r ≡ 0)
@@ -91,7 +65,7 @@ fit-other n s t h e k =
 pub fit-ready : (n : ℕ) (s t : Geometry) → 12 ≤ n → builtOf s ≡ Legal t → n ≡ storeLength t → Ready t ≡ fitOf n s
 unfolding fitOf
 fit-ready n s t h e k =
-    let b = built-valid s t e in rw (b .0, size-right n t h (valid-legal t (b .1)) k)
+    let b = built-valid s t e in rw (b .0, size-none n t (b .1) k)
 
 -- a store of fewer than 12 words has no geometry to look at
 pub opened-short : (ws : List ℕ) → length ws < 12 → Refused 1 ≡ openedOf ws
@@ -103,8 +77,8 @@ pub fitted-ready : (n : ℕ) (s g : Geometry) → fitOf n s ≡ Ready g → (g �
 unfolding fitOf
 fitted-ready n s g e =
     let k = pick-ready (sizeReason n s) s g e in
-    let r = size-none n s (k .1) in
-    (k .0, (rw (k .0) (r .valid), (rw (k .0) (r .words), k .1)))
+    let r = size-legal n s (k .1) in
+    (k .0, (rw (k .0) (r .0), (rw (k .0) (r .1), k .1)))
 
 pub fitted-refused : (n : ℕ) (s : Geometry) (m : ℕ) → fitOf n s ≡ Refused m → (sizeReason n s ≡ m) × (1 ≤ m)
 unfolding fitOf
@@ -137,7 +111,7 @@ opened-refused ws n e = fitted-refused (length ws) (geometryAt ws) n e
 pub sized-opened : (ws : List ℕ) (g : Geometry) → Valid g → g ≡ geometryAt ws → length ws ≡ storeLength g → openedOf ws ≡ Ready g
 unfolding openedOf fitOf
 sized-opened ws g v e l =
-    rw (← e, size-right (length ws) g (omega (arith, store-length-low g v)) (valid-legal g v) l)
+    rw (← e, size-none (length ws) g v l)
 
 -- "4. The form check finds a breach": all that is left to find of a store that is ready
 pub ready-reason : (ws : List ℕ) (g : Geometry) → openedOf ws ≡ Ready g → reasonOf ws ≡ (if formed g ws then 0 else 4)

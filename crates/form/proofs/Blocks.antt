@@ -3,12 +3,12 @@ use Prim.Native.Nat.{ℕ, zero, suc, _+_, _-_, _/_, _^_, _≤_, _<_}
 use mathlib.Core.Path.{_≡_, sym, ap, _∙_, refl}
 use mathlib.Core.Bool.{Bool, true, false, not, _&&_, _||_, and-eq-true-iff, Bool·not-not}
 use mathlib.Core.Logic.{dite}
-use mathlib.Core.List.{List, [], _∷_, _++_, map}
+use mathlib.Core.List.{List, [], _∷_, map}
 use native.Mathlib.Decide.{decLt}
 use native.Mathlib.Omega.{arith}
 use borrow.Author.Tests.{leb-true, le-leb, lt-leb, lt-ltb, le-ltb}
 use lib.Dec.{leb, ltb, eqb}
-use lib.ListN.{length, drop, length-map}
+use lib.ListN.{length, drop}
 use Rattle.geometry.specs.declared.Geometry.{Geometry}
 use Rattle.geometry.specs.Geometry.{within, listStart, placeStart, blockWidth}
 use Rattle.levels.specs.Basics.{all, ceilDiv}
@@ -18,13 +18,18 @@ use Rattle.words.specs.Layout.{word, slotsAt, countAt, listedAt, recordCount, m
 use Rattle.words.specs.Form.{blank}
 use Rattle.chunks.specs.declared.Chunk.{Chunk}
 use Rattle.chunks.specs.Chunks.{zerosAt, chunkRecs}
-use Rattle.chunks.proofs.Slots.{slots-length}
+use Rattle.levels.proofs.Basics.{and-left, and-right}
+use Rattle.levels.proofs.Laid.{has-append}
+use Rattle.words.proofs.Each.{all-each-at}
+use Rattle.words.proofs.Slots.{slots-take}
+use Rattle.words.proofs.Blocks.{block-size}
+use Rattle.words.proofs.Lists.{level-length}
 use Rattle.directory.specs.Directory.{blockOf, chunkAt, recordsFrom, recordsOf, keptOf, leanLevel, tidyChunk, tidyFrom, levelFormed}
 use Rattle.directory.proofs.Laws.{formed-is, kept-count, pass-start, pass-end-listed}
 use Rattle.form.specs.Form.{levelOf}
-use Rattle.form.proofs.Tests.{test-same, and-left, and-right, all-append}
-use Rattle.form.proofs.Parts.{wordsFrom, words-length, words-at, Listed, listed-words}
-use Rattle.form.proofs.Unused.{slots-take, unused-is, unmarked-is}
+use Rattle.form.proofs.Tests.{test-same, all-append}
+use Rattle.form.proofs.Parts.{wordsFrom, Listed, listed-words}
+use Rattle.form.proofs.Unused.{unused-is, unmarked-is}
 
 -- the block at place p, as the code reads it
 abbrev pub placeChunk : Geometry → List ℕ → ℕ → Chunk
@@ -75,22 +80,11 @@ pairs-first b x (y ∷ ys) = rw (pairs-first b y ys)
 not-leb : (a b : ℕ) → not (leb a b) ≡ ltb b a
 not-leb a b = dite (decLt b a) (λ y. rw (lt-leb a b y, lt-ltb b a y)) (λ n. let l : a ≤ b = omega arith in rw (le-leb a b l, le-ltb b a l))
 
-tombstone-append : (xs ys : List Rec) → hasTombstone (xs ++ ys) ≡ (hasTombstone xs || hasTombstone ys)
-tombstone-append [] ys = refl
-tombstone-append (x ∷ xs) ys = rw (tombstone-append xs ys) (go (x .tombstone) (hasTombstone xs) (hasTombstone ys))
-  where
-    go : (a b c : Bool) → (a || (b || c)) ≡ ((a || b) || c)
-    go true b c = refl
-    go false b c = refl
-
 module _ (g : Geometry) (ws : List ℕ) where
   -- the records of a block that has no more than B
   block-recs : (p : ℕ) → recordCount g ws p ≤ g .b → (blockAt g ws p) .recs ≡ chunkRecs ws (placeChunk g ws p)
   unfolding blockAt blockSlots
   block-recs p h = slots-take ws (markWordAt g ws p) (placeStart g p + 2) (placeStart g p + 2 + g .b) (recordCount g ws p) (g .b) h
-
-  block-size : (p : ℕ) → recordCount g ws p ≤ g .b → size (blockAt g ws p) ≡ recordCount g ws p
-  block-size p h = ap length (block-recs p h) ∙ slots-length ws (markWordAt g ws p) (placeStart g p + 2) (placeStart g p + 2 + g .b) (recordCount g ws p)
 
   filled-facts : (p : ℕ) → blockFilled g ws p ≡ true → (1 ≤ recordCount g ws p) × (recordCount g ws p ≤ g .b)
   unfolding blockFilled
@@ -103,7 +97,7 @@ module _ (g : Geometry) (ws : List ℕ) where
   pairs-start (p ∷ ps) e =
       let k = simp and-eq-true-iff at e in
       let f = filled-facts p (k .0) in
-      let s = block-size p (f .1) in
+      let s = block-size g ws p (f .1) in
       rw (lt-ltb (g .b) (g .b + size (blockAt g ws p)) (let l = f .0 in omega arith), pairs-first (g .b) (blockAt g ws p) (map (blockAt g ws) ps))
 
   module _ (i : ℕ) where
@@ -114,7 +108,7 @@ module _ (g : Geometry) (ws : List ℕ) where
 
     level-from : (j n : ℕ) → all (blockFilled g ws) (wordsFrom ws (listStart g i + j) n) ≡ true
         → recordsFrom ws (levelOf g ws i) j n ≡ records (map (blockAt g ws) (wordsFrom ws (listStart g i + j) n))
-    unfolding recordsFrom wordsFrom
+    unfolding recordsFrom
     level-from j zero e = refl
     level-from j (suc n) e =
         let k = simp and-eq-true-iff at e in
@@ -153,7 +147,7 @@ module _ (g : Geometry) (ws : List ℕ) where
         ≡ (pairsAfter (g .b) before (map (blockAt g ws) (wordsFrom ws (listStart g i + j) n))
         && (not (eqb i (g .h) && hasTombstone (records (map (blockAt g ws) (wordsFrom ws (listStart g i + j) n))))
         && (all (blockUnused g ws) (wordsFrom ws (listStart g i + j) n) && cleanTombstones (records (map (blockAt g ws) (wordsFrom ws (listStart g i + j) n))))))
-    unfolding tidyFrom wordsFrom pairsAfter
+    unfolding tidyFrom pairsAfter
     blocks-tidy j zero before e = go (eqb i (g .h))
       where
         go : (t : Bool) → true ≡ (not (t && false) && true)
@@ -172,9 +166,9 @@ module _ (g : Geometry) (ws : List ℕ) where
           block-tidy p before (k .0),
           q,
           blocks-tidy (suc j) n (recordCount g ws p) (rw q at (k .1)),
-          block-size p f,
+          block-size g ws p f,
           block-recs p f,
-          tombstone-append rs ss,
+          has-append rs ss,
           all-append (λ (r : Rec). not (r .tombstone) || eqb (r .pay) 0) rs ss,
         )
         (go
@@ -201,7 +195,7 @@ module _ (g : Geometry) (ws : List ℕ) where
 
     -- what the code finds tidy has 1 to B records to a block
     tidy-filled : (j n before : ℕ) → tidyFrom ws (levelOf g ws i) j n before ≡ true → all (blockFilled g ws) (wordsFrom ws (listStart g i + j) n) ≡ true
-    unfolding tidyFrom wordsFrom
+    unfolding tidyFrom
     tidy-filled j zero before e = refl
     tidy-filled j (suc n) before e =
         let k = simp and-eq-true-iff at e in
@@ -213,9 +207,6 @@ module _ (g : Geometry) (ws : List ℕ) where
       pub level-blocks : levelAt g ws i ≡ map (blockAt g ws) (wordsFrom ws (listStart g i) (countAt ws i))
       unfolding levelAt
       level-blocks = ap (map (blockAt g ws)) (listed-words g ws i l)
-
-      level-length : length (levelAt g ws i) ≡ countAt ws i
-      level-length = rw level-blocks (length-map (wordsFrom ws (listStart g i) (countAt ws i)) (blockAt g ws) ∙ words-length ws (listStart g i) (countAt ws i))
 
       list-first : listStart g i + 0 ≡ listStart g i
       list-first = omega arith
@@ -235,7 +226,7 @@ module _ (g : Geometry) (ws : List ℕ) where
       pub chunk-recs : filledAt g ws i ≡ true → (j : ℕ) → j < countAt ws i → chunkRecs ws (chunkAt ws (levelOf g ws i) j) ≡ (blockAt g ws (word ws (listStart g i + j))) .recs
       chunk-recs e j h =
           let p = word ws (listStart g i + j) in
-          let f = words-at (blockFilled g ws) ws (listStart g i) (countAt ws i) (rw (listed-words g ws i l) at e) j h in
+          let f = all-each-at (blockFilled g ws) (word ws) (listStart g i) (countAt ws i) (rw (listed-words g ws i l) at e) j h in
           rw (level-chunk j) (sym (block-recs p (filled-facts p f .1)))
 
       level-tidy : filledAt g ws i ≡ true → tidyFrom ws (levelOf g ws i) 0 (countAt ws i) (g .b) ≡ (pairsAt g ws i && (unmarkedAt g ws i && (unusedAt g ws i && cleanAt g ws i)))
@@ -246,7 +237,7 @@ module _ (g : Geometry) (ws : List ℕ) where
 
       level-lean : leanLevel (levelOf g ws i) (length (records (levelAt g ws i))) ≡ leanAt g ws i
       unfolding levelOf
-      level-lean = rw level-length
+      level-lean = rw (level-length g ws i (l .inside) (l .fits))
 
       -- the pass starts as the directory has it
       level-pass : levelFormed ws (levelOf g ws i) ≡ (tidyFrom ws (levelOf g ws i) 0 (countAt ws i) (g .b) && (rising 0 (recordsOf ws (levelOf g ws i)) && leanLevel (levelOf g ws i) (length (recordsOf ws (levelOf g ws i)))))

@@ -3,7 +3,6 @@ use Prim.Native.Nat.{ℕ, zero, suc, _+_, _-_, _≤_, _<_}
 use mathlib.Core.Path.{_≡_, sym, ap, _∙_, refl}
 use mathlib.Core.Bool.{Bool, true, not, _&&_, and-true, and-eq-true-iff}
 use mathlib.Core.List.{List, [], _∷_, _++_, map}
-use mathlib.Core.Option.{Option, none, some}
 use native.Mathlib.Omega.{arith}
 use borrow.Author.Tests.{eq-eqb, ne-eqb}
 use lib.Dec.{eqb}
@@ -14,15 +13,18 @@ use Rattle.levels.specs.Basics.{all, orElse}
 use Rattle.levels.specs.Record.{Rec, records, rising, hasTombstone, cleanTombstones}
 use Rattle.levels.specs.Map.{find, overlay, view, unmarked, mapOf, liveCount, decides}
 use Rattle.levels.specs.Store.{rows}
+use Rattle.levels.proofs.Basics.{or-none}
+use Rattle.levels.proofs.Overlay.{overlay-nil}
+use Rattle.words.proofs.Each.{each-add, map-each, all-each}
+use Rattle.words.proofs.Form.{clauses-formed, formed-clauses}
 use Rattle.words.specs.Layout.{liveAt, topRecs, recordCount, levelAt, each, storeAt}
-use Rattle.words.specs.Form.{liveExact, blocksFilled, keysRise, bottomUnmarked, topUnusedZero, blocksUnusedZero, tombstonesClean, pairsKept, levelsKept, clauses, formed}
+use Rattle.words.specs.Form.{liveExact, blocksFilled, keysRise, bottomUnmarked, blocksUnusedZero, tombstonesClean, pairsKept, levelsKept, formed}
 use Rattle.entry.specs.Entry.{Sized}
 use Rattle.directory.specs.Directory.{Formed, recordsOf, levelFormed}
 use Rattle.directory.proofs.Laws.{formed-all}
 use Rattle.walk.specs.Walk.{four, layered}
-use Rattle.walk.proofs.Between.{overlay-nil}
 use Rattle.form.specs.Form.{topOf, levelOf, headerOk, listsOk, spareOk, passed, Headed}
-use Rattle.form.proofs.Tests.{test-same, range, range-split, all-append, all-and, all-same, all-at, all-true, all-three}
+use Rattle.form.proofs.Tests.{test-same, range, all-append, all-and, all-same, all-at, all-true, all-three}
 use Rattle.form.proofs.Parts.{listed-each}
 use Rattle.form.proofs.Sizes.{header-tests, count-none, lists-in, lists-is, within-top, within-level}
 use Rattle.form.proofs.Top.{top-recs, top-unused, top-formed}
@@ -43,8 +45,7 @@ unfolding blocksUnusedZero
 unused-each g ws = listed-each (blockUnused g ws) g ws 1 (g .h)
 
 rows-each : (t : List Rec → Bool) (g : Geometry) (ws : List ℕ) (i n : ℕ) → all t (map records (each (levelAt g ws) i n)) ≡ all (λ (j : ℕ). t (records (levelAt g ws j))) (range i n)
-rows-each t g ws i zero = refl
-rows-each t g ws i (suc n) = rw (rows-each t g ws (suc i) n)
+rows-each t g ws i n = rw (map-each records (levelAt g ws) i n) (sym (all-each t (λ (j : ℕ). records (levelAt g ws j)) n i))
 
 pub rises-each : (g : Geometry) (ws : List ℕ) → keysRise g ws ≡ (rising 0 (topRecs g ws) && all (risingAt g ws) (range 1 (g .h)))
 unfolding keysRise storeAt
@@ -63,7 +64,7 @@ unmarked-each g ws h =
     let l : 1 + n ≡ g .h = omega arith in
     let above : all (unmarkedAt g ws) (range 1 n) ≡ true = all-true (unmarkedAt g ws) 1 n (λ j a b. rw (ne-eqb j (g .h) (λ q. omega arith))) in
     sym (ap (λ (m : ℕ). all (unmarkedAt g ws) (range 1 m)) (sym e)
-    ∙ rw (range-split 1 n 1, all-append (unmarkedAt g ws) (range 1 n) (range (1 + n) 1), above, l, eq-eqb (g .h) (g .h) refl, and-true (not (hasTombstone (records (levelAt g ws (g .h)))))))
+    ∙ rw (each-add (λ (j : ℕ). j) 1 n 1, all-append (unmarkedAt g ws) (range 1 n) (range (1 + n) 1), above, l, eq-eqb (g .h) (g .h) refl, and-true (not (hasTombstone (records (levelAt g ws (g .h)))))))
 
 -- empty levels below the others change nothing
 view-empties : (ls : List (List Rec)) (n : ℕ) → view (ls ++ replicate n []) ≡ view ls
@@ -84,11 +85,7 @@ decides-empties k (l ∷ ls) n = rw (decides-empties k ls n)
 
 decides-four : (k : ℕ) (a b c d : List Rec) → decides k (a ∷ b ∷ c ∷ d ∷ []) ≡ orElse (find k a) (orElse (find k b) (orElse (find k c) (find k d)))
 unfolding decides
-decides-four k a b c d = rw (last (find k d))
-  where
-    last : (o : Option Rec) → orElse o none ≡ o
-    last none = refl
-    last (some r) = refl
+decides-four k a b c d = rw (or-none (find k d))
 
 module _ (g : Geometry) (ws : List ℕ) (z : Headed g ws) where
   -- the passes over levels 1, 2 and 3 are the clauses for levels 1 to h
@@ -175,41 +172,46 @@ found-passed g ws f =
     rw (z .header, f .lists, f .spare, f .top, l .0, l .1 .0, l .1 .1) (live-is g ws z (filled .0) ∙ f .live)
 
 found-formed : (g : Geometry) (ws : List ℕ) → Found g ws → formed g ws ≡ true
-unfolding formed clauses
 found-formed g ws f =
     let z = f .headed in
     let h = header-tests g ws z in
     let l = simp and-eq-true-iff at (sym (lists-is g ws z) ∙ f .lists) in
     let t = simp and-eq-true-iff at (sym (top-formed g ws z) ∙ f .top) in
     let k = simp and-eq-true-iff at (sym (kept-each g ws z) ∙ f .levels) in
-    let rises : keysRise g ws ≡ true = rises-each g ws ∙ rw (t .1, k .1 .1 .0) in
-    let clean : tombstonesClean g ws ≡ true = clean-each g ws ∙ rw (t .0 .1, k .1 .0 .1 .1 .1) in
-    let unused : topUnusedZero g ws ≡ true = top-unused g ws z ∙ rw (t .0 .0, f .spare) in
-    rw (f .live, h .0, h .1 .0, h .1 .1 .0, h .1 .1 .1, l .0 .0, l .0 .1, k .0, rises, k .1 .0 .1 .0, unused, l .1, k .1 .0 .1 .1 .0, clean, k .1 .0 .0, k .1 .1 .1)
+    clauses-formed g ws (record {
+      live-exact = f .live;
+      live-fits = h .0;
+      cursor-inside = h .1 .0;
+      top-fits = h .1 .1 .0;
+      counts-fit = h .1 .1 .1;
+      places-inside = l .0 .0;
+      places-once = l .0 .1;
+      blocks-filled = k .0;
+      keys-rise = rises-each g ws ∙ rw (t .1, k .1 .1 .0);
+      bottom-unmarked = k .1 .0 .1 .0;
+      top-unused = top-unused g ws z ∙ rw (t .0 .0, f .spare);
+      lists-unused = l .1;
+      blocks-unused = k .1 .0 .1 .1 .0;
+      tombstones-clean = clean-each g ws ∙ rw (t .0 .1, k .1 .0 .1 .1 .1);
+      pairs-kept = k .1 .0 .0;
+      levels-kept = k .1 .1 .1;
+    })
 
 formed-found : (g : Geometry) (ws : List ℕ) → Sized g ws → formed g ws ≡ true → Found g ws
-unfolding formed clauses headerOk
+unfolding headerOk
 formed-found g ws s e =
-    let c = simp and-eq-true-iff at e in
-    let z : Headed g ws = record { sized = s; header = rw (c .1 .0, c .1 .1 .0, c .1 .1 .1 .0, c .1 .1 .1 .1 .0) } in
-    let d = c .1 .1 .1 .1 .1 in
-    let inside = d .0 in
-    let once = d .1 .0 in
-    let filled = d .1 .1 .0 in
-    let rises = simp and-eq-true-iff at (sym (rises-each g ws) ∙ d .1 .1 .1 .0) in
-    let unmarked = d .1 .1 .1 .1 .0 in
-    let f = d .1 .1 .1 .1 .1 in
-    let unused = simp and-eq-true-iff at (sym (top-unused g ws z) ∙ f .0) in
-    let clean = simp and-eq-true-iff at (sym (clean-each g ws) ∙ f .1 .1 .1 .0) in
-    let pairs = f .1 .1 .1 .1 .0 in
-    let lean = f .1 .1 .1 .1 .1 .0 in
+    let c = formed-clauses g ws e in
+    let z : Headed g ws = record { sized = s; header = rw (c .live-fits, c .cursor-inside, c .top-fits, c .counts-fit) } in
+    let rises = simp and-eq-true-iff at (sym (rises-each g ws) ∙ c .keys-rise) in
+    let unused = simp and-eq-true-iff at (sym (top-unused g ws z) ∙ c .top-unused) in
+    let clean = simp and-eq-true-iff at (sym (clean-each g ws) ∙ c .tombstones-clean) in
     record {
       headed = z;
-      lists = lists-is g ws z ∙ rw (inside, once, f .1 .0);
+      lists = lists-is g ws z ∙ rw (c .places-inside, c .places-once, c .lists-unused);
       spare = unused .1;
       top = top-formed g ws z ∙ rw (unused .0, clean .0, rises .0);
-      levels = kept-each g ws z ∙ rw (filled, pairs, unmarked, f .1 .1 .0, clean .1, rises .1, lean);
-      live = c .0;
+      levels = kept-each g ws z ∙ rw (c .blocks-filled, c .pairs-kept, c .bottom-unmarked, c .blocks-unused, clean .1, rises .1, c .levels-kept);
+      live = c .live-exact;
     }
 
 -- the code's check is document 01's form check

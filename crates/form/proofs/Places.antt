@@ -1,7 +1,7 @@
 -- The place lists: the code's marks say that listed places are below P, and none twice over all levels.
 use Prim.Native.Nat.{ℕ, zero, suc, _+_, _-_, _≤_, _<_}
 use mathlib.Core.Path.{_≡_, sym, _∙_, refl}
-use mathlib.Core.Bool.{Bool, true, false, not, _&&_, _||_}
+use mathlib.Core.Bool.{Bool, true, false, not, _&&_, _||_, and-false}
 use mathlib.Core.List.{List, [], _∷_, _++_}
 use native.Mathlib.Decide.{ℕ-discrete}
 use native.Mathlib.Omega.{arith}
@@ -13,6 +13,7 @@ use Rattle.geometry.specs.declared.Geometry.{Geometry}
 use Rattle.geometry.specs.Geometry.{capacityOf, listStart}
 use Rattle.levels.specs.Basics.{all, member}
 use Rattle.levels.specs.Place.{distinct}
+use Rattle.levels.proofs.Lists.{getD-replicate-self}
 use Rattle.words.specs.Layout.{word, countAt, listAt}
 use Rattle.words.specs.Form.{isZero, listedPlaces, allListed, placesInside, placesOnce, listsUnusedZero}
 use Rattle.chunks.specs.Chunks.{zerosAt}
@@ -36,12 +37,12 @@ unused used [] = true
 unused used (q ∷ qs) = not (getD used q false) && unused used qs
 
 fresh-list : (ws : List ℕ) (p i n : ℕ) (used : List Bool) → freshOf ws p i n used ≡ freshIn p used (wordsFrom ws i n)
-unfolding freshOf freshIn wordsFrom
+unfolding freshOf freshIn
 fresh-list ws p i zero used = refl
 fresh-list ws p i (suc n) used = rw (fresh-list ws p (suc i) n (set used (word ws i) true))
 
 mark-list : (ws : List ℕ) (i n : ℕ) (used : List Bool) → markOf ws i n used ≡ markIn used (wordsFrom ws i n)
-unfolding markOf markIn wordsFrom
+unfolding markOf markIn
 mark-list ws i zero used = refl
 mark-list ws i (suc n) used = mark-list ws (suc i) n (set used (word ws i) true)
 
@@ -64,12 +65,8 @@ mark-one used q (r ∷ rs) h = go (ℕ-discrete r q) (mark-one used q rs h)
     one true b c = refl
     one false b c = refl
 
-    last : (a : Bool) → false ≡ (a && false)
-    last true = refl
-    last false = refl
-
     go : Dec (r ≡ q) → unused (set used q true) rs ≡ (unused used rs && not (member q rs)) → (not (getD (set used q true) r false) && unused (set used q true) rs) ≡ ((not (getD used r false) && unused used rs) && not (eqb q r || member q rs))
-    go (yes e) ih = rw (eq-eqb q r (sym e), e, getD-set-same used q true false h) (last (not (getD used q false) && unused used rs))
+    go (yes e) ih = rw (eq-eqb q r (sym e), e, getD-set-same used q true false h) (sym (and-false (not (getD used q false) && unused used rs)))
     go (no n) ih = rw (ne-eqb q r (λ e. n (sym e)), getD-set-other used q r true false n, ih) (one (not (getD used r false)) (unused used rs) (member q rs))
 
 -- the code's marks are long enough for every place
@@ -93,12 +90,7 @@ fresh-is p used (q ∷ qs) h = go (ltb q p) refl (fresh-is p (set used q true) q
 fresh-none : (n : ℕ) (qs : List ℕ) → unused (replicate n false) qs ≡ true
 unfolding unused
 fresh-none n [] = refl
-fresh-none n (q ∷ qs) = rw (none n q, fresh-none n qs)
-  where
-    none : (n q : ℕ) → getD (replicate n false) q false ≡ false
-    none zero q = refl
-    none (suc n) zero = refl
-    none (suc n) (suc q) = none n q
+fresh-none n (q ∷ qs) = rw (getD-replicate-self n q false, fresh-none n qs)
 
 -- the unused entries of the list of level i are 0
 abbrev pub unlistedZero : Geometry → List ℕ → ℕ → Bool

@@ -10,7 +10,8 @@ use Rattle.levels.specs.Basics.{if_then_else_, orElse}
 use Rattle.levels.specs.Map.{find, view, decides}
 use Rattle.levels.specs.Store.{rows}
 use Rattle.words.specs.Layout.{geometryAt, storeAt}
-use Rattle.words.specs.Form.{clauses, formed, blocksFilled, keysRise, liveExact, reasonOf}
+use Rattle.words.specs.Form.{formed, blocksFilled, liveExact, reasonOf}
+use Rattle.words.proofs.Form.{formed-clauses}
 use Rattle.entry.specs.declared.Opened.{Opened}
 use Rattle.entry.specs.declared.Opened.the-variants.{Ready, Refused}
 use Rattle.entry.specs.Entry.{Sized, pickOpened, openedOf}
@@ -96,13 +97,7 @@ module _ (ws : List ℕ) (g : Geometry) (e : checkedOf ws ≡ Ready g) where
 
   -- "live is the number of keys of the map"
   pub ready-live : liveExact g ws ≡ true
-  unfolding formed clauses
-  ready-live = let k = simp and-eq-true-iff at (ready-formed ws g e .1) in k .0
-
-  -- "keys rise strictly in each level"
-  pub ready-rises : keysRise g ws ≡ true
-  unfolding formed clauses
-  ready-rises = let k = simp and-eq-true-iff at (ready-formed ws g e .1) in k .1 .1 .1 .1 .1 .1 .1 .1 .0
+  ready-live = formed-clauses g ws (ready-formed ws g e .1) .live-exact
 
   -- what the four levels show together is what the rows of the store show
   pub ready-view : layered ws (topOf g ws) (levelOf g ws 1) (levelOf g ws 2) (levelOf g ws 3) ≡ view (rows (storeAt g ws))

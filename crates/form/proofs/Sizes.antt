@@ -7,22 +7,23 @@ use mathlib.Core.List.{List}
 use native.Mathlib.Decide.{decLt}
 use native.Mathlib.Nat.{add-mul, div-lt-iff-lt-mul, div-mul-le-self, lt-div-mul-add}
 use native.Mathlib.Omega.{arith}
-use borrow.Author.Tests.{leb-true, ltb-true, le-leb, lt-leb}
-use lib.Dec.{leb, ltb}
+use borrow.Author.Tests.{leb-true, ltb-true}
+use lib.Dec.{ltb}
 use lib.ListN.{length}
 use Rattle.geometry.specs.declared.Geometry.{Geometry}
 use Rattle.geometry.specs.Geometry.{capacityOf, topCapacityOf, listStart, blockWidth, placesStart, placeStart, storeLength}
 use Rattle.geometry.proofs.Laws.{level-high, marks-end, keys-end, pays-end, list-inside, place-inside}
 use Rattle.geometry.proofs.Bounds.{capacity-zero-high}
-use Rattle.levels.specs.Basics.{if_then_else_, all, ceilDiv}
+use Rattle.levels.specs.Basics.{all, ceilDiv}
 use Rattle.words.specs.Layout.{word, topCountAt, countAt, listedAt}
 use Rattle.words.specs.Form.{liveFits, cursorInside, topFits, countsFit, placesInside, placesOnce, listsUnusedZero}
-use Rattle.words.proofs.Form.{room-level, room-above, count-fits}
+use Rattle.words.proofs.Each.{all-each-at}
+use Rattle.words.proofs.Form.{count-low, count-empty}
 use Rattle.entry.specs.Entry.{Sized}
 use Rattle.directory.specs.Directory.{Within}
 use Rattle.form.specs.Form.{topOf, levelOf, headerOk, listsOk, Headed}
 use Rattle.form.proofs.Tests.{all-at}
-use Rattle.form.proofs.Parts.{Listed, listed-words, words-at, listed-each}
+use Rattle.form.proofs.Parts.{Listed, listed-words, listed-each}
 use Rattle.form.proofs.Places.{lists-rules}
 
 -- c records in pages of b: n pages, of k
@@ -57,14 +58,14 @@ module _ (g : Geometry) (ws : List ℕ) (z : Headed g ws) where
   top-fits = leb-true _ _ (header-tests .1 .1 .0)
 
   -- "each block count is at most K(i) (zero above h)"
-  pub count-low : (i : ℕ) → 1 ≤ i → i ≤ g .h → countAt ws i ≤ capacityOf g i
-  count-low i a b = rw (room-level g i b) at (count-fits g ws (header-tests .1 .1 .1) i a (omega (arith, z .sized .valid .ranged .h-high)))
+  pub count-fits : (i : ℕ) → 1 ≤ i → i ≤ g .h → countAt ws i ≤ capacityOf g i
+  count-fits i a b = count-low g ws (header-tests .1 .1 .1) i a (let r = z .sized .valid .ranged .h-high in omega arith) b
 
   pub count-none : (i : ℕ) → 1 ≤ i → i ≤ 3 → g .h < i → countAt ws i ≡ 0
-  count-none i a b c = let k = rw (room-above g i c) at (count-fits g ws (header-tests .1 .1 .1) i a b) in omega arith
+  count-none i a b c = count-empty g ws (header-tests .1 .1 .1) i a b c
 
   pub lists-in : (i : ℕ) → 1 ≤ i → i ≤ g .h → Listed g ws i
-  lists-in i a b = record { inside = let p = places-in g ws (z .sized) in let q = list-inside g a b in omega arith; fits = count-low i a b }
+  lists-in i a b = record { inside = let p = places-in g ws (z .sized) in let q = list-inside g a b in omega arith; fits = count-fits i a b }
 
   -- the pages of level 0
   pub top-paged : Paged (topCountAt ws) (g .b) (capacityOf g 0) (topOf g ws .chunks)
@@ -108,7 +109,7 @@ module _ (g : Geometry) (ws : List ℕ) (z : Headed g ws) where
       let k = simp and-eq-true-iff at (sym lists-is ∙ e) in
       let t : ℕ → Bool = λ (p : ℕ). ltb p (g .p) in
       let l = all-at (λ (m : ℕ). all t (listedAt g ws m)) 1 (g .h) (sym (listed-each t g ws 1 (g .h)) ∙ k .0 .0) i a (omega arith) in
-      ltb-true _ _ (words-at t ws (listStart g i) (countAt ws i) (sym (ap (all t) (listed-words g ws i (lists-in i a b))) ∙ l) j h)
+      ltb-true _ _ (all-each-at t (word ws) (listStart g i) (countAt ws i) (sym (ap (all t) (listed-words g ws i (lists-in i a b))) ∙ l) j h)
 
   block-in : (p : ℕ) → p < g .p → placesStart g + p * (2 + 2 * g .b) + (2 + 2 * g .b) ≤ length ws
   unfolding placeStart blockWidth

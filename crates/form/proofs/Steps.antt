@@ -1,7 +1,7 @@
 -- The steps of the code of the form check: one entry of a list, one list, the words behind the pages.
 use Prim.Native.Nat.{ℕ, suc, _+_, _-_, _*_, _≤_, _<_}
-use mathlib.Core.Path.{_≡_, refl}
-use mathlib.Core.Bool.{Bool, true, false, _&&_}
+use mathlib.Core.Path.{_≡_}
+use mathlib.Core.Bool.{Bool, true, false, _&&_, and-true}
 use mathlib.Core.List.{List}
 use native.Mathlib.Omega.{arith}
 use native.Mathlib.Nat.{mul-le-mul}
@@ -25,12 +25,8 @@ pub header-is : (g : Geometry) (ws : List ℕ) → (leb (word ws 6) (keyLimitOf 
 unfolding headerOk liveFits cursorInside topFits countsFit
 header-is g ws = go (leb (word ws 6) (keyLimitOf g)) (ltb (word ws 7) (g .p)) (leb (word ws 8) (topCapacityOf g)) (leb (word ws 9) (roomOf g 1)) (leb (word ws 10) (roomOf g 2)) (leb (word ws 11) (roomOf g 3))
   where
-    last : (t : Bool) → t ≡ (t && true)
-    last true = refl
-    last false = refl
-
     go : (a b c d e f : Bool) → (a && (b && (c && (d && (e && f))))) ≡ (a && (b && (c && (d && (e && (f && true))))))
-    go a b c d e f = rw (← last f)
+    go a b c d e f = rw (and-true f)
 
 -- One entry of a list.
 module _ (ws : List ℕ) (p start n i : ℕ) (used : List Bool) (h : i < n) (q : ℕ) (e : q ≡ word ws (start + i)) where

@@ -1,27 +1,18 @@
 -- Laws of tests: of two that hold together, of `all`, and of a test of every number of a range.
-use Prim.Native.Nat.{ℕ, zero, suc, _+_, _≤_, _<_}
-use mathlib.Core.Path.{_≡_, sym, refl}
-use mathlib.Core.Bool.{Bool, true, false, _&&_, and-assoc, and-true, and-eq-true-iff}
+use Prim.Native.Nat.{ℕ, zero, suc, _+_, _-_, _≤_, _<_}
+use mathlib.Core.Path.{_≡_, sym, ap, _∙_, refl}
+use mathlib.Core.Bool.{Bool, true, false, _&&_, and-assoc, and-true}
 use mathlib.Core.List.{List, [], _∷_, _++_}
-use mathlib.Core.Logic.{dite}
-use native.Mathlib.Decide.{decLt}
 use native.Mathlib.Omega.{arith}
 use Rattle.levels.specs.Basics.{all}
 use Rattle.words.specs.Layout.{each}
+use Rattle.words.proofs.Each.{all-each-at}
 
 -- two tests that imply each other are one test
 pub test-same : (a b : Bool) → (a ≡ true → b ≡ true) → (b ≡ true → a ≡ true) → a ≡ b
 test-same true b f k = sym (f refl)
 test-same false true f k = k refl
 test-same false false f k = refl
-
-pub and-left : (a b : Bool) → (a && b) ≡ true → a ≡ true
-and-left true b e = refl
-and-left false b e = e
-
-pub and-right : (a b : Bool) → (a && b) ≡ true → b ≡ true
-and-right true b e = e
-and-right false b e = cc
 
 -- two tests and two tests, taken the other way round
 pub and-swap : (a b c d : Bool) → (a && b && (c && d)) ≡ (a && c && (b && d))
@@ -46,14 +37,6 @@ all-and t u (x ∷ xs) = rw (all-and t u xs) (and-swap (t x) (u x) (all t xs) (a
 abbrev pub range : ℕ → ℕ → List ℕ
 range i n = each (λ (j : ℕ). j) i n
 
--- a range in two parts
-pub range-split : (i m n : ℕ) → range i (m + n) ≡ range i m ++ range (i + m) n
-range-split i zero n = let a : 0 + n ≡ n = omega arith in let b : i + 0 ≡ i = omega arith in rw (a, b)
-range-split i (suc m) n =
-    let a : suc m + n ≡ suc (m + n) = omega arith in
-    let b : i + suc m ≡ suc i + m = omega arith in
-    rw (a, b, range-split (suc i) m n)
-
 -- tests that agree on the numbers of a range
 pub all-same : (t u : ℕ → Bool) (i n : ℕ) → ((j : ℕ) → i ≤ j → j < i + n → t j ≡ u j) → all t (range i n) ≡ all u (range i n)
 all-same t u i zero f = refl
@@ -61,12 +44,7 @@ all-same t u i (suc n) f = rw (f i (omega arith) (omega arith), all-same t u (su
 
 -- a test of every number of a range, of one of them
 pub all-at : (t : ℕ → Bool) (i n : ℕ) → all t (range i n) ≡ true → (j : ℕ) → i ≤ j → j < i + n → t j ≡ true
-all-at t i zero e j a b = absurd (omega arith)
-all-at t i (suc n) e j a b =
-    let k = simp and-eq-true-iff at e in
-    dite (decLt i j)
-    (λ y. all-at t (suc i) n (k .1) j y (omega arith))
-    (λ m. let q : j ≡ i = omega arith in rw q (k .0))
+all-at t i n e j a b = let q : i + (j - i) ≡ j = omega arith in ap t (sym q) ∙ all-each-at t (λ (k : ℕ). k) i n e (j - i) (omega arith)
 
 pub all-true : (t : ℕ → Bool) (i n : ℕ) → ((j : ℕ) → i ≤ j → j < i + n → t j ≡ true) → all t (range i n) ≡ true
 all-true t i zero f = refl

@@ -17,13 +17,14 @@ use Rattle.levels.specs.Record.{Rec, rising, cleanTombstones}
 use Rattle.words.specs.Layout.{word, slotsAt, pageSlots, topSlots, topRecs, topCountAt}
 use Rattle.words.specs.Form.{blank, topUnusedZero}
 use Rattle.chunks.specs.Chunks.{zerosAt, chunkRecs}
-use Rattle.chunks.proofs.Slots.{slots-length}
+use Rattle.words.proofs.Each.{each-add}
+use Rattle.words.proofs.Slots.{slots-length, slots-take}
 use Rattle.directory.specs.Directory.{chunkAt, recordsFrom, recordsOf, keptOf, leanLevel, tidyChunk, tidyFrom, levelFormed}
 use Rattle.directory.proofs.Laws.{formed-is}
 use Rattle.form.specs.Form.{topOf, spareOk, Headed}
-use Rattle.form.proofs.Tests.{test-same, and-swap, all-append, range, range-split}
+use Rattle.form.proofs.Tests.{test-same, and-swap, all-append, range}
 use Rattle.form.proofs.Parts.{zeros-split}
-use Rattle.form.proofs.Unused.{slots-take, unused-is}
+use Rattle.form.proofs.Unused.{unused-is}
 use Rattle.form.proofs.Sizes.{top-paged}
 
 -- the smaller of two numbers
@@ -217,7 +218,7 @@ module _ (g : Geometry) (ws : List ℕ) (z : Headed g ws) where
       let o : 0 + n ≡ n = omega arith in
       rw e at (pages-unused g ws 0 (capacityOf g 0))
       ∙ ap (λ (m : ℕ). all (pageUnused g ws) (range 0 m)) k
-      ∙ rw (range-split 0 n (capacityOf g 0 - n), all-append (pageUnused g ws) (range 0 n) (range (0 + n) (capacityOf g 0 - n)), o, spare-pages g ws n (capacityOf g 0 - n) b (p .enough))
+      ∙ rw (each-add (λ (j : ℕ). j) 0 n (capacityOf g 0 - n), all-append (pageUnused g ws) (range 0 n) (range (0 + n) (capacityOf g 0 - n)), o, spare-pages g ws n (capacityOf g 0 - n) b (p .enough))
 
   -- the code's pass over level 0
   pub top-formed : levelFormed ws (topOf g ws) ≡ ((all (pageUnused g ws) (range 0 (topOf g ws .chunks)) && cleanTombstones (topRecs g ws)) && rising 0 (topRecs g ws))

@@ -2,33 +2,21 @@
 use Prim.Native.Nat.{ℕ, zero, suc, _+_, _-_, _*_, _/_, _%_, _^_, _≤_}
 use mathlib.Core.Path.{_≡_, sym, ap, _∙_, refl}
 use mathlib.Core.Bool.{Bool, true, false, not, _&&_, _||_}
-use mathlib.Core.List.{List, _++_}
+use mathlib.Core.List.{List}
 use native.Mathlib.Decide.{ℕ-discrete}
 use native.Mathlib.Nat.{div-lt-iff-lt-mul}
 use native.Mathlib.Omega.{arith}
 use borrow.Author.Tests.{eq-eqb, ne-eqb, ltb-true, lt-ltb, le-ltb}
 use lib.Dec.{ltb, eqb}
-use lib.ListN.{take, drop}
+use lib.ListN.{drop}
 use lib.Pow.{pow-add, pow-pos}
-use lib.Seq.{take-at, drop-at}
 use Rattle.levels.specs.Basics.{all}
 use Rattle.levels.specs.Record.{hasTombstone}
 use Rattle.words.specs.Layout.{word, slotsAt}
 use Rattle.words.specs.Form.{blank}
 use Rattle.chunks.specs.Chunks.{zerosAt}
-use Rattle.chunks.proofs.Slots.{slots-length, slots-split, shift-suc}
+use Rattle.words.proofs.Slots.{slots-drop, shift-suc}
 use Rattle.form.proofs.Tests.{test-same}
-
--- the first n of the slots in a row, and the others
-module _ (ws : List ℕ) (m k v n b : ℕ) (h : n ≤ b) where
-  slots-parts : slotsAt ws m k v b ≡ slotsAt ws m k v n ++ slotsAt ws (m / 2 ^ n) (k + n) (v + n) (b - n)
-  slots-parts = let e : b ≡ n + (b - n) = omega arith in ap (slotsAt ws m k v) e ∙ slots-split ws m k v n (b - n)
-
-  pub slots-take : take n (slotsAt ws m k v b) ≡ slotsAt ws m k v n
-  slots-take = rw slots-parts (take-at (slotsAt ws m k v n) _ n (slots-length ws m k v n))
-
-  pub slots-drop : drop n (slotsAt ws m k v b) ≡ slotsAt ws (m / 2 ^ n) (k + n) (v + n) (b - n)
-  slots-drop = rw slots-parts (drop-at (slotsAt ws m k v n) _ n (slots-length ws m k v n))
 
 -- a word below 2^(n + j) is one whose bits from n on are below 2^j
 shift-below : (m n j : ℕ) → ltb m (2 ^ (n + j)) ≡ ltb (m / 2 ^ n) (2 ^ j)

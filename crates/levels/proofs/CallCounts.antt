@@ -29,31 +29,6 @@ use Rattle.levels.proofs.InCall.{below-stop, below-go, below-none}
 use Rattle.levels.proofs.MergeBounds.{merge-written}
 use Rattle.levels.proofs.CallMerges.{for-none, for-full, from-is, call-merges}
 
--- two counts that agree on each merge, or each compaction
-into-same : (j : ℕ) (f h : Merge → ℕ) (ms : List Merge) → Every (λ m. f m ≡ h m) ms → totalInto j f ms ≡ totalInto j h ms
-into-same j f h [] e = refl
-into-same j f h (m ∷ ms) e = pick (eqb (suc (m .level)) j) (into-same j f h ms (e .1))
-  where
-    pick : (t : Bool) → totalInto j f ms ≡ totalInto j h ms → (if t then f m else 0) + totalInto j f ms ≡ (if t then h m else 0) + totalInto j h ms
-    pick true q = omega (arith, e .0)
-    pick false q = omega arith
-
--- the blocks that compactions of level j write, by their lists
-abbrev pub lengthsCompacted : ℕ → List Compaction → ℕ
-lengthsCompacted j cs = total (λ (c : Compaction). if eqb (c .level) j then length (c .written) else 0) cs
-
-compacted-same : (g : Geometry) (e : Store) (j : ℕ) (cs : List Compaction) → Every (CompactionFacts g e) cs → totalCompacted j cs ≡ lengthsCompacted j cs
-compacted-same g e j [] f = refl
-compacted-same g e j (c ∷ cs) f = pick (eqb (c .level) j) (compacted-same g e j cs (f .1))
-  where
-    pick : (t : Bool) → totalCompacted j cs ≡ lengthsCompacted j cs → (if t then blocksCompacted c else 0) + totalCompacted j cs ≡ (if t then length (c .written) else 0) + lengthsCompacted j cs
-    pick true q = omega (arith, compaction-newly g e c (f .0))
-    pick false q = omega arith
-
-total-same : (f h : Merge → ℕ) (ms : List Merge) → Every (λ m. f m ≡ h m) ms → total f ms ≡ total h ms
-total-same f h [] e = refl
-total-same f h (m ∷ ms) e = omega (arith, e .0, total-same f h ms (e .1))
-
 -- how much a sum over merges can be
 into-most : (j c : ℕ) (f : Merge → ℕ) (ms : List Merge) → Every (λ m. f m ≤ c) ms → totalInto j f ms ≤ c * length ms
 into-most j c f [] h = omega arith
@@ -128,13 +103,6 @@ module _ (g : Geometry) (s : Store) (v : Valid g) (f : Fits g s) (o : Sound g s)
       go : (t : Bool) → (isSome (find k (s .top)) || ltb (length (s .top)) (topCapacityOf g)) ≡ t → length (mergesFor g s k) ≤ 98305
       go true e = omega (arith, ap length (for-none g s k e))
       go false e = omega (arith, ap length (for-full g s k e ∙ from-is g s), below-length (enoughSteps g s) g (afterMerge (mergeLevel g 0 s)), steps-high)
-
-  -- "blocks written by them", by the lists of blocks written
-  pub counts-written : (k j : ℕ) → countsOf j (mergesFor g s k) .written ≡ totalInto j (λ m. length (m .written)) (mergesFor g s k)
-  unfolding countsOf
-  counts-written k j =
-      into-same j blocksMerged (λ m. length (m .written)) (mergesFor g s k)
-      (every-turn (MergeFacts g s) (λ m. blocksMerged m ≡ length (m .written)) (mergesFor g s k) (λ m d. merge-written g s m v d) (call-merges g s v f o k))
 
   -- every count fits a word
   pub counts-high : (k j : ℕ) → let c = countsOf j (mergesFor g s k) in (c .merges ≤ 98305) × (c .written ≤ 805216255) × (c .compacted ≤ 1610432510)

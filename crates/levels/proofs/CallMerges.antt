@@ -17,7 +17,7 @@ use Rattle.levels.specs.Store.{Store, rows, blocksOf}
 use Rattle.levels.specs.Call.{Merge, mergeRun, mergeLevel, afterMerge, afterMerges, deepestOver, mergesBelow, mergesFrom, enoughSteps}
 use Rattle.levels.specs.Put.{mergesFor}
 use Rattle.levels.specs.Count.{totalInto}
-use Rattle.levels.specs.InCall.{Due, CompactionFacts, MergeFacts}
+use Rattle.levels.specs.InCall.{Due, MergeFacts}
 use Rattle.levels.specs.Every.{Every}
 use Rattle.levels.specs.Sound.{Fits, Sound}
 use Rattle.levels.specs.Inside.{load, Inside, Entry, Ruled}
@@ -25,7 +25,6 @@ use Rattle.levels.proofs.Basics.{or-false}
 use Rattle.levels.proofs.Compaction.{pages-well, pages-full, pages-records}
 use Rattle.levels.proofs.Merged.{upper-fewer}
 use Rattle.levels.proofs.Chosen.{due-mergeable}
-use Rattle.levels.proofs.Every.{every-turn}
 use Rattle.levels.proofs.StoreRows.{load-enough}
 use Rattle.levels.proofs.MergeRun.{run-rows}
 use Rattle.levels.proofs.Inside.{inside-sorted, inside-bottom}
@@ -161,9 +160,6 @@ module _ (g : Geometry) (s : Store) (v : Valid g) (f : Fits g s) (o : Sound g s)
   -- all about each of them, and about each compaction of their step 5
   pub call-merges : (k : ℕ) → Every (MergeFacts g s) (mergesFor g s k)
   call-merges k = call-facts k .facts
-
-  pub call-compactions : (k : ℕ) → Every (λ m. Every (CompactionFacts g s) (m .compactions)) (mergesFor g s k)
-  call-compactions k = every-turn (MergeFacts g s) (λ m. Every (CompactionFacts g s) (m .compactions)) (mergesFor g s k) (λ m d. d .five .facts) (call-merges k)
 
   -- "at the call's end each fits its K(i) words again"
   pub call-within : (k i : ℕ) → 1 ≤ i → i ≤ g .h → length (blocksOf g i (afterMerges s (mergesFor g s k))) ≤ capacityOf g i

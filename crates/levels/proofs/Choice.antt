@@ -10,6 +10,7 @@ use borrow.Author.Tests.{leb-true, leb-false, le-leb}
 use Rattle.levels.specs.Basics.{if_then_else_}
 use Rattle.levels.specs.Record.{Level}
 use Rattle.levels.specs.Choose.{Least, least, leastOf, runs, overlap, choose}
+use Rattle.levels.proofs.Lists.{getD-map-in}
 
 -- r is the least of the numbers qs, and the first index where it stands
 pub record IsLeast (qs : List ℕ) (r : Least) : Type 0 where
@@ -42,7 +43,7 @@ least-is q (p ∷ ps) = go (leb q (least p ps .value)) refl (least-is p ps)
         fst zero h = leb-false q (least p ps .value) e
         fst (suc i) h = ih .first i (omega arith)
 
-least-of-is : (qs : List ℕ) → 0 < length qs → IsLeast qs (leastOf qs)
+pub least-of-is : (qs : List ℕ) → 0 < length qs → IsLeast qs (leastOf qs)
 least-of-is [] h = absurd (omega arith)
 least-of-is (q ∷ qs) h = least-is q qs
 
@@ -60,12 +61,6 @@ run-count w (b ∷ bs) p = go (leb w (suc (length bs))) refl (run-count w bs p)
         → length (if t then take w (b ∷ bs) ∷ runs w bs else []) ≡ suc (length (b ∷ bs)) - w
     go true e ih = omega (arith, leb-true w (suc (length bs)) e)
     go false e ih = omega (arith, leb-false w (suc (length bs)) e)
-
--- an element of a mapped list, whatever the two lists have beyond their ends
-getD-map-in : {A B : Type 0} (f : A → B) (l : List A) (i : ℕ) (d : A) (e : B) → i < length l → getD (map f l) i e ≡ f (getD l i d)
-getD-map-in f [] i d e h = absurd (omega arith)
-getD-map-in f (x ∷ xs) zero d e h = refl
-getD-map-in f (x ∷ xs) (suc i) d e h = getD-map-in f xs i d e (omega arith)
 
 -- "X is the run of W(i) neighbours whose key range overlaps the fewest blocks below; of equals, the one with the lowest keys."
 -- r tells the index of X's first block and X's overlap.

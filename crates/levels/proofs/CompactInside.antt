@@ -7,10 +7,11 @@ use mathlib.Core.Logic.{_≢_, _⊎_, inl}
 use native.Mathlib.Omega.{arith}
 use native.Mathlib.Decide.{ℕ-discrete}
 use lib.ListN.{length, getD, set, length-set}
+use lib.Seq.{getD-set-same, set-getD}
 use Rattle.geometry.specs.declared.Geometry.{Geometry}
 use Rattle.geometry.specs.Geometry.{Valid, capacityOf}
 use Rattle.levels.specs.Basics.{all}
-use Rattle.levels.specs.Record.{Rec, Level, records, hasTombstone, cleanTombstones}
+use Rattle.levels.specs.Record.{Rec, Level, hasTombstone, cleanTombstones}
 use Rattle.levels.specs.Map.{lookUp}
 use Rattle.levels.specs.Waste.{needsCompact, compact}
 use Rattle.levels.specs.Place.{Settled, settle, placesOf}
@@ -23,7 +24,6 @@ use Rattle.levels.specs.Well.{Well}
 use Rattle.levels.specs.Taking.{fresh, Changed}
 use Rattle.levels.specs.Every.{allBlocks}
 use Rattle.levels.specs.Inside.{recordsAbove, Inside, Ruled}
-use Rattle.levels.proofs.Rows.{set-same}
 use Rattle.levels.proofs.Compaction.{compact-records, compact-well, compact-length, compact-fresh, compact-rule, compact-shorter}
 use Rattle.levels.proofs.Settling.{settle-records, settle-length, settle-placed, settle-well, settle-rule, settle-cursor, written-length, written-places}
 use Rattle.levels.proofs.Places.{changed-distinct, changed-inside, changed-newly}
@@ -32,7 +32,7 @@ use Rattle.levels.proofs.Room.{compact-room}
 use Rattle.levels.proofs.Every.{every-make, every-append}
 use Rattle.levels.proofs.Stays.{old-fresh, settled-old, every-set, written-sized}
 use Rattle.levels.proofs.Entry.{taken-fit}
-use Rattle.levels.proofs.StoreRows.{set-at, set-here, row-blocks, rows-with}
+use Rattle.levels.proofs.StoreRows.{set-at, row-blocks, rows-with}
 use Rattle.levels.proofs.Inside.{inside-doubled}
 
 -- "Blocks written compacting a level are the places in use at the end of the compaction that were not in use at its start."
@@ -47,7 +47,8 @@ module _ (g : Geometry) (e s : Store) (j : ℕ) (v : Valid g) (low : j < g .h) (
   compact-rows =
       let r : Settled = settle (g .p) (allocationOf s) (compact (g .b) (getD (s .levels) j [])) in
       rows-with (suc j) (r .level) s
-      ∙ set-same (rows s) (suc j) (records (r .level)) (settle-records (g .p) (allocationOf s) (compact (g .b) (getD (s .levels) j [])) ∙ compact-records (g .b) (getD (s .levels) j []) ∙ row-blocks g (suc j) s)
+      ∙ ap (set (rows s) (suc j)) (settle-records (g .p) (allocationOf s) (compact (g .b) (getD (s .levels) j [])) ∙ compact-records (g .b) (getD (s .levels) j []) ∙ row-blocks g (suc j) s)
+      ∙ set-getD (rows s) (suc j) []
 
   -- level j + 1 then keeps the level rule, and another level as before
   pub compact-ruled : (i : ℕ) → (i ≢ j → needsCompact (g .b) (getD (s .levels) i []) ≡ false) → needsCompact (g .b) (getD (compactLevel g (suc j) s .finish .levels) i []) ≡ false
@@ -59,7 +60,7 @@ module _ (g : Geometry) (e s : Store) (j : ℕ) (v : Valid g) (low : j < g .h) (
           let b = v .ranged .b-low in
           let l : Level = compact (g .b) (getD (s .levels) j []) in
           let k : needsCompact (g .b) (settle (g .p) (allocationOf s) l .level) ≡ false = settle-rule (g .p) (g .b) (allocationOf s) l ∙ compact-rule (g .b) (getD (s .levels) j []) (omega arith) in
-          subst (λ (m : Level). needsCompact (g .b) m ≡ false) (sym (ap (λ (m : ℕ). getD (set (s .levels) j (settle (g .p) (allocationOf s) l .level)) m []) q ∙ set-here [] (s .levels) j (settle (g .p) (allocationOf s) l .level) (omega (arith, n .many)))) k
+          subst (λ (m : Level). needsCompact (g .b) m ≡ false) (sym (ap (λ (m : ℕ). getD (set (s .levels) j (settle (g .p) (allocationOf s) l .level)) m []) q ∙ getD-set-same (s .levels) j (settle (g .p) (allocationOf s) l .level) [] (omega (arith, n .many)))) k
       go (no q) = set-at [] (λ l. needsCompact (g .b) l ≡ false) (s .levels) j _ i (λ z. absurd (q z)) (h q)
 
   module _ (needs : needsCompact (g .b) (getD (s .levels) j []) ≡ true) where
@@ -146,6 +147,7 @@ needed-stepped g e s j v low n = go (needsCompact (g .b) (getD (s .levels) j [])
         other i h (yes z) = ap (λ (m : ℕ). needsCompact (g .b) (getD (s .levels) m [])) z ∙ q
         other i h (no z) = h z
 
+-- one list of compactions after another
 pub after-append : (s : Store) (cs ds : List Compaction) → afterCompactions s (cs ++ ds) ≡ afterCompactions (afterCompactions s cs) ds
 after-append s [] ds = refl
 after-append s (c ∷ cs) ds = after-append (c .finish) cs ds

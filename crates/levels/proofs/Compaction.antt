@@ -2,21 +2,23 @@
 use Prim.Native.Nat.{ℕ, zero, suc, _+_, _-_, _*_, _<_, _≤_}
 use mathlib.Core.Path.{_≡_, refl, sym, _∙_, ap}
 use mathlib.Core.Bool.{Bool, true, false}
-use mathlib.Core.List.{List, [], _∷_, _++_, append-assoc, append-nil}
+use mathlib.Core.List.{List, [], _∷_, _++_, append-assoc}
 use native.Mathlib.Omega.{arith}
 use native.Mathlib.Decide.{decLt}
 use native.Mathlib.Nat.{le-div-iff-mul-le, div-mul-le-self, mul-le-mul-right}
 use lib.Dec.{leb, ltb}
-use lib.Seq.{drop-drop, take-all}
-use lib.ListN.{length, length-append, getD, take, drop, length-drop, drop-of-length-le}
-use borrow.Author.Tests.{leb-true, leb-false, ltb-true, le-ltb, le-leb, lt-leb}
+use lib.Seq.{drop-drop}
+use lib.ListN.{length, length-append, getD, take, drop, length-drop}
+use borrow.Author.Tests.{leb-true, leb-false, ltb-true, le-ltb}
 use Rattle.levels.specs.Basics.{ceilDiv}
 use Rattle.levels.specs.Record.{Rec, Block, Level, size, new, records, pack, pages}
 use Rattle.levels.specs.Waste.{wasteful, needsCompact, compact}
 use Rattle.levels.specs.Well.{Well}
 use Rattle.levels.specs.Taking.{fresh}
-use Rattle.levels.proofs.Basics.{length-snoc, and-left}
+use Rattle.levels.proofs.Basics.{and-left}
+use Rattle.levels.proofs.Lists.{length-snoc}
 use Rattle.levels.proofs.Levels.{well-nil, sized-most}
+use Rattle.levels.proofs.Pages.{pages-step}
 
 -- every block but the last holds B records, the last 1 to B
 abbrev pub Packed : ℕ → Level → Type 0
@@ -98,43 +100,9 @@ pages-length B top p =
     let e = ap length (pages-records B top) in
     ceil-is (length top) B (length (pages B top)) p (omega (arith, packed-count B (pages B top) p (pages-packed B top p))) (omega (arith, sized-most B (pages B top) (pages-well B top p .sized)))
 
--- a full level 0 has K(0) pages, and none has more
+-- a full level 0 has K(0) pages
 pub pages-full : (B K : ℕ) (top : List Rec) → 1 ≤ B → length top ≡ K * B → length (pages B top) ≡ K
 pages-full B K top p e = pages-length B top p ∙ sym (ceil-is (length top) B K p (omega arith) (omega arith))
-
-pub pages-most : (B K : ℕ) (top : List Rec) → 1 ≤ B → length top ≤ K * B → length (pages B top) ≤ K
-pages-most B K top p h = go (decLt K (length (pages B top))) (packed-count B (pages B top) p (pages-packed B top p)) (ap length (pages-records B top))
-  where
-    go : Dec (K < length (pages B top)) → length (pages B top) * B < length (records (pages B top)) + B → length (records (pages B top)) ≡ length top → length (pages B top) ≤ K
-    go (no d) m e = omega arith
-    go (yes d) m e = absurd (omega (arith, mul-le-mul-right B d))
-
-pack-fills : (B : ℕ) (buffer rs : List Rec) (n : ℕ) → length buffer + suc n ≡ B → suc n ≤ length rs → pack B buffer rs ≡ new (buffer ++ take (suc n) rs) ∷ pack B [] (drop (suc n) rs)
-pack-fills B buffer [] n e h = absurd (omega arith)
-pack-fills B buffer (r ∷ rs) zero e h = rw (le-leb B (suc (length buffer)) (omega arith), pack)
-pack-fills B buffer (r ∷ rs) (suc n) e h =
-    let i = pack-fills B (buffer ++ (r ∷ [])) rs n (omega (arith, length-snoc buffer r)) (omega arith) in
-    let a = append-assoc buffer (r ∷ []) (take (suc n) rs) in
-    rw (lt-leb B (suc (length buffer)) (omega arith), pack) (i ∙ ap (λ (l : List Rec). new l ∷ pack B [] (drop (suc n) rs)) a)
-
-pack-short : (B : ℕ) (buffer rs : List Rec) → length buffer + length rs < B → 1 ≤ length buffer + length rs → pack B buffer rs ≡ new (buffer ++ rs) ∷ []
-pack-short B [] [] h p = absurd (omega arith)
-pack-short B (c ∷ buffer) [] h p = ap (λ (l : List Rec). new l ∷ []) (sym (append-nil (c ∷ buffer)))
-pack-short B buffer (r ∷ rs) h p =
-    let i = pack-short B (buffer ++ (r ∷ [])) rs (omega (arith, length-snoc buffer r)) (omega (arith, length-snoc buffer r)) in
-    rw (lt-leb B (suc (length buffer)) (omega arith), pack) (i ∙ ap (λ (l : List Rec). new l ∷ []) (append-assoc buffer (r ∷ []) rs))
-
--- the first page is the first B records, or all if there are fewer
-pub pages-step : (B : ℕ) (top : List Rec) → 1 ≤ B → 1 ≤ length top → pages B top ≡ new (take B top) ∷ pages B (drop B top)
-pages-step zero top p h = absurd (omega arith)
-pages-step (suc n) top p h = go (decLt (length top) (suc n))
-  where
-    go : Dec (length top < suc n) → pages (suc n) top ≡ new (take (suc n) top) ∷ pages (suc n) (drop (suc n) top)
-    go (no d) = pack-fills (suc n) [] top n (omega arith) (omega arith)
-    go (yes d) =
-        let t : take (suc n) top ≡ top = take-all (suc n) top (omega arith) in
-        let e : drop (suc n) top ≡ [] = drop-of-length-le top {i = suc n} (omega arith) in
-        pack-short (suc n) [] top (omega arith) (omega arith) ∙ rw (t, e)
 
 -- page i is the records from i × B on
 pub pages-at : (B i : ℕ) (top : List Rec) → 1 ≤ B → i * B < length top → getD (pages B top) i (new []) ≡ new (take B (drop (i * B) top))

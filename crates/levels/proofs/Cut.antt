@@ -1,12 +1,12 @@
 -- The cut of the two levels of a merge, for any run of w blocks: its parts make up the levels, Y is the blocks that X overlaps, and how the parts lie.
-use Prim.Native.Nat.{ℕ, zero, suc, _+_, _<_, _≤_}
+use Prim.Native.Nat.{ℕ, suc, _+_, _<_, _≤_}
 use mathlib.Core.Path.{_≡_, refl, sym, _∙_, ap}
 use mathlib.Core.Bool.{Bool, true, false, _&&_}
 use mathlib.Core.List.{List, [], _∷_, _++_, append-assoc, append-nil}
 use native.Mathlib.Omega.{arith}
 use lib.Dec.{leb, ltb}
 use lib.Seq.{drop-drop}
-use lib.ListN.{length, length-append, take, drop, length-take, length-drop}
+use lib.ListN.{length, length-append, take, drop, length-take, length-drop, take-append-drop}
 use borrow.Author.Tests.{leb-false, ltb-true, ltb-false, le-leb, lt-leb}
 use Rattle.levels.specs.Basics.{if_then_else_}
 use Rattle.levels.specs.Record.{Rec, Block, Level, records, firstKey, lastKey}
@@ -14,43 +14,31 @@ use Rattle.levels.specs.Choose.{loOf, hiOf, meets, countMeets, overlap, 
 use Rattle.levels.specs.Rising.{Rising, Below}
 use Rattle.levels.specs.Well.{Sized, Well}
 use Rattle.levels.proofs.Rising.{rising-from, rising-left, rising-right, below-more, below-append}
-use Rattle.levels.proofs.Levels.{Ordered, records-three, well-drop, well-prefix, take-prefix, Prefix, empty, more, drop-rising, block-ends, first-rising}
+use Rattle.levels.proofs.Levels.{Ordered, records-three, well-drop, well-prefix, take-prefix, Prefix, empty, prefix-if, prefix-rest, drop-rising, block-ends, first-rising}
 
 -- X and what is left and right of it make up the upper level
-take-drop : (n : ℕ) (l : Level) → take n l ++ drop n l ≡ l
-take-drop zero l = refl
-take-drop (suc n) [] = refl
-take-drop (suc n) (b ∷ bs) = ap (λ (k : Level). b ∷ k) (take-drop n bs)
-
 pub cut-above : (w first : ℕ) (above under : Level) → let c = cutAt w first above under in c .left ++ (c .run ++ c .right) ≡ above
 unfolding cutAt
 cut-above w first above under =
     ap (λ (k : Level). take first above ++ (take w (drop first above) ++ k)) (sym (drop-drop w first above))
-    ∙ ap (λ (k : Level). take first above ++ k) (take-drop w (drop first above)) ∙ take-drop first above
+    ∙ ap (λ (k : Level). take first above ++ k) (take-append-drop w (drop first above)) ∙ take-append-drop first above
+
+-- what is before Y, and Y of the rest, are beginnings
+below-prefix : (lo : ℕ) (l : Level) → Prefix (below lo l) l
+below-prefix lo [] = empty
+below-prefix lo (b ∷ bs) = prefix-if (ltb (lastKey (b .recs)) lo) (below-prefix lo bs)
+
+not-above-prefix : (hi : ℕ) (l : Level) → Prefix (notAbove hi l) l
+not-above-prefix hi [] = empty
+not-above-prefix hi (b ∷ bs) = prefix-if (leb (firstKey (b .recs)) hi) (not-above-prefix hi bs)
 
 -- Y and what is before and behind it make up the lower level
-below-drop : (lo : ℕ) (l : Level) → below lo l ++ drop (length (below lo l)) l ≡ l
-below-drop lo [] = refl
-below-drop lo (b ∷ bs) = go (ltb (lastKey (b .recs)) lo) (below-drop lo bs)
-  where
-    go : (t : Bool) → below lo bs ++ drop (length (below lo bs)) bs ≡ bs → (if t then b ∷ below lo bs else []) ++ drop (length (if t then b ∷ below lo bs else [])) (b ∷ bs) ≡ b ∷ bs
-    go true ih = ap (λ (k : Level). b ∷ k) ih
-    go false ih = refl
-
-above-drop : (hi : ℕ) (l : Level) → notAbove hi l ++ drop (length (notAbove hi l)) l ≡ l
-above-drop hi [] = refl
-above-drop hi (b ∷ bs) = go (leb (firstKey (b .recs)) hi) (above-drop hi bs)
-  where
-    go : (t : Bool) → notAbove hi bs ++ drop (length (notAbove hi bs)) bs ≡ bs → (if t then b ∷ notAbove hi bs else []) ++ drop (length (if t then b ∷ notAbove hi bs else [])) (b ∷ bs) ≡ b ∷ bs
-    go true ih = ap (λ (k : Level). b ∷ k) ih
-    go false ih = refl
-
 pub cut-under : (w first : ℕ) (above under : Level) → let c = cutAt w first above under in c .before ++ (c .over ++ c .behind) ≡ under
 unfolding cutAt
 cut-under w first above under =
     let run : Level = take w (drop first above) in
     let rest : Level = drop (length (below (loOf run) under)) under in
-    ap (λ (k : Level). below (loOf run) under ++ k) (above-drop (hiOf run) rest) ∙ below-drop (loOf run) under
+    ap (λ (k : Level). below (loOf run) under ++ k) (prefix-rest (not-above-prefix (hiOf run) rest)) ∙ prefix-rest (below-prefix (loOf run) under)
 
 -- the lengths of the parts
 pub cut-lengths : (w first : ℕ) (above under : Level) → let c = cutAt w first above under in
@@ -147,22 +135,6 @@ pub record WellCut (B : ℕ) (c : Cut) : Type 0 where
   pub before : Well B (c .before)
   pub over : Well B (c .over)
   pub behind : Well B (c .behind)
-
-below-prefix : (lo : ℕ) (l : Level) → Prefix (below lo l) l
-below-prefix lo [] = empty
-below-prefix lo (b ∷ bs) = go (ltb (lastKey (b .recs)) lo) (below-prefix lo bs)
-  where
-    go : (t : Bool) → Prefix (below lo bs) bs → Prefix (if t then b ∷ below lo bs else []) (b ∷ bs)
-    go true p = more p
-    go false p = empty
-
-not-above-prefix : (hi : ℕ) (l : Level) → Prefix (notAbove hi l) l
-not-above-prefix hi [] = empty
-not-above-prefix hi (b ∷ bs) = go (leb (firstKey (b .recs)) hi) (not-above-prefix hi bs)
-  where
-    go : (t : Bool) → Prefix (notAbove hi bs) bs → Prefix (if t then b ∷ notAbove hi bs else []) (b ∷ bs)
-    go true p = more p
-    go false p = empty
 
 -- they are well filled too
 pub cut-well : (B w first : ℕ) (above under : Level) → Well B above → Well B under → WellCut B (cutAt w first above under)

@@ -23,7 +23,8 @@ pub free-on : (n P : ℕ) (used : List ℕ) (p : ℕ) → member (after P p) use
 unfolding freeAfter
 free-on n P used p e = rw (e, freeAfter)
 
-after-inside : (P p : ℕ) → 1 ≤ P → after P p < P
+-- going round stays among the places
+pub after-inside : (P p : ℕ) → 1 ≤ P → after P p < P
 after-inside P p h = go (leb P (suc p)) refl
   where
     go : (t : Bool) → leb P (suc p) ≡ t → (if t then 0 else suc p) < P

@@ -17,7 +17,7 @@ use Rattle.levels.specs.Record.{Rec, Level, records, hasTombstone}
 use Rattle.levels.specs.Map.{into, overlay, view, unmarked, mapOf, liveCount}
 use Rattle.levels.specs.Waste.{wasteful}
 use Rattle.levels.specs.Well.{Sized}
-use Rattle.levels.proofs.Overlay.{into-below, into-same, into-above, Way, less, same, more, way}
+use Rattle.levels.proofs.Overlay.{overlay-nil, into-below, into-same, into-above, Way, less, same, more, way}
 use Rattle.levels.proofs.View.{unmarked-drop, unmarked-keep, clean-unmarked}
 use Rattle.levels.proofs.Levels.{sized-most}
 
@@ -72,11 +72,6 @@ pub overlay-unmarked : (us ls : List Rec) → length (unmarked ls) ≤ length (u
 unfolding overlay
 overlay-unmarked [] ls = omega arith
 overlay-unmarked (u ∷ us) ls = into-unmarked u (tombstones us) (λ zs. overlay us zs) (λ zs. overlay-unmarked us zs) ls
-
-overlay-nil : (l : List Rec) → overlay l [] ≡ l
-unfolding overlay into
-overlay-nil [] = refl
-overlay-nil (r ∷ rs) = ap (λ (l : List Rec). r ∷ l) (overlay-nil rs)
 
 -- live + (tombstones of the levels above the last) ≥ records of the last level, which has no tombstone; row m is the last
 pub last-fits : (ls : List (List Rec)) (m : ℕ) → suc m ≡ length ls → hasTombstone (getD ls m []) ≡ false

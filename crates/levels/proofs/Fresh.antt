@@ -61,7 +61,3 @@ reverse-fresh (b ∷ bs) m = omega (arith, reverse-fresh bs (b ∷ m))
 pub reverse-weights : (f : ℕ → ℕ) (l m : Level) → weights f (reverseAux l m) ≡ weights f l + weights f m
 reverse-weights f [] m = omega arith
 reverse-weights f (b ∷ bs) m = omega (arith, reverse-weights f bs (b ∷ m))
-
-pub reverse-length : (l m : Level) → length (reverseAux l m) ≡ length l + length m
-reverse-length [] m = omega arith
-reverse-length (b ∷ bs) m = omega (arith, reverse-length bs (b ∷ m))

@@ -1,11 +1,12 @@
 -- What is said of the blocks of a level: their sizes, the pair rule, their key ranges; and the records of levels end to end.
 use Prim.Native.Nat.{ℕ, zero, suc, _+_, _*_, _≤_}
 use mathlib.Core.Path.{_≡_, refl, sym, _∙_, ap}
-use mathlib.Core.Bool.{true}
+use mathlib.Core.Bool.{Bool, true, false}
 use mathlib.Core.List.{List, [], _∷_, _++_, append-assoc}
 use native.Mathlib.Omega.{arith}
 use lib.ListN.{length, length-append, take, drop}
 use borrow.Author.Tests.{ltb-true, lt-ltb}
+use Rattle.levels.specs.Basics.{if_then_else_}
 use Rattle.levels.specs.Record.{Rec, Block, Level, size, records, firstKey, lastKey}
 use Rattle.levels.specs.Waste.{pairRule}
 use Rattle.levels.specs.Well.{Sized, Apart, Pairs, Well}
@@ -51,10 +52,6 @@ pub sized-most : (B : ℕ) (l : Level) → Sized B l → length (records l) ≤ 
 sized-most B [] s = omega arith
 sized-most B (b ∷ bs) s = omega (arith, s .1, sized-most B bs (s .2), length-append (b .recs) (records bs))
 
-pair-sum : (B : ℕ) (b : Block) (bs : Level) → Pairs B (b ∷ bs) → length bs * suc B + size b ≤ 2 * length (records (b ∷ bs))
-pair-sum B b [] p = omega (arith, length-append (b .recs) (records []))
-pair-sum B b (c ∷ cs) p = omega (arith, length-append (b .recs) (records (c ∷ cs)), pair-sum B c cs (p .1), p .0)
-
 -- levels end to end
 pub records-append : (k l : Level) → records (k ++ l) ≡ records k ++ records l
 records-append [] l = refl
@@ -91,6 +88,15 @@ drop-rising k (suc n) (b ∷ bs) s = drop-rising k n bs (rising-right k (b .recs
 pub data Prefix : Level → Level → Type 0 where
   empty : {l : Level} → Prefix [] l
   more : {b : Block} {k l : Level} → Prefix k l → Prefix (b ∷ k) (b ∷ l)
+
+pub prefix-if : (t : Bool) {b : Block} {k l : Level} → Prefix k l → Prefix (if t then b ∷ k else []) (b ∷ l)
+prefix-if true p = more p
+prefix-if false p = empty
+
+-- with what follows it, it makes up the level
+pub prefix-rest : {k l : Level} → Prefix k l → k ++ drop (length k) l ≡ l
+prefix-rest empty = refl
+prefix-rest (more {b = b} p) = ap (λ (m : Level). b ∷ m) (prefix-rest p)
 
 apart-prefix : (B n : ℕ) {k l : Level} → Prefix k l → Apart B n l → Apart B n k
 apart-prefix B n empty a = tt

@@ -1,4 +1,5 @@
 pub mod Basics
+pub mod Lists
 pub mod Rising
 pub mod Overlay
 pub mod View

@@ -1,7 +1,7 @@
 -- A merge of any run out of level i, level 0 or a listed level, on the whole store: its rows, its levels and its places at the end.
 use Prim.Native.Nat.{ℕ, zero, suc, _+_, _<_, _≤_}
 use mathlib.Core.Path.{_≡_, refl, _∙_, ap}
-use mathlib.Core.List.{List, [], _∷_, _++_, List·Memᴰ}
+use mathlib.Core.List.{List, [], _∷_, _++_, List·Memᴰ, Memᴰ·append-left, Memᴰ·append-right}
 use mathlib.Core.Logic.{_⊎_, inl, inr, ⊎-elim}
 use native.Mathlib.Omega.{arith}
 use lib.Dec.{eqb}
@@ -22,7 +22,7 @@ use Rattle.levels.proofs.Settling.{settle-records, written-length, writ
 use Rattle.levels.proofs.Places.{places-append}
 use Rattle.levels.proofs.Written.{merge-changed, top-changed}
 use Rattle.levels.proofs.Every.{every-make, every-turn}
-use Rattle.levels.proofs.Stays.{Old, old-of-every, old-fresh, upper-old, lower-old, settled-old, mem-left, mem-right, level-mem, every-set, written-sized}
+use Rattle.levels.proofs.Stays.{Old, old-of-every, old-fresh, upper-old, lower-old, settled-old, level-mem, every-set, written-sized}
 use Rattle.levels.proofs.StoreRows.{rows-with, levels-with, level-with}
 
 -- the cut of levels i and i + 1 of a store
@@ -164,10 +164,10 @@ module _ (g : Geometry) (i w first : ℕ) (s : Store) where
           every-set (λ b. List·Memᴰ b (allBlocks (s .levels)) ⊎ List·Memᴰ b (u .written ++ l .written)) (set (s .levels) j (u .level)) (suc j) (l .level)
           (every-set (λ b. List·Memᴰ b (allBlocks (s .levels)) ⊎ List·Memᴰ b (u .written ++ l .written)) (s .levels) j (u .level)
           (every-make _ (allBlocks (s .levels)) (λ b m. inl m))
-          (every-turn (λ b. List·Memᴰ b (allBlocks (s .levels)) ⊎ List·Memᴰ b (u .written)) _ (u .level) (λ b m. ⊎-elim inl (λ x. inr (mem-left b (u .written) (l .written) x)) m)
+          (every-turn (λ b. List·Memᴰ b (allBlocks (s .levels)) ⊎ List·Memᴰ b (u .written)) _ (u .level) (λ b m. ⊎-elim inl (λ x. inr (Memᴰ·append-left (l .written) x)) m)
           (settled-old (λ b. List·Memᴰ b (allBlocks (s .levels))) (g .p) (allocationOf s) (upperLeft g (suc j) w first s)
           (upper-old (λ b. List·Memᴰ b (allBlocks (s .levels))) (g .b) (suc j) w first (blocksOf g (suc j) s) (blocksOf g (suc (suc j)) s) (here j)))))
-          (every-turn (λ b. List·Memᴰ b (allBlocks (s .levels)) ⊎ List·Memᴰ b (l .written)) _ (l .level) (λ b m. ⊎-elim inl (λ x. inr (mem-right b (u .written) (l .written) x)) m)
+          (every-turn (λ b. List·Memᴰ b (allBlocks (s .levels)) ⊎ List·Memᴰ b (l .written)) _ (l .level) (λ b m. ⊎-elim inl (λ x. inr (Memᴰ·append-right (u .written) x)) m)
           (settled-old (λ b. List·Memᴰ b (allBlocks (s .levels))) (g .p) (u .allocation) (lowerMade g (suc j) w first s)
           (lower-old (λ b. List·Memᴰ b (allBlocks (s .levels))) (g .b) w first (eqb (suc (suc j)) (g .h)) (blocksOf g (suc j) s) (blocksOf g (suc (suc j)) s) (here j) (here (suc j)))))
 

@@ -11,7 +11,8 @@ use Rattle.levels.specs.Basics.{if_then_else_, iterate}
 use Rattle.levels.specs.Record.{Rec, Block, Level, size, new, records, firstKey}
 use Rattle.levels.specs.Merge.{Out, State, apart, mayFollow, reusable, flush, rest, headRec, reuse, gather, fromUpper, fromLower, fromBoth, stepOn, step, joinLeft, join, stream, merge, close}
 use Rattle.levels.specs.Well.{Sized, Apart, Pairs, Well}
-use Rattle.levels.proofs.Basics.{length-snoc, and-left, and-right, if-either}
+use Rattle.levels.proofs.Basics.{and-left, and-right, if-either}
+use Rattle.levels.proofs.Lists.{length-snoc}
 use Rattle.levels.proofs.Levels.{well-tail, well-nil}
 use Rattle.levels.proofs.MergeRecords.{reusable-says}
 

@@ -6,19 +6,19 @@ use mathlib.Core.Bool.{Bool, true, false, _&&_, true≢false}
 use mathlib.Core.List.{List, [], _∷_, _++_, reverse, reverseAux}
 use mathlib.Core.Option.{Option, none, some}
 use native.Mathlib.Omega.{arith}
-use native.Mathlib.Decide.{decLt}
-use native.Mathlib.Nat.{mul-le-mul-left}
+use native.Mathlib.Nat.{lt-of-mul-lt-mul-left, le-of-mul-le-mul-left}
 use lib.Dec.{leb, ltb, eqb}
-use lib.ListN.{length}
+use lib.ListN.{length, length-reverseAux}
 use borrow.Author.Tests.{leb-true}
 use Rattle.levels.specs.Basics.{if_then_else_, iterate}
 use Rattle.levels.specs.Record.{Rec, Block, Level, size, new, placed, records, firstKey}
 use Rattle.levels.specs.Merge.{Out, State, reusable, flush, rest, headRec, reuse, gather, fromUpper, fromLower, fromBoth, stepOn, step, joinLeft, join, stream, merge, close}
 use Rattle.levels.specs.Well.{Sized, Well}
 use Rattle.levels.specs.Taking.{fresh}
-use Rattle.levels.proofs.Basics.{if-either, length-snoc}
+use Rattle.levels.proofs.Basics.{if-either}
+use Rattle.levels.proofs.Lists.{length-snoc}
 use Rattle.levels.proofs.Levels.{well-nil}
-use Rattle.levels.proofs.Fresh.{weight, weights, olds, count-all, reverse-fresh, reverse-weights, reverse-length}
+use Rattle.levels.proofs.Fresh.{weight, weights, olds, count-all, reverse-fresh, reverse-weights}
 use Rattle.levels.proofs.MergeRecords.{reusable-says}
 use Rattle.levels.proofs.MergeWell.{Keeps, step-keeps, reverse-before}
 
@@ -108,17 +108,7 @@ reuse-paid f B b o q = go (b .place) (o .buffer)
 module _ (f : ℕ → ℕ) (B M Q : ℕ) (bottom : Bool) (o : Out) (p : 1 ≤ B) (room : length (o .buffer) < B) (sp : Spare M (o .done)) where
   -- a block reused: behind it, one more may be written
   reused-spare : (b : Block) (c : ℕ) → placed b ≡ true → B * fresh (o .done) + length (o .buffer) + cap B b + c ≤ B * M → fresh (reuse b o .done) < M
-  reused-spare b c e h = let r = reuse-paid f B b o p e in lt-of B (fresh (reuse b o .done)) M (omega (arith, r .cost))
-    where
-      lt-of : (B f M : ℕ) → B * f < B * M → f < M
-      lt-of B f M h = go (native.Mathlib.Decide.decLt f M)
-        where
-          go : Dec (f < M) → f < M
-          go (yes d) = d
-          go (no d) = absurd (omega (arith, mul-le-mul-left B (le-of f M d)))
-            where
-              le-of : (f M : ℕ) → (f < M → ⊥) → M ≤ f
-              le-of f M d = omega arith
+  reused-spare b c e h = let r = reuse-paid f B b o p e in lt-of-mul-lt-mul-left B {m = fresh (reuse b o .done)} {n = M} (omega (arith, r .cost))
 
   upper-paid : (x : Block) (xs l : Level) → Sized B (x ∷ xs) → B * fresh (o .done) + length (o .buffer) + caps B (x ∷ xs) + caps B l ≤ B * M
       → weights f (o .done) + weights f (x ∷ xs) + weights f l ≤ Q → Paid f B M Q (fromUpper B bottom x xs l o)
@@ -172,19 +162,12 @@ pub record Ended (f : ℕ → ℕ) (M Q : ℕ) (done : Level) : Type 0 where
   pub spare : Spare M done
   pub stay : weights f done ≤ Q
 
-le-of-mul : (B f M : ℕ) → B * f < B * suc M → f ≤ M
-le-of-mul B f M h = go (decLt M f)
-  where
-    go : Dec (M < f) → f ≤ M
-    go (no d) = omega arith
-    go (yes d) = absurd (omega (arith, mul-le-mul-left B d))
-
 left-ended : (f : ℕ → ℕ) (B M Q : ℕ) (buffer : List Rec) (done : Level) → 1 ≤ B → B * fresh done + length buffer ≤ B * M → Spare M done → weights f done ≤ Q → Ended f M Q (joinLeft B buffer done)
-left-ended f B M Q [] done p h sp k = record { news = le-of-mul B (fresh done) M (omega arith); spare = sp; stay = k }
+left-ended f B M Q [] done p h sp k = record { news = le-of-mul-le-mul-left {m = fresh done} {n = M} {k = B} (omega arith) p; spare = sp; stay = k }
 left-ended f B zero Q (r ∷ rs) done p h sp k = absurd (omega arith)
 left-ended f B (suc M) Q (r ∷ rs) [] p h sp k = record { news = omega arith; spare = λ z. absurd (true≢false (sym z)); stay = omega arith }
 left-ended f B (suc M) Q (r ∷ rs) (e ∷ es) p h sp k =
-    let v = le-of-mul B (fresh (e ∷ es)) M (omega arith) in
+    let v = lt-of-mul-lt-mul-left B {m = fresh (e ∷ es)} {n = suc M} (omega arith) in
     if-either (Ended f (suc M) Q) (leb (size e + length (r ∷ rs)) B) _ _
     (record { news = omega arith; spare = λ z. absurd (true≢false (sym z)); stay = omega arith })
     (record { news = omega arith; spare = λ z. absurd (true≢false (sym z)); stay = omega arith })
@@ -262,11 +245,11 @@ close-places f B i left right = join-counts f B left right .1
 
 join-most : (B : ℕ) (l right : Level) → length (join B l right) ≤ length l + length right
 join-most B [] right = omega arith
-join-most B (e ∷ es) [] = omega (arith, reverse-length (e ∷ es) [])
+join-most B (e ∷ es) [] = omega (arith, length-reverseAux (e ∷ es) [])
 join-most B (e ∷ es) (a ∷ bs) = if-either (λ k. length k ≤ length (e ∷ es) + length (a ∷ bs)) (leb (size e + size a) B) (reverseAux es (new (e .recs ++ a .recs) ∷ bs)) (reverseAux (e ∷ es) (a ∷ bs))
-    (omega (arith, reverse-length es (new (e .recs ++ a .recs) ∷ bs)))
-    (omega (arith, reverse-length (e ∷ es) (a ∷ bs)))
+    (omega (arith, length-reverseAux es (new (e .recs ++ a .recs) ∷ bs)))
+    (omega (arith, length-reverseAux (e ∷ es) (a ∷ bs)))
 
 -- step 2 makes the level no longer than what is left and right of X
 pub close-length : (B i : ℕ) (left right : Level) → length (close B (suc i) left right) ≤ length left + length right
-close-length B i left right = omega (arith, join-most B (reverse left) right, reverse-length left [])
+close-length B i left right = omega (arith, join-most B (reverse left) right, length-reverseAux left [])

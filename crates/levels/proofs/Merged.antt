@@ -236,6 +236,15 @@ module _ (B w first : ℕ) (above under : Level) (h : Mergeable B w first above 
   pub lower-double : (bottom : Bool) (W K : ℕ) → length under ≤ K → length (cutAt w first above under .over) ≤ W → 2 * w ≤ W → 2 * W ≤ K → length (lowerOf B bottom (cutAt w first above under)) ≤ 2 * K
   lower-double bottom W K a b p q = omega (arith, lower-length bottom)
 
+  -- the places of the parts, weighed
+  cut-weights : (f : ℕ → ℕ) → let c = cutAt w first above under in
+      (weights f (c .left) + weights f (c .run) + weights f (c .right) ≡ weights f above) × (weights f (c .before) + weights f (c .over) + weights f (c .behind) ≡ weights f under)
+  cut-weights f =
+      let c = cutAt w first above under in (
+        omega (arith, weights-append f (c .left) (c .run ++ c .right), weights-append f (c .run) (c .right), ap (weights f) (cut-above w first above under)),
+        omega (arith, weights-append f (c .before) (c .over ++ c .behind), weights-append f (c .over) (c .behind), ap (weights f) (cut-under w first above under)),
+      )
+
   -- a block of the outcome that has a place is a block of the two levels, and none of these stands there twice
   pub pair-places : (f : ℕ → ℕ) (bottom : Bool) (i : ℕ) → let c = cutAt w first above under in
       weights f (upperOf B (suc i) c) + weights f (lowerOf B bottom c) ≤ weights f above + weights f under
@@ -245,25 +254,12 @@ module _ (B w first : ℕ) (above under : Level) (h : Mergeable B w first above 
         arith,
         close-places f B i (c .left) (c .right),
         merge-places f B bottom (c .before) (c .run) (c .over) (c .behind) (h .block) (wells .before) (wells .run .sized) (wells .over .sized) run-some,
-        weights-append f (c .left) (c .run ++ c .right),
-        weights-append f (c .run) (c .right),
-        ap (weights f) (cut-above w first above under),
-        weights-append f (c .before) (c .over ++ c .behind),
-        weights-append f (c .over) (c .behind),
-        ap (weights f) (cut-under w first above under),
+        cut-weights f .0,
+        cut-weights f .1,
       )
 
   -- out of level 0, whose pages have no places
   pub lower-places : (f : ℕ → ℕ) (bottom : Bool) → let c = cutAt w first above under in weights f (lowerOf B bottom c) ≤ weights f above + weights f under
   lower-places f bottom =
       let c = cutAt w first above under in
-      omega (
-        arith,
-        merge-places f B bottom (c .before) (c .run) (c .over) (c .behind) (h .block) (wells .before) (wells .run .sized) (wells .over .sized) run-some,
-        weights-append f (c .left) (c .run ++ c .right),
-        weights-append f (c .run) (c .right),
-        ap (weights f) (cut-above w first above under),
-        weights-append f (c .before) (c .over ++ c .behind),
-        weights-append f (c .over) (c .behind),
-        ap (weights f) (cut-under w first above under),
-      )
+      omega (arith, merge-places f B bottom (c .before) (c .run) (c .over) (c .behind) (h .block) (wells .before) (wells .run .sized) (wells .over .sized) run-some, cut-weights f .0, cut-weights f .1)

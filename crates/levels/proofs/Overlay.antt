@@ -35,16 +35,6 @@ unfolding find
 find-above k high [] b h = refl
 find-above k high (x ∷ xs) b h = find-past k x xs (omega arith) ∙ find-above k high xs (b .1) h
 
--- the record found has the key
-pub find-key : (k : ℕ) (rs : List Rec) (r : Rec) → find k rs ≡ some r → r .key ≡ k
-unfolding find
-find-key k [] r e = absurd (Option·none-ne-some r e)
-find-key k (x ∷ xs) r e = go (ℕ-discrete (x .key) k) (find-key k xs r)
-  where
-    go : Dec (x .key ≡ k) → (find k xs ≡ some r → r .key ≡ k) → r .key ≡ k
-    go (yes d) ih = ap (λ (z : Rec). z .key) (Option·some-injective r x (sym e ∙ find-here k x xs d)) ∙ d
-    go (no n) ih = ih (sym (find-past k x xs n) ∙ e)
-
 -- of two lists end to end the first decides
 pub find-append : (k : ℕ) (xs ys : List Rec) → find k (xs ++ ys) ≡ orElse (find k xs) (find k ys)
 unfolding find
@@ -131,6 +121,12 @@ module _ (x : Rec) (f : List Rec → List Rec) (hf : (zs : List Rec) → Rising 
       go (less l) ih = rw (into-below x f y ys l) (r .0, ih l)
       go (same l) ih = rw (into-same x f y ys l) (h, hf ys (rising-from (suc (x .key)) (suc (y .key)) ys (omega arith) (r .1)))
       go (more l) ih = rw (into-above x f y ys l) (h, hf (y ∷ ys) (l, r .1))
+
+-- an overlay of nothing
+pub overlay-nil : (xs : List Rec) → overlay xs [] ≡ xs
+unfolding overlay into
+overlay-nil [] = refl
+overlay-nil (x ∷ xs) = ap (λ (l : List Rec). x ∷ l) (overlay-nil xs)
 
 -- an overlay of sorted lists is sorted
 pub overlay-rising : (low : ℕ) (xs ys : List Rec) → Rising low xs → Rising low ys → Rising low (overlay xs ys)

@@ -139,13 +139,6 @@ member-more p q qs e = go (eqb p q)
 member-head : (p : ℕ) (qs : List ℕ) → member p (p ∷ qs) ≡ true
 member-head p qs = rw (eq-eqb p p refl)
 
-member-less : (p q : ℕ) (qs : List ℕ) → member p (q ∷ qs) ≡ false → member p qs ≡ false
-member-less p q qs = go (eqb p q)
-  where
-    go : (t : Bool) → (t || member p qs) ≡ false → member p qs ≡ false
-    go true e = absurd (true≢false e)
-    go false e = e
-
 -- a list has nothing outside itself
 outside-self : (rs qs : List ℕ) → ((p : ℕ) → member p rs ≡ true → member p qs ≡ true) → total (outside qs) rs ≡ 0
 outside-self [] qs h = refl

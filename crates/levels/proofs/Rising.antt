@@ -38,11 +38,6 @@ pub rising-swap : (low : ℕ) (xs ys zs : List Rec) → ((j : ℕ) → Rising j 
 rising-swap low [] ys zs f h = f low h
 rising-swap low (x ∷ xs) ys zs f h = (h .0, rising-swap (suc (x .key)) xs ys zs f (h .1))
 
--- two sorted lists that a number parts make one
-pub rising-append : (low p : ℕ) (xs ys : List Rec) → low ≤ p → Rising low xs → Below p xs → Rising p ys → Rising low (xs ++ ys)
-rising-append low p [] ys l rx bx ry = rising-from low p ys l ry
-rising-append low p (x ∷ xs) ys l rx bx ry = (rx .0, rising-append (suc (x .key)) p xs ys (bx .0) (rx .1) (bx .1) ry)
-
 -- an upper bound may be raised
 pub below-more : (low high : ℕ) (xs : List Rec) → low ≤ high → Below low xs → Below high xs
 below-more low high [] h b = tt

@@ -1,6 +1,6 @@
 -- The rows of a store (level 0, then the levels from 1 on) when one row, or two neighbours, change: what is looked up.
 use Prim.Native.Nat.{ℕ, zero, suc, _<_}
-use mathlib.Core.Path.{_≡_, refl, sym, _∙_, ap}
+use mathlib.Core.Path.{_≡_, sym, _∙_, ap}
 use mathlib.Core.List.{List, [], _∷_}
 use mathlib.Core.Option.{Option}
 use native.Mathlib.Omega.{arith}
@@ -22,12 +22,6 @@ pub risings-set : (ls : List (List Rec)) (j : ℕ) (l : List Rec) → Rising 0 l
 risings-set [] j l v r = tt
 risings-set (a ∷ ls) zero l v r = (v, r .1)
 risings-set (a ∷ ls) (suc j) l v r = (r .0, risings-set ls j l v (r .1))
-
--- a row replaced by the same records
-pub set-same : (ls : List (List Rec)) (j : ℕ) (l : List Rec) → l ≡ getD ls j [] → set ls j l ≡ ls
-set-same [] j l e = refl
-set-same (a ∷ ls) zero l e = ap (λ (m : List Rec). m ∷ ls) e
-set-same (a ∷ ls) (suc j) l e = ap (λ (ms : List (List Rec)). a ∷ ms) (set-same ls j l e)
 
 -- two neighbours that together decide as before: so do all rows
 pub decides-pair : (k : ℕ) (ls : List (List Rec)) (j : ℕ) (u l : List Rec) → suc j < length ls

@@ -1,14 +1,14 @@
 -- The new blocks of a level take places (document 01: "A new block goes to the first free place after hand, going round, and hand moves there", "in key order").
 use Prim.Native.Nat.{ℕ, suc, _+_, _<_, _≤_}
 use mathlib.Core.Path.{_≡_, refl, ap}
-use mathlib.Core.List.{List, [], _∷_, _++_, map}
+use mathlib.Core.List.{List, [], _∷_, _++_}
 use mathlib.Core.Option.{Option, none, some}
 use native.Mathlib.Omega.{arith}
 use lib.ListN.{length}
 use Rattle.levels.specs.Basics.{total}
-use Rattle.levels.specs.Record.{Rec, Block, Level, size, records}
+use Rattle.levels.specs.Record.{Rec, Level, size, records}
 use Rattle.levels.specs.Waste.{needsCompact}
-use Rattle.levels.specs.Place.{Allocation, firstFree, Settled, settle, placesOf}
+use Rattle.levels.specs.Place.{Allocation, firstFree, settle, placesOf}
 use Rattle.levels.specs.Taking.{Takes, fresh}
 use Rattle.levels.specs.Well.{Apart, Well}
 use Rattle.levels.proofs.Levels.{well-nil, well-tail}
@@ -22,26 +22,6 @@ afterTaking a (p ∷ ps) = afterTaking (record { used = p ∷ a .used; cursor = 
 -- the allocation after one place
 abbrev pub taking : ℕ → Allocation → Allocation
 taking P a = record { used = firstFree P a ∷ a .used; cursor = firstFree P a }
-
--- "in key order": first the blocks of one list, then those of the next
-pub settle-append : (P : ℕ) (a : Allocation) (k l : Level) → let s = settle P a k in
-    let r = settle P (s .allocation) l in settle P a (k ++ l) ≡ record { level = s .level ++ r .level; written = s .written ++ r .written; allocation = r .allocation }
-unfolding settle
-settle-append P a [] l = refl
-settle-append P a (b ∷ bs) l = go (b .place) (λ c. settle-append P c bs l)
-  where
-    goal : Level → Type 0
-    goal k = let s = settle P a k in
-        let r = settle P (s .allocation) l in settle P a (k ++ l) ≡ record { level = s .level ++ r .level; written = s .written ++ r .written; allocation = r .allocation }
-
-    go : (p : Option ℕ) → ((c : Allocation) → let s = settle P c bs in
-        let r = settle P (s .allocation) l in settle P c (bs ++ l) ≡ record { level = s .level ++ r .level; written = s .written ++ r .written; allocation = r .allocation }) → goal (record { place = p; recs = b .recs } ∷ bs)
-    go none ih =
-        let d : Block = record { place = some (firstFree P a); recs = b .recs } in
-        ap (λ (r : Settled). record { level = d ∷ r .level; written = d ∷ r .written; allocation = r .allocation }) (ih (taking P a))
-    go (some p) ih =
-        let d : Block = record { place = some p; recs = b .recs } in
-        ap (λ (r : Settled). record { level = d ∷ r .level; written = r .written; allocation = r .allocation }) (ih a)
 
 -- places change no record
 pub settle-records : (P : ℕ) (a : Allocation) (l : Level) → records (settle P a l .level) ≡ records l
@@ -95,41 +75,6 @@ settle-well P B a (b ∷ bs) w = go (b .place) (λ c. settle-well P B c bs (well
 -- and so does the level rule
 pub settle-rule : (P B : ℕ) (a : Allocation) (l : Level) → needsCompact B (settle P a l .level) ≡ needsCompact B l
 settle-rule P B a l = rw (settle-length P a l, settle-records P a l)
-
--- the new blocks of a level
-abbrev pub newOf : Level → Level
-newOf [] = []
-newOf (b ∷ bs) = elim (b .place) [ none ↦ b ∷ newOf bs | some p ↦ newOf bs ]
-
--- a level with the blocks `ws`, in turn, for its new ones
-abbrev pub filled : Level → Level → Level
-filled [] ws = []
-filled (b ∷ bs) ws = elim (b .place) [ some p ↦ b ∷ filled bs ws | none ↦ elim ws [ [] ↦ b ∷ filled bs [] | v ∷ vs ↦ v ∷ filled bs vs ] ]
-
-abbrev pub recsOf : Block → List Rec
-recsOf b = b .recs
-
--- the blocks written are the new ones, in order: their records
-pub settle-written : (P : ℕ) (a : Allocation) (l : Level) → map recsOf (settle P a l .written) ≡ map recsOf (newOf l)
-unfolding settle
-settle-written P a [] = refl
-settle-written P a (b ∷ bs) = go (b .place) (λ c. settle-written P c bs)
-  where
-    go : (p : Option ℕ) → ((c : Allocation) → map recsOf (settle P c bs .written) ≡ map recsOf (newOf bs))
-        → map recsOf (settle P a (record { place = p; recs = b .recs } ∷ bs) .written) ≡ map recsOf (newOf (record { place = p; recs = b .recs } ∷ bs))
-    go none ih = ap (λ (m : List (List Rec)). b .recs ∷ m) (ih (taking P a))
-    go (some p) ih = ih a
-
--- the level is as it was, with the written blocks for the new ones: a block that had a place stays
-pub settle-level : (P : ℕ) (a : Allocation) (l : Level) → settle P a l .level ≡ filled l (settle P a l .written)
-unfolding settle
-settle-level P a [] = refl
-settle-level P a (b ∷ bs) = go (b .place) (λ c. settle-level P c bs)
-  where
-    go : (p : Option ℕ) → ((c : Allocation) → settle P c bs .level ≡ filled bs (settle P c bs .written))
-        → settle P a (record { place = p; recs = b .recs } ∷ bs) .level ≡ filled (record { place = p; recs = b .recs } ∷ bs) (settle P a (record { place = p; recs = b .recs } ∷ bs) .written)
-    go none ih = ap (λ (m : Level). record { place = some (firstFree P a); recs = b .recs } ∷ m) (ih (taking P a))
-    go (some p) ih = ap (λ (m : Level). record { place = some p; recs = b .recs } ∷ m) (ih a)
 
 -- as many blocks are written as there are new ones
 pub written-length : (P : ℕ) (a : Allocation) (l : Level) → length (settle P a l .written) ≡ fresh l

@@ -2,7 +2,7 @@
 use Prim.Native.Nat.{ℕ, zero, suc, _+_}
 use mathlib.Core.Path.{_≡_, refl, sym, subst}
 use mathlib.Core.Bool.{Bool, true, false, _&&_, true≢false}
-use mathlib.Core.List.{List, [], _∷_, _++_, tail, reverse, reverseAux, List·Memᴰ, List·Memᴰ·head, List·Memᴰ·tail, List·Memᴰ·not-nil}
+use mathlib.Core.List.{List, [], _∷_, _++_, tail, reverse, reverseAux, List·Memᴰ, List·Memᴰ·head, List·Memᴰ·tail, Memᴰ·append-left, Memᴰ·append-right}
 use mathlib.Core.Logic.{_⊎_, inl, inr}
 use mathlib.Core.Option.{Option, none, some}
 use native.Mathlib.Omega.{arith}
@@ -157,24 +157,11 @@ module _ (P : Block → Type 0) where
           later d (inr m) = inr (List·Memᴰ·tail m)
       go (some q) e ih = (inl (subst (λ (o : Option ℕ). P (record { place = o; recs = b .recs })) e (h .0 (rw e))), ih a)
 
--- a block in one of two lists
-pub mem-left : (b : Block) (k l : Level) → List·Memᴰ b k → List·Memᴰ b (k ++ l)
-mem-left b [] l m = absurd (List·Memᴰ·not-nil m)
-mem-left b (c ∷ k) l (List·Memᴰ·head e) = List·Memᴰ·head e
-mem-left b (c ∷ k) l (List·Memᴰ·tail m) = List·Memᴰ·tail (mem-left b k l m)
-
-pub mem-right : (b : Block) (k l : Level) → List·Memᴰ b l → List·Memᴰ b (k ++ l)
-mem-right b [] l m = m
-mem-right b (c ∷ k) l m = List·Memᴰ·tail (mem-right b k l m)
-
 -- every block of a level is one of all levels
 pub level-mem : (ls : List Level) (j : ℕ) → Every (λ b. List·Memᴰ b (allBlocks ls)) (getD ls j [])
 level-mem [] j = tt
-level-mem (l ∷ ls) zero = all-mem l (allBlocks ls)
-  where
-    all-mem : (k l : Level) → Every (λ b. List·Memᴰ b (k ++ l)) k
-    all-mem k l = every-make (λ b. List·Memᴰ b (k ++ l)) k (λ b m. mem-left b k l m)
-level-mem (l ∷ ls) (suc j) = every-turn (λ b. List·Memᴰ b (allBlocks ls)) (λ b. List·Memᴰ b (l ++ allBlocks ls)) (getD ls j []) (λ b m. mem-right b l (allBlocks ls) m) (level-mem ls j)
+level-mem (l ∷ ls) zero = every-make (λ b. List·Memᴰ b (l ++ allBlocks ls)) l (λ b m. Memᴰ·append-left (allBlocks ls) m)
+level-mem (l ∷ ls) (suc j) = every-turn (λ b. List·Memᴰ b (allBlocks ls)) (λ b. List·Memᴰ b (l ++ allBlocks ls)) (getD ls j []) (λ b m. Memᴰ·append-right l m) (level-mem ls j)
 
 -- a level replaced
 pub every-set : (P : Block → Type 0) (ls : List Level) (j : ℕ) (l : Level) → Every P (allBlocks ls) → Every P l → Every P (allBlocks (set ls j l))

@@ -5,7 +5,8 @@ use mathlib.Core.Bool.{Bool, true}
 use mathlib.Core.List.{List, [], _∷_, map}
 use native.Mathlib.Omega.{arith}
 use native.Mathlib.Nat.{mul-le-mul-left, mul-le-mul-right}
-use lib.ListN.{length, getD, set, length-set, List·getD-map}
+use lib.ListN.{length, getD, set, length-set, length-map, List·getD-map}
+use lib.Seq.{getD-set-same}
 use Rattle.geometry.specs.declared.Geometry.{Geometry}
 use Rattle.levels.specs.Basics.{all, total}
 use Rattle.levels.specs.Record.{Rec, Level, records}
@@ -13,6 +14,7 @@ use Rattle.levels.specs.Store.{Store, rows, blocksOf, withBlocks}
 use Rattle.levels.specs.Call.{enoughSteps}
 use Rattle.levels.specs.Inside.{recordsAbove, load}
 use Rattle.levels.proofs.Basics.{and-left, and-right, and-both}
+use Rattle.levels.proofs.Lists.{map-set}
 use Rattle.levels.proofs.Compaction.{pages-records}
 
 -- what holds of the element at index i after another was put at index j
@@ -25,18 +27,7 @@ set-at d P (c ∷ ls) (suc j) l (suc i) a b = set-at d P ls j l i (λ e. a (ap s
 
 -- the element at index j is the one put there
 pub set-here : {A : Type 0} (d : A) (ls : List A) (j : ℕ) (l : A) → j < length ls → getD (set ls j l) j d ≡ l
-set-here d [] j l h = absurd (omega arith)
-set-here d (c ∷ ls) zero l h = refl
-set-here d (c ∷ ls) (suc j) l h = set-here d ls j l (omega arith)
-
-map-set : (ls : List Level) (j : ℕ) (l : Level) → map records (set ls j l) ≡ set (map records ls) j (records l)
-map-set [] j l = refl
-map-set (a ∷ ls) zero l = refl
-map-set (a ∷ ls) (suc j) l = ap (λ (ms : List (List Rec)). records a ∷ ms) (map-set ls j l)
-
-map-count : (ls : List Level) → length (map records ls) ≡ length ls
-map-count [] = refl
-map-count (l ∷ ls) = ap suc (map-count ls)
+set-here d ls j l h = getD-set-same ls j l d h
 
 -- the records of level i are row i; of level 0, of its pages
 pub row-blocks : (g : Geometry) (i : ℕ) (s : Store) → records (blocksOf g i s) ≡ getD (rows s) i []
@@ -46,11 +37,11 @@ row-blocks g (suc j) s = sym (List·getD-map records (s .levels) j [])
 -- a level replaced is a row replaced
 pub rows-with : (i : ℕ) (l : Level) (s : Store) → rows (withBlocks i l s) ≡ set (rows s) i (records l)
 rows-with zero l s = refl
-rows-with (suc j) l s = ap (λ (ms : List (List Rec)). s .top ∷ ms) (map-set (s .levels) j l)
+rows-with (suc j) l s = ap (λ (ms : List (List Rec)). s .top ∷ ms) (map-set records (s .levels) j l)
 
 -- there is a row for level 0 and one for each listed level
 pub rows-count : (s : Store) → length (rows s) ≡ suc (length (s .levels))
-rows-count s = ap suc (map-count (s .levels))
+rows-count s = ap suc (length-map (s .levels) records)
 
 pub levels-with : (i : ℕ) (l : Level) (s : Store) → length (withBlocks i l s .levels) ≡ length (s .levels)
 levels-with zero l s = refl

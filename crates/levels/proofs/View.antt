@@ -129,11 +129,6 @@ pub same-live : (ls ms : List (List Rec)) → Risings ls → Risings ms → ((k 
 unfolding liveCount
 same-live ls ms h g f = ap length (same-map ls ms h g f)
 
--- and the answer of Next
-pub same-next : (k : ℕ) (ls ms : List (List Rec)) → Risings ls → Risings ms → ((k : ℕ) → lookUp k ls ≡ lookUp k ms) → next k ls ≡ next k ms
-unfolding next
-same-next k ls ms h g f = ap (firstFrom k) (same-map ls ms h g f)
-
 -- the clauses of firstFrom, as laws
 first-from-here : (k : ℕ) (r : Rec) (rs : List Rec) → leb k (r .key) ≡ true → firstFrom k (r ∷ rs) ≡ some r
 unfolding firstFrom

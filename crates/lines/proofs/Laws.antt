@@ -1,7 +1,7 @@
 -- Laws of reading: the machine of `specs/Machine.antt` finds at a line's end what the line says.
 use Prim.Native.Nat.{ℕ, _+_, _-_, _*_, _≤_, _<_}
 use mathlib.Core.Path.{_≡_, refl, sym}
-use mathlib.Core.Bool.{Bool, true, false, _&&_, _||_, and-eq-true-iff}
+use mathlib.Core.Bool.{Bool, true, false, _&&_, _||_, and-eq-true-iff, and-false}
 use mathlib.Core.List.{List, [], _∷_, _++_, map, append-assoc}
 use native.Mathlib.Numerals.{add-one}
 use native.Mathlib.Omega.{arith}
@@ -22,10 +22,6 @@ use Rattle.lines.specs.Machine.{noNumbers, pushed, isLetter, afterStart,
 pub if-same : {A : Type 0} (t : Bool) (a : A) → (if t then a else a) ≡ a
 if-same true a = refl
 if-same false a = refl
-
-pub and-no : (t : Bool) → (t && false) ≡ false
-and-no true = refl
-and-no false = refl
 
 pub or-left-no : (s t : Bool) → (s || t) ≡ false → s ≡ false
 or-left-no true t e = e
@@ -126,7 +122,7 @@ spoken-other x vs e =
     let e2 = or-right-no (eqb x letterP) _ e1 in
     let d = or-left-no (eqb x letterD) _ e2 in
     let g = or-right-no (eqb x letterD) _ e2 in
-    simp (f, p, d, g, and-no)
+    simp (f, p, d, g, and-false)
 
 -- nothing mends a spoiled line
 pub run-spoiled : (xs : List ℕ) → run Spoiled xs ≡ Spoiled
@@ -159,7 +155,7 @@ after-space-full letter ns x h = rw (le-ltb _ _ h)
 
 pub after-space-bad : (letter : ℕ) (ns : Numbers) (x : ℕ) → isDigit x ≡ false → step (Space letter ns) x ≡ Spoiled
 unfolding step afterSpace
-after-space-bad letter ns x e = rw (e, and-no)
+after-space-bad letter ns x e = rw (e, and-false)
 
 -- One byte after a digit.
 pub after-digits-space : (letter : ℕ) (ns : Numbers) (x : ℕ) → eqb x space ≡ true → step (Digits letter ns) x ≡ Space letter ns
@@ -228,7 +224,7 @@ pub digits-line-high : (letter : ℕ) (ns : List ℕ) (v : ℕ) (xs : List ℕ) 
 unfolding digitsLine
 digits-line-high letter ns v xs h =
     let l : wordLimit ≤ valueFrom v (firstField xs) = omega (arith, value-low v (firstField xs)) in
-    rw (le-ltb _ _ l, and-no)
+    rw (le-ltb _ _ l, and-false)
 
 pub digits-line-bad : (letter : ℕ) (ns : List ℕ) (v x : ℕ) (xs : List ℕ) → eqb x space ≡ false → isDigit x ≡ false → digitsLine letter ns v (x ∷ xs) ≡ Unreadable
 unfolding digitsLine
@@ -375,9 +371,3 @@ run-more r s i h = rw (add-one i, drop-cons s i 0 h)
 pub run-end : (r : Reading) (s : List ℕ) (i : ℕ) → length s ≤ i → run r (drop i s) ≡ r
 unfolding run
 run-end r s i h = rw (drop-of-length-le s h)
-
--- A line may come in pieces.
-pub run-append : (r : Reading) (xs ys : List ℕ) → run r (xs ++ ys) ≡ run (run r xs) ys
-unfolding run
-run-append r [] ys = refl
-run-append r (x ∷ xs) ys = run-append (step r x) xs ys

@@ -1,22 +1,22 @@
 -- The arrays of a call against the store that its words hold: what is taken out, and that three arrays are the lists to put back.
-use Prim.Native.Nat.{ℕ, zero, suc, _+_, _≤_, _<_}
+use Prim.Native.Nat.{ℕ, suc, _≤_, _<_}
 use mathlib.Core.Path.{_≡_, sym, ap, _∙_}
 use mathlib.Core.List.{List, [], _∷_, map}
 use mathlib.Core.Logic.{dite}
 use native.Mathlib.Decide.{decLt}
-use native.Mathlib.Nat.{add-zero, add-suc, suc-add}
 use native.Mathlib.Numerals.{one-add}
 use native.Mathlib.Omega.{arith}
-use lib.ListN.{length, take, getD, List·getD-map, List·getD-eq-default}
+use lib.ListN.{length, take, getD, List·getD-eq-default}
 use Rattle.geometry.specs.declared.Geometry.{Geometry}
 use Rattle.geometry.specs.Geometry.{Valid}
 use Rattle.levels.specs.Record.{Level}
 use Rattle.levels.specs.Store.{Store}
 use Rattle.levels.specs.Sound.{Fits}
-use Rattle.words.specs.Layout.{word, countAt, listedAt, levelAt, each, placeOf}
-use Rattle.words.proofs.Parts.{part-word, pad-word}
+use Rattle.words.specs.Layout.{countAt, listedAt, levelAt, placeOf}
+use Rattle.words.proofs.Each.{getD-each}
 use Rattle.words.proofs.Lists.{level-places}
-use Rattle.words.proofs.State.{Holds, counts-held, levels-held}
+use Rattle.words.proofs.State.{Holds, count-held, levels-held}
+pub use Rattle.words.proofs.State.{count-held}
 use Rattle.words.specs.Form.{roomOf}
 use Rattle.words.proofs.Form.{room-level}
 use Rattle.lists.proofs.Laws.{placesIn}
@@ -29,30 +29,18 @@ three-places h (p ∷ q ∷ []) x y z e l a b c = rw (← e, a, b)
 three-places h (p ∷ q ∷ r ∷ []) x y z e l a b c = rw (← e, a, b, c)
 three-places h (p ∷ q ∷ r ∷ s ∷ ls) x y z e l a b c = absurd (omega arith)
 
-each-at : (f : ℕ → Level) (j n i : ℕ) → i < n → getD (each f j n) i [] ≡ f (j + i)
-each-at f j zero i h = absurd (omega arith)
-each-at f j (suc n) zero h = rw add-zero
-each-at f j (suc n) (suc i) h = each-at f (suc j) n i (omega arith) ∙ rw (suc-add, add-suc)
-
 module _ (g : Geometry) (ws : List ℕ) (t : Store) (v : Valid g) (f : Fits g t) (k : Holds g ws t) where
-  -- the block count of a level is the length of its list, 0 above h
-  pub count-held : (i : ℕ) → i < 3 → countAt ws (suc i) ≡ length (getD (t .levels) i [])
-  count-held i h =
-      let w : 9 + i ≡ 8 + suc i = omega arith in
-      ap (word ws) (sym w) ∙ sym (part-word ws 9 3 i h) ∙ ap (λ (x : List ℕ). getD x i 0) (counts-held g ws t v f k) ∙ pad-word 3 (map (λ (l : Level). length l) (t .levels)) i
-      ∙ List·getD-map (λ (l : Level). length l) (t .levels) i []
-
   -- what `load` asks of the counts
   pub count-room : (i : ℕ) → i < 3 → countAt ws (suc i) ≤ roomOf g (suc i)
   count-room i h =
       dite (decLt i (g .h))
-      (λ y. rw (count-held i h, room-level g (suc i) y) (f .level-fits i y))
-      (λ n. let z : getD (t .levels) i [] ≡ [] = List·getD-eq-default (t .levels) [] (omega (arith, f .level-count)) in rw (count-held i h, z) (omega arith))
+      (λ y. rw (count-held g ws t v f k i h, room-level g (suc i) y) (f .level-fits i y))
+      (λ n. let z : getD (t .levels) i [] ≡ [] = List·getD-eq-default (t .levels) [] (omega (arith, f .level-count)) in rw (count-held g ws t v f k i h, z) (omega arith))
 
   -- what `load` gives: the places of the level
   pub places-listed : (i : ℕ) → i < 3 → listedAt g ws (suc i) ≡ map placeOf (getD (t .levels) i [])
   unfolding listedAt
   places-listed i h =
       dite (decLt i (g .h))
-      (λ y. sym (level-places g ws (suc i)) ∙ ap (map placeOf) (sym (rw one-add at (each-at (levelAt g ws) 1 (g .h) i y)) ∙ ap (λ (ls : List Level). getD ls i []) (levels-held g ws t v f k)))
-      (λ n. let z : getD (t .levels) i [] ≡ [] = List·getD-eq-default (t .levels) [] (omega (arith, f .level-count)) in rw (count-held i h, z))
+      (λ y. sym (level-places g ws (suc i)) ∙ ap (map placeOf) (sym (rw one-add at (getD-each (levelAt g ws) 1 (g .h) i [] y)) ∙ ap (λ (ls : List Level). getD ls i []) (levels-held g ws t v f k)))
+      (λ n. let z : getD (t .levels) i [] ≡ [] = List·getD-eq-default (t .levels) [] (omega (arith, f .level-count)) in rw (count-held g ws t v f k i h, z))

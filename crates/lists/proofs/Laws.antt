@@ -16,11 +16,10 @@ use Rattle.levels.specs.Store.{Store}
 use Rattle.levels.specs.Sound.{Fits}
 use Rattle.words.specs.Layout.{word, geometryAt, pad, placeOf, headerWords, topWords, listWords, areaOf, storeWords, part, topLength}
 use Rattle.words.specs.Passed.{Laid}
-use Rattle.words.proofs.Parts.{part-word, part-left, part-front-part, part-split, part-cons, pad-length}
+use Rattle.words.proofs.Parts.{part-word, part-left, part-front-part, part-split, part-cons}
 use Rattle.words.proofs.Top.{top-words-length}
-use Rattle.words.proofs.Lists.{list-words-length}
 use Rattle.words.proofs.Laid.{laid-levels}
-use Rattle.words.proofs.State.{Holds, top-end, lists-length, store-length, room-fits, geometry-held, live-held, top-count-held, held-words}
+use Rattle.words.proofs.State.{Holds, top-end, lists-length, store-length, counts-length, lists-long, geometry-held, live-held, top-count-held, held-words}
 use Rattle.lists.specs.Lists.{placeLists, withLists}
 use Rattle.lists.specs.Holds.{HoldsBut}
 use Rattle.lists.proofs.Keeps.{put-here, put-before, put-behind}
@@ -75,11 +74,11 @@ module _ (g : Geometry) (ws : List ℕ) (t : Store) (v : Valid g) (f : Fits g t)
 
   counts-long : length counts ≡ 3
   unfolding counts
-  counts-long = pad-length 3 (map (λ (l : Level). length l) (t .levels)) (rw length-map (omega (arith, f .level-count, v .ranged .h-high)))
+  counts-long = counts-length t (omega (arith, f .level-count, v .ranged .h-high))
 
-  lists-long : length lists ≡ flashCapacityOf g
-  unfolding lists flashCapacityOf
-  lists-long = rw (list-words-length g (t .levels) 1 (room-fits g t f), f .level-count)
+  lists-fit : length lists ≡ flashCapacityOf g
+  unfolding lists
+  lists-fit = lists-long g t v f
 
   -- the words with cursor and counts, and with the lists too
   headed : List ℕ
@@ -111,7 +110,7 @@ module _ (g : Geometry) (ws : List ℕ) (t : Store) (v : Valid g) (f : Fits g t)
   back-area =
       let l = k .long in
       let s = starts g v in
-      put-drop (listStart g 1) (placesStart g) lists headed (omega (arith, lists-long)) (omega (arith, headed-long))
+      put-drop (listStart g 1) (placesStart g) lists headed (omega (arith, lists-fit)) (omega (arith, headed-long))
       ∙ put-drop 9 (placesStart g) counts (putAt 7 (t .cursor ∷ []) ws) (omega (arith, counts-long)) (omega (arith, cursor-long)) ∙ put-drop 7 (placesStart g) (t .cursor ∷ []) ws (omega arith) (omega arith)
 
   back-header : part back 0 12 ≡ headerWords g t
@@ -128,10 +127,10 @@ module _ (g : Geometry) (ws : List ℕ) (t : Store) (v : Valid g) (f : Fits g t)
   back-holds =
       let s = starts g v in
       record {
-        long = put-length (listStart g 1) lists headed (omega (arith, lists-long, headed-long)) ∙ headed-long;
+        long = put-length (listStart g 1) lists headed (omega (arith, lists-fit, headed-long)) ∙ headed-long;
         header = back-header;
         top = put-before (listStart g 1) (marksStart g) (topLength g) lists headed (omega arith) (omega (arith, headed-long)) ∙ headed-behind (marksStart g) (topLength g) (omega arith) ∙ k .top;
-        lists = put-here (listStart g 1) (flashCapacityOf g) lists headed lists-long (omega (arith, headed-long));
+        lists = put-here (listStart g 1) (flashCapacityOf g) lists headed lists-fit (omega (arith, headed-long));
         laid = rw back-area (k .laid);
       }
 
@@ -218,19 +217,4 @@ but-top g ws s t v k l e r =
       count = word-here vs 8 (length (t .top)) (put-before (marksStart g) 8 1 (topWords g (t .top)) us (omega arith) (omega arith) ∙ put-here 8 1 (length (t .top) ∷ []) ws refl (omega arith));
       top = put-here (marksStart g) (topLength g) (topWords g (t .top)) us tops (omega arith);
       laid = rw area (laid-levels g (areaOf g ws) s t e (k .laid));
-    }
-
-pub but-live : (g : Geometry) (ws : List ℕ) (s t : Store) → Valid g → HoldsBut g ws s → t .top ≡ s .top → t .levels ≡ s .levels → HoldsBut g (putAt 6 (t .live ∷ []) ws) t
-but-live g ws s t v k l e =
-    let o = starts g v in
-    let w = k .long in
-    let us = putAt 6 (t .live ∷ []) ws in
-    let behind : (b n : ℕ) → 7 ≤ b → part us b n ≡ part ws b n = λ b n h. put-behind 6 b n (t .live ∷ []) ws (omega arith) (omega arith) in
-    record {
-      long = put-length 6 (t .live ∷ []) ws (omega arith) ∙ w;
-      six = same-geometry us ws (put-before 6 0 6 (t .live ∷ []) ws (omega arith) (omega arith)) ∙ k .six;
-      live = word-here us 6 (t .live) (put-here 6 1 (t .live ∷ []) ws refl (omega arith));
-      count = same-word us ws 8 1 (behind 8 1 (omega arith)) 8 (omega arith) (omega arith) ∙ k .count ∙ rw l;
-      top = behind (marksStart g) (topLength g) (omega arith) ∙ k .top ∙ rw l;
-      laid = rw (put-drop 6 (placesStart g) (t .live ∷ []) ws (omega arith) (omega arith)) (laid-levels g (areaOf g ws) s t e (k .laid));
     }

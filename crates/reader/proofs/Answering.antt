@@ -147,7 +147,7 @@ module _ (ws : List ℕ) (g : Geometry) (e : checkedOf ws ≡ Ready g) where
 
     enclosing-from : (k j n : ℕ) → j + n ≤ countAt ws i
         → enclosing k (map (blockAt g ws) (wordsFrom ws (listStart g i + j) n)) ≡ listedBlock g ws (listStart g i) (enclosedFrom ws (levelOf g ws i) k j n)
-    unfolding enclosing enclosedFrom wordsFrom
+    unfolding enclosing enclosedFrom
     enclosing-from k j ℕ.zero h = refl
     enclosing-from k j (suc n) h =
         let p = word ws (listStart g i + j) in

@@ -1,19 +1,14 @@
 -- A key between two parts of a rising list: only the part between them can have it.
 use Prim.Native.Nat.{ℕ, suc, _≤_, _<_}
-use mathlib.Core.Path.{_≡_, refl, _∙_}
+use mathlib.Core.Path.{_≡_, _∙_}
 use mathlib.Core.List.{List, [], _∷_, _++_}
-use mathlib.Core.Option.{Option, none, some}
 use native.Mathlib.Omega.{arith}
-use Rattle.levels.specs.Basics.{orElse}
 use Rattle.levels.specs.Record.{Rec}
 use Rattle.levels.specs.Map.{find}
 use Rattle.levels.specs.Rising.{Rising, Below}
+use Rattle.levels.proofs.Basics.{or-none}
 use Rattle.levels.proofs.Rising.{rising-right}
 use Rattle.levels.proofs.Overlay.{find-below, find-above, find-append}
-
-or-none : (a : Option Rec) → orElse a none ≡ a
-or-none none = refl
-or-none (some x) = refl
 
 -- keys below k before, and keys above k after
 pub find-between : (k : ℕ) (xs ys zs : List Rec) → Below k xs → Rising (suc k) zs → find k (xs ++ (ys ++ zs)) ≡ find k ys

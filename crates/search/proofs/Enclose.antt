@@ -1,7 +1,7 @@
 -- Of the chunks of a level, only the one that a search finds can enclose the key.
 use Prim.Native.Nat.{ℕ, zero, suc, _+_, _-_, _/_, _≤_, _<_}
 use mathlib.Core.Path.{_≡_, ap, _∙_, refl}
-use mathlib.Core.Bool.{Bool, true, false, _&&_}
+use mathlib.Core.Bool.{Bool, true, false, _&&_, and-false}
 use mathlib.Core.List.{List, [], _∷_, _++_}
 use native.Mathlib.Numerals.{add-one}
 use native.Mathlib.Omega.{arith}
@@ -45,11 +45,7 @@ last-below k r (s ∷ rs) b = last-below k s rs (b .1)
 below-encloses : (k : ℕ) (rs : List Rec) (r : Rec) (ss : List Rec) → rs ≡ r ∷ ss → Below k rs → encloses k rs ≡ false
 below-encloses k rs r ss e b =
     let p : Below k (r ∷ ss) = rw e at b in
-    rw (e, lt-leb k (lastKey (r ∷ ss)) (last-below k r ss p)) (go (leb (r .key) k))
-  where
-    go : (a : Bool) → (a && false) ≡ false
-    go true = refl
-    go false = refl
+    rw (e, lt-leb k (lastKey (r ∷ ss)) (last-below k r ss p)) (and-false (leb (r .key) k))
 
 above-encloses : (k : ℕ) (rs : List Rec) (r : Rec) (ss ts : List Rec) → rs ≡ r ∷ ss → Rising (suc k) (rs ++ ts) → encloses k rs ≡ false
 above-encloses k rs r ss ts e h =
@@ -59,10 +55,6 @@ above-encloses k rs r ss ts e h =
 abbrev orEnclosed : Enclosed → Enclosed → Enclosed
 orEnclosed (At i) b = At i
 orEnclosed Nowhere b = b
-
-or-nowhere : (a : Enclosed) → orEnclosed a Nowhere ≡ a
-or-nowhere (At i) = refl
-or-nowhere Nowhere = refl
 
 module _ (ws : List ℕ) (d : Directory) (k : ℕ) where
   enclosed-append : (i m n : ℕ) → enclosedFrom ws d k i (m + n) ≡ orEnclosed (enclosedFrom ws d k i m) (enclosedFrom ws d k (i + m) n)

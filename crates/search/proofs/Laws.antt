@@ -18,7 +18,8 @@ use Rattle.levels.proofs.Rising.{rising-left, rising-right}
 use Rattle.words.specs.Layout.{word, slotsAt}
 use Rattle.chunks.specs.declared.Chunk.{Chunk}
 use Rattle.chunks.specs.Chunks.{Inside, chunkRecs}
-use Rattle.chunks.proofs.Slots.{slots-first, slots-split}
+use Rattle.words.proofs.Slots.{slots-split}
+use Rattle.chunks.proofs.Slots.{slots-first}
 use Rattle.directory.specs.declared.Directory.{Directory}
 use Rattle.directory.specs.Directory.{Formed, recordsFrom, recordsOf, chunkAt}
 use Rattle.directory.proofs.Laws.{chunk-room}

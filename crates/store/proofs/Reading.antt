@@ -1,9 +1,9 @@
 -- Laws of the reading calls, for whoever uses them: a store that passes reads as a finite map, and one that does not is turned down for the first reason there is.
-use Prim.Native.Nat.{ℕ, suc, _≤_, _<_}
+use Prim.Native.Nat.{ℕ, _≤_, _<_}
 use mathlib.Core.Path.{_≡_, refl, sym, ap, _∙_}
 use mathlib.Core.Bool.{Bool, true, false, and-eq-true-iff}
 use mathlib.Core.List.{List, [], _∷_}
-use mathlib.Core.Option.{Option, none, some}
+use mathlib.Core.Option.{none, some}
 use native.Mathlib.Omega.{arith}
 use lib.Dec.{leb, eqb}
 use lib.ListN.{length, take, drop}
@@ -12,17 +12,13 @@ use Rattle.geometry.specs.declared.Geometry.{Geometry}
 use Rattle.geometry.specs.Geometry.{within, isLegal, placeStart, blockWidth, storeLength, sizeReason}
 use Rattle.geometry.proofs.Laws.{legal-valid}
 use Rattle.levels.specs.Basics.{if_then_else_}
-use Rattle.levels.specs.Record.{Rec, Block, Level, firstKey, lastKey}
-use Rattle.levels.specs.Map.{find, view, mapOf, liveCount, firstFrom, next}
-use Rattle.levels.specs.Store.{rows}
-use Rattle.levels.specs.Rising.{Rising, Risings}
-use Rattle.levels.proofs.View.{test-risings, view-rising, unmarked-rising}
-use Rattle.levels.proofs.Overlay.{find-here, find-past, find-below}
-use Rattle.words.specs.Layout.{geometryAt, liveAt, storeAt, levelAt, placeOf}
-use Rattle.words.specs.Form.{keysRise, liveExact, formed, reasonOf}
+use Rattle.levels.specs.Record.{Block, Level, firstKey, lastKey}
+use Rattle.levels.specs.Map.{liveCount, firstFrom, next}
+use Rattle.words.specs.Layout.{geometryAt, liveAt, levelAt, placeOf}
+use Rattle.words.specs.Form.{liveExact, formed, reasonOf}
 use Rattle.words.specs.Calls.{mapAt, nextAnswer, checkOf, lookUpOf, nextOf, enclosing, partOf, showIn, showOf}
 use Rattle.entry.proofs.Laws.{size-short, size-broken, size-other, sized-opened, ready-reason}
-use Rattle.form.proofs.Ready.{checked-none, ready-live, ready-rises}
+use Rattle.form.proofs.Ready.{checked-none, ready-live}
 
 -- Show: levels that there are not, and those that there are.
 show-low : (g : Geometry) (ws : List ℕ) (i k : ℕ) → i < 1 → [] ≡ showIn g ws i k
@@ -38,22 +34,8 @@ unfolding showIn
 show-inside g ws i k a b = rw (le-leb 1 i a, le-leb i (g .h) b, showIn)
 
 module _ (ws : List ℕ) (e : reasonOf ws ≡ 0) where
-  rise : Risings (rows (storeAt (geometryAt ws) ws))
-  unfolding keysRise
-  rise = test-risings (rows (storeAt (geometryAt ws) ws)) (ready-rises ws (geometryAt ws) (checked-none ws e))
-
   none-test : eqb (reasonOf ws) 0 ≡ true
   none-test = eq-eqb (reasonOf ws) 0 e
-
-  -- the map has each key once
-  pub map-rises : Rising 0 (mapAt ws)
-  unfolding mapOf
-  map-rises = unmarked-rising 0 (view (rows (storeAt (geometryAt ws) ws))) (view-rising (rows (storeAt (geometryAt ws) ws)) rise)
-
-  -- Check answers 0.
-  pub check-passes : checkOf ws ≡ 0
-  unfolding checkOf
-  check-passes = e
 
   -- Next gives the first record of the map from k on.
   pub next-map : (k : ℕ) → nextOf ws k ≡ nextAnswer (firstFrom k (mapAt ws))
@@ -78,45 +60,6 @@ module _ (ws : List ℕ) (e : reasonOf ws ≡ 0) where
       go : (t : Bool) → leb 1 i ≡ t → [] ≡ showIn (geometryAt ws) ws i k
       go true q = show-high (geometryAt ws) ws i k (leb-true 1 i q) (h (leb-true 1 i q))
       go false q = show-low (geometryAt ws) ws i k (leb-false 1 i q)
-
--- The first record of a map from k on, in the words of document 01: "the smallest live key at or above k".
-pub first-none : (k low : ℕ) (m : List Rec) → Rising low m → firstFrom k m ≡ none → (j : ℕ) → k ≤ j → find j m ≡ none
-unfolding firstFrom find
-first-none k low [] h e j l = refl
-first-none k low (r ∷ rs) h e j l = go (leb k (r .key)) refl e (λ q. first-none k (suc (r .key)) rs (h .1) q j l)
-  where
-    go : (t : Bool) → leb k (r .key) ≡ t → _≡_ {A = Option Rec} (elim t [ true ↦ some r | false ↦ firstFrom k rs ]) none → (firstFrom k rs ≡ none → find j rs ≡ none) → find j (r ∷ rs) ≡ none
-    go true q z ih = absurd (let w : _≡_ {A = ℕ} 0 1 = cc in omega arith)
-    go false q z ih = find-past j r rs (λ w. omega (arith, leb-false k (r .key) q)) ∙ ih z
-
--- what `some r` says: r is in the map, its key is not below k, and no key from k on is below it
-pub record Smallest (k : ℕ) (m : List Rec) (r : Rec) : Type 0 where
-  pub found : find (r .key) m ≡ some r
-  pub from : k ≤ r .key
-  pub least : (j : ℕ) → k ≤ j → j < r .key → find j m ≡ none
-
-pub first-some : (k low : ℕ) (m : List Rec) (r : Rec) → Rising low m → firstFrom k m ≡ some r → Smallest k m r
-unfolding firstFrom
-first-some k low [] r h e = absurd (let w : _≡_ {A = ℕ} 0 1 = cc in omega arith)
-first-some k low (x ∷ xs) r h e = go (leb k (x .key)) refl e (λ q. first-some k (suc (x .key)) xs r (h .1) q)
-  where
-    here : x ≡ r → k ≤ x .key → Smallest k (x ∷ xs) r
-    here w l = rw (← w) (record {
-      found = find-here (x .key) x xs refl;
-      from = l;
-      least = λ j a b. find-below j (x .key) (x ∷ xs) (omega arith, h .1) b;
-    })
-
-    later : x .key < k → Smallest k xs r → Smallest k (x ∷ xs) r
-    later l s = record {
-      found = find-past (r .key) x xs (λ w. omega (arith, s .from)) ∙ s .found;
-      from = s .from;
-      least = λ j a b. find-past j x xs (λ w. omega arith) ∙ s .least j a b;
-    }
-
-    go : (t : Bool) → leb k (x .key) ≡ t → elim t [ true ↦ some x | false ↦ firstFrom k xs ] ≡ some r → (firstFrom k xs ≡ some r → Smallest k xs r) → Smallest k (x ∷ xs) r
-    go true q z ih = here (let w : x ≡ r = cc in w) (leb-true k (x .key) q)
-    go false q z ih = later (leb-false k (x .key) q) (ih z)
 
 -- what Show's block is: "the block whose first to last key encloses k"
 pub enclosing-encloses : (k : ℕ) (l : Level) (b : Block) → enclosing k l ≡ some b → (firstKey (b .recs) ≤ k) × (k ≤ lastKey (b .recs))

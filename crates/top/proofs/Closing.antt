@@ -10,9 +10,10 @@ use Rattle.geometry.specs.declared.Geometry.{Geometry}
 use Rattle.geometry.specs.Geometry.{capacityOf, topCapacityOf, marksStart, keysStart, paysStart, listStart}
 use Rattle.geometry.proofs.Laws.{pays-end}
 use Rattle.levels.specs.Record.{Rec}
+use Rattle.levels.proofs.Lists.{map-take, map-drop, map-replicate}
 use Rattle.words.specs.Layout.{topCountAt, topSlots, topRecs, keysOf, paysOf}
-use Rattle.words.proofs.Slots.{padRecs, blankRec, map-replicate}
-use Rattle.words.proofs.Top.{map-take, map-drop, marksOf, marks-length, marks-pad, top-slots-length}
+use Rattle.words.proofs.Slots.{padRecs, blankRec}
+use Rattle.words.proofs.Top.{marksOf, marks-length, marks-pad, top-slots-length}
 use Rattle.top.specs.Top.{TopReady, withSlots, withTop, closed}
 use Rattle.top.proofs.Moves.{without, without-length, closed-mid}
 use Rattle.top.proofs.Words.{lay, slots-lay, top-is, padded-is, head-long, ready-inside, ready-is}
@@ -51,7 +52,7 @@ marks-without B K first w S h e l =
 map-without : (f : Rec → ℕ) (at gap : ℕ) (S : List Rec) → f blankRec ≡ 0 → map f (without at gap blankRec S) ≡ without at gap 0 (map f S)
 map-without f at gap S e =
     map-append f (take at S) (drop (at + gap) S ++ replicate gap blankRec)
-    ∙ rw (← map-take f at S, map-append f (drop (at + gap) S) (replicate gap blankRec), ← map-drop f (at + gap) S, map-replicate f gap blankRec, e)
+    ∙ rw (map-take f at S, map-append f (drop (at + gap) S) (replicate gap blankRec), map-drop f (at + gap) S, map-replicate f gap blankRec, e)
 
 -- one part at a time
 module _ (g : Geometry) (h m k v r : List ℕ) (at gap : ℕ) (eh : length h ≡ 12) where

@@ -1,12 +1,12 @@
 -- Level 0's edits against the words of a store, for the calls.
-use Prim.Native.Nat.{ℕ, zero, suc, _+_, _*_, _^_, _≤_, _<_}
+use Prim.Native.Nat.{ℕ, zero, suc, _+_, _*_, _^_, _≤_}
 use mathlib.Core.Path.{_≡_, refl, sym, ap, _∙_}
 use mathlib.Core.Bool.{true}
 use mathlib.Core.List.{List, [], _∷_, _++_, append-assoc}
 use native.Mathlib.Nat.{add-zero}
 use native.Mathlib.Omega.{arith}
 use lib.Dec.{ltb}
-use lib.ListN.{length, take, drop, set, length-append, length-set}
+use lib.ListN.{length, take, drop, set}
 use lib.Seq.{take-at, drop-at, take-nil, drop-nil, take-add, drop-drop, take-append-seam}
 use Rattle.geometry.specs.declared.Geometry.{Geometry}
 use Rattle.geometry.specs.Geometry.{Valid, capacityOf, topCapacityOf, marksStart, listStart, blockWidth}
@@ -17,17 +17,15 @@ use Rattle.levels.specs.Sound.{Fits, Sound}
 use Rattle.levels.proofs.Basics.{and-left}
 use Rattle.levels.proofs.Compaction.{pages-records}
 use Rattle.levels.proofs.Levels.{records-append}
-use Rattle.levels.proofs.Pages.{pages-cons}
+use Rattle.levels.proofs.Pages.{pages-step}
 use Rattle.words.specs.Layout.{word, topCountAt, topSlots, topRecs, each, headerWords, topWords, listWords, storeWords, part, topLength}
 use Rattle.words.specs.Form.{topUnusedZero}
 use Rattle.words.proofs.Parts.{part-mid}
 use Rattle.words.proofs.Slots.{padRecs, pad-blank}
-use Rattle.words.proofs.Top.{top-words-length, top-marks, top-read, top-slots-length}
-use Rattle.words.proofs.State.{top-end, top-inside, header-length, words-length}
+use Rattle.words.proofs.Top.{top-marks, top-read}
+use Rattle.words.proofs.State.{top-inside, header-12, top-long, upper-long, words-length}
 use Rattle.words.proofs.Form.{all-part, marks-small}
-use Rattle.top.specs.declared.Slot.{Slot}
-use Rattle.top.specs.Top.{TopReady, withSlots, withTop, withSlot, recOf}
-use Rattle.top.proofs.Words.{ready-inside, ready-is, slot-set, slots-back}
+use Rattle.top.specs.Top.{TopReady, withTop}
 
 -- c is word 8, and nothing else in the header
 header-count : (g : Geometry) (t : Store) (rs : List Rec) → set (headerWords g t) 8 (length rs) ≡ headerWords g (record { live = t .live; cursor = t .cursor; top = rs; levels = t .levels })
@@ -36,12 +34,6 @@ header-count g t rs = refl
 
 -- The words of a store t.
 module _ (g : Geometry) (t : Store) (area : List ℕ) (v : Valid g) (f : Fits g t) where
-  header-12 : length (headerWords g t) ≡ 12
-  header-12 = header-length g t (omega (arith, f .level-count, v .ranged .h-high))
-
-  top-long : length (topWords g (t .top)) ≡ topLength g
-  top-long = top-words-length g (t .top) (omega (arith, v .ranged .b-low)) (f .top-fits)
-
   -- other records in level 0's words are the words of the store with these records
   pub with-top-words : (rs : List Rec) → withTop g (storeWords g t area) rs ≡ storeWords g (record { live = t .live; cursor = t .cursor; top = rs; levels = t .levels }) area
   unfolding withTop storeWords marksStart
@@ -49,15 +41,15 @@ module _ (g : Geometry) (t : Store) (area : List ℕ) (v : Valid g) (f : Fits g 
       let H = headerWords g t in
       let W = topWords g (t .top) in
       let R = listWords g 1 (t .levels) ++ area in
-      let n : length (H ++ W) ≡ listStart g 1 = rw (length-append, header-12, top-long) (top-end g) in
+      let n : length (H ++ W) ≡ listStart g 1 = upper-long g t v f in
       let d : drop (listStart g 1) (H ++ (W ++ R)) ≡ R = rw (← append-assoc H W R) (drop-at (H ++ W) R (listStart g 1) n) in
       let s : set H 8 (length rs) ≡ headerWords g (record { live = t .live; cursor = t .cursor; top = rs; levels = t .levels }) = header-count g t rs in
-      rw (take-at H (W ++ R) 12 header-12, d, s)
+      rw (take-at H (W ++ R) 12 (header-12 g t v f), d, s)
 
   -- level 0's part of them
   top-part : part (storeWords g t area) (marksStart g) (topLength g) ≡ topWords g (t .top)
   unfolding storeWords marksStart
-  top-part = part-mid (headerWords g t) (topWords g (t .top)) (listWords g 1 (t .levels) ++ area) 12 (topLength g) header-12 top-long
+  top-part = part-mid (headerWords g t) (topWords g (t .top)) (listWords g 1 (t .levels) ++ area) 12 (topLength g) (header-12 g t v f) (top-long g t v f)
 
   pub top-count-back : topCountAt (storeWords g t area) ≡ length (t .top)
   unfolding storeWords headerWords
@@ -102,32 +94,13 @@ pub set-live : (g : Geometry) (t : Store) (area : List ℕ) (n : ℕ) → set (s
 unfolding storeWords headerWords
 set-live g t area n = refl
 
--- A slot written.
-module _ (g : Geometry) (ws : List ℕ) (t : TopReady g ws) (j : ℕ) (r : Slot) (h : j < topCapacityOf g) where
-  abbrev now : List Rec
-  now = set (topSlots g ws) j (recOf r)
-
-  now-long : length now ≡ topCapacityOf g
-  now-long = length-set (topSlots g ws) j (recOf r) ∙ top-slots-length g ws
-
-  -- that slot and no other word of the store changes
-  pub slot-written : withSlot g ws j r ≡ withSlots g ws now
-  slot-written =
-      let k = ready-inside g ws t in
-      ap (λ (us : List ℕ). withSlot g us j r) (sym (ready-is g ws t)) ∙ slot-set g ws (k .ranged) (k .inside) (topSlots g ws) (top-slots-length g ws) j h r
-
-  pub slots-set : topSlots g (withSlot g ws j r) ≡ now
-  slots-set =
-      let k = ready-inside g ws t in
-      ap (topSlots g) slot-written ∙ slots-back g ws (k .ranged) (k .inside) now now-long
-
 -- "Level 0 counts as pages of B records from its start": the first n pages, and those after them
 pub pages-take : (B n : ℕ) (rs : List Rec) → 1 ≤ B → records (take n (pages B rs)) ≡ take (n * B) rs
 pages-take B zero rs h = let z : 0 * B ≡ 0 = omega arith in rw z
 pages-take B (suc n) [] h = sym (take-nil (suc n * B))
 pages-take B (suc n) (r ∷ rs) h =
     let z : suc n * B ≡ B + n * B = omega arith in
-    ap (λ (l : Level). records (take (suc n) l)) (pages-cons B r rs h)
+    ap (λ (l : Level). records (take (suc n) l)) (pages-step B (r ∷ rs) h (omega arith))
     ∙ rw (pages-take B n (drop B (r ∷ rs)) h, z) (sym (take-add B (n * B) (r ∷ rs)))
 
 pub pages-drop : (B n : ℕ) (rs : List Rec) → 1 ≤ B → records (drop n (pages B rs)) ≡ drop (n * B) rs
@@ -135,7 +108,7 @@ pages-drop B zero rs h = let z : 0 * B ≡ 0 = omega arith in rw z (pages-record
 pages-drop B (suc n) [] h = sym (drop-nil (suc n * B))
 pages-drop B (suc n) (r ∷ rs) h =
     let z : suc n * B ≡ B + n * B = omega arith in
-    ap (λ (l : Level). records (drop (suc n) l)) (pages-cons B r rs h)
+    ap (λ (l : Level). records (drop (suc n) l)) (pages-step B (r ∷ rs) h (omega arith))
     ∙ pages-drop B n (drop B (r ∷ rs)) h ∙ rw (z) (drop-drop (n * B) B (r ∷ rs))
 
 -- "X leaves; in level 0 the later records move up and close the gap"

@@ -1,7 +1,7 @@
 -- Lists: an element set or read in the second of two lists, and a list that another one replaces from its start on.
 use Prim.Native.Nat.{ℕ, zero, suc, _+_, _≤_, _<_}
 use mathlib.Core.Path.{_≡_, refl, ap}
-use mathlib.Core.List.{List, [], _∷_, _++_, map}
+use mathlib.Core.List.{List, [], _∷_, _++_}
 use native.Mathlib.Nat.{suc-add, zero-add, add-zero}
 use native.Mathlib.Omega.{arith}
 use lib.ListN.{length, take, drop, getD, set, length-append, length-drop}
@@ -52,13 +52,3 @@ module _ {A : Type 0} where
 
   pub pushed-before : (i : ℕ) (r : A) (S : List A) → i ≤ length S → take i (pushedIn i r S) ≡ take i S
   pushed-before i r S h = take-at (take i S) (r ∷ drop i S) i (length-take-le i S h)
-
-pub map-set : {A B : Type 0} (f : A → B) (xs : List A) (i : ℕ) (a : A) → map f (set xs i a) ≡ set (map f xs) i (f a)
-map-set f [] i a = refl
-map-set f (x ∷ xs) zero a = refl
-map-set {B = B} f (x ∷ xs) (suc i) a = ap (λ (l : List B). f x ∷ l) (map-set f xs i a)
-
-pub map-at : {A B : Type 0} (f : A → B) (xs : List A) (i : ℕ) (a : A) (b : B) → i < length xs → getD (map f xs) i b ≡ f (getD xs i a)
-map-at f [] i a b h = absurd (omega arith)
-map-at f (x ∷ xs) zero a b h = refl
-map-at f (x ∷ xs) (suc i) a b h = map-at f xs i a b (omega arith)

@@ -1,17 +1,17 @@
 -- Mark words: one bit set, and the mark words of pages when one record changes.
 use Prim.Native.Nat.{ℕ, zero, suc, _+_, _-_, _*_, _/_, _%_, _^_, _≤_, _<_}
-use mathlib.Core.Path.{_≡_, refl, sym, ap, _∙_}
+use mathlib.Core.Path.{_≡_, ap, _∙_}
 use mathlib.Core.Bool.{Bool, true, false}
-use mathlib.Core.List.{List, [], _∷_, map}
-use native.Mathlib.Nat.{pow-succ', div-one, div-div-eq-div-mul, mul-left-comm}
+use mathlib.Core.List.{List, [], _∷_}
+use native.Mathlib.Nat.{pow-succ', div-one, mul-left-comm}
 use native.Mathlib.Omega.{arith}
 use lib.Dec.{eqb}
 use lib.Pow.{pow-mono}
-use lib.ListN.{length, take, drop, getD, set, length-drop}
+use lib.ListN.{length, take, drop, getD, set, length-drop, length-take, List·getD-map}
 use lib.Seq.{take-set-lt, take-set-le, drop-set-lt, drop-set-add, drop-drop, length-take-le, getD-take, getD-drop}
 use Rattle.levels.specs.Record.{Rec}
 use Rattle.words.specs.Layout.{bit, markWord}
-use Rattle.words.proofs.Slots.{bits-high, bit-of, mark-bit, mark-low, blankRec}
+use Rattle.words.proofs.Slots.{shift-suc, bits-high, bit-of, mark-bit, mark-low, blankRec}
 use Rattle.words.proofs.Top.{marksOf}
 use Rattle.top.specs.Top.{setBit}
 
@@ -34,9 +34,8 @@ bit-moves : (m j : ℕ) (t : Bool) → setBit m j t + bit (eqb (m / 2 ^ j % 2) 1
 unfolding setBit
 bit-moves m zero t = rw (div-one, bit-of m) (omega arith)
 bit-moves m (suc j) t =
-    let e : m / 2 / 2 ^ j ≡ m / 2 ^ suc j = div-div-eq-div-mul m 2 (2 ^ j) ∙ rw (← pow-succ' 2 j) in
     let w = bit (eqb (m / 2 ^ suc j % 2) 1) in
-    let k : setBit (m / 2) j t + w * 2 ^ j ≡ m / 2 + bit t * 2 ^ j = rw e at (bit-moves (m / 2) j t) in
+    let k : setBit (m / 2) j t + w * 2 ^ j ≡ m / 2 + bit t * 2 ^ j = rw (← shift-suc m j) at (bit-moves (m / 2) j t) in
     let n : m % 2 + 2 * (m / 2) ≡ m = omega arith in
     rw (n, ← pow-succ' 2 j) at (doubled (setBit (m / 2) j t) w (2 ^ j) (m / 2) (bit t) (m % 2) k)
 
@@ -67,12 +66,7 @@ marks-bit B n q b S h l i =
     let p = take B (drop (q * B) S) in
     let f : getD (drop (q * B) S) b blankRec ≡ getD S (q * B + b) blankRec = getD-drop (q * B) S b blankRec in
     rw (marks-at B n q S h)
-    (mark-bit p b ∙ sym (bits p b) ∙ ap (λ (r : Rec). r .tombstone) (getD-take B (drop (q * B) S) b blankRec l ∙ f))
-  where
-    bits : (rs : List Rec) (j : ℕ) → getD rs j blankRec .tombstone ≡ getD (map (λ (r : Rec). r .tombstone) rs) j false
-    bits [] j = refl
-    bits (r ∷ rs) zero = refl
-    bits (r ∷ rs) (suc j) = bits rs j
+    (mark-bit p b ∙ List·getD-map (λ (r : Rec). r .tombstone) p b blankRec ∙ ap (λ (r : Rec). r .tombstone) (getD-take B (drop (q * B) S) b blankRec l ∙ f))
 
 -- a record that changes changes its bit of its page's mark word
 pub marks-set : (B n q b : ℕ) (S : List Rec) (r : Rec) → q < n → b < B → n * B ≤ length S → marksOf B n (set S (q * B + b) r) ≡ set (marksOf B n S) q (setBit (getD (marksOf B n S) q 0) b (r .tombstone))
@@ -88,12 +82,7 @@ marks-set B (suc n) (suc q) b S r h l i =
 -- a mark word of a page has no bit from B on
 pub marks-low : (B n q : ℕ) (S : List Rec) → q < n → getD (marksOf B n S) q 0 < 2 ^ B
 marks-low B n q S h =
-    rw (marks-at B n q S h) (mark-low B (take B (drop (q * B) S)) (take-most B (drop (q * B) S)))
-  where
-    take-most : (n : ℕ) (xs : List Rec) → length (take n xs) ≤ n
-    take-most zero xs = omega arith
-    take-most (suc n) [] = omega arith
-    take-most (suc n) (x ∷ xs) = omega (arith, take-most n xs)
+    rw (marks-at B n q S h) (mark-low B (take B (drop (q * B) S)) (rw length-take (omega arith)))
 
 -- the code's word of bit j alone, added and taken away
 pub one-bit : (j : ℕ) → j < 16 → (1 * 2 ^ j % 4294967296 ≡ 2 ^ j) × (2 ^ j ≤ 32768)

@@ -13,6 +13,7 @@ use Rattle.levels.specs.Basics.{isSome}
 use Rattle.levels.specs.Map.{find}
 use Rattle.levels.specs.Put.{insert}
 use Rattle.levels.specs.Rising.{Rising}
+use Rattle.levels.proofs.Overlay.{find-below}
 use Rattle.words.proofs.Slots.{blankRec}
 use Rattle.top.specs.declared.Spot.{Spot}
 use Rattle.top.specs.declared.Spot.the-variants.{Found, Gap}
@@ -68,11 +69,6 @@ spot-gap k low (r ∷ rs) (suc i) h l a b =
     head-below zero ss h l a = a
     head-below (suc i) ss h l a = let q : keyAt ss i < k = a in omega (arith, rising-at (suc (r .key)) ss i h (omega arith))
 
-find-none : (k low : ℕ) (rs : List Rec) → Rising low rs → k < low → find k rs ≡ none
-unfolding find
-find-none k low [] h l = refl
-find-none k low (r ∷ rs) h l = rw (ne-eqb (r .key) k (λ e. omega (arith, h .0)), find) (find-none k (suc (r .key)) rs (h .1) (omega (arith, h .0)))
-
 -- a key is found where it is there
 pub spot-is : (k low : ℕ) (rs : List Rec) → Rising low rs → isSome (find k rs) ≡ isFound (spotOf k rs)
 unfolding find spotOf
@@ -86,7 +82,7 @@ spot-is k low (r ∷ rs) h = go (ltb k (r .key)) (eqb k (r .key)) refl refl (spo
     go : (s t : Bool) → ltb k (r .key) ≡ s → eqb k (r .key) ≡ t → isSome (find k rs) ≡ isFound (spotOf k rs) → isSome (find k (r ∷ rs)) ≡ isFound (spotOf k (r ∷ rs))
     go true t e f ih =
         let l = ltb-true k (r .key) e in
-        let n : find k rs ≡ none = find-none k (suc (r .key)) rs (h .1) (omega arith) in
+        let n : find k rs ≡ none = find-below k (suc (r .key)) rs (h .1) (omega arith) in
         rw (e, spotOf, ne-eqb (r .key) k (λ x. omega arith), find, n)
     go false true e f ih = rw (e, f, spotOf, eq-eqb (r .key) k (sym (eqb-true k (r .key) f)), find)
     go false false e f ih = rw (e, f, spotOf, ne-eqb (r .key) k (λ x. eqb-false k (r .key) f (sym x)), find) (ih ∙ sym (same-found (spotOf k rs)))

@@ -1,32 +1,27 @@
 -- The words of a store around level 0: its three parts between the header and the lists.
 use Prim.Native.Nat.{ℕ, _+_, _-_, _*_, _/_, _%_, _^_, _≤_, _<_}
 use mathlib.Core.Path.{_≡_, sym, ap, _∙_}
-use mathlib.Core.Bool.{true, and-eq-true-iff}
 use mathlib.Core.List.{List, _++_, append-assoc, append-nil}
-use native.Mathlib.Nat.{div-add-mod', mod-lt, div-lt-iff-lt-mul, add-zero}
+use native.Mathlib.Nat.{div-add-mod', mod-lt, div-lt-iff-lt-mul}
 use native.Mathlib.Omega.{arith}
-use lib.Dec.{ltb, eqb}
+use lib.Dec.{eqb}
 use lib.ListN.{length, take, drop, getD, set, length-append, length-drop, length-set, length-map, List·getD-append, take-append-drop}
 use lib.Pow.{pow-mono}
 use lib.Seq.{set-append-left, length-take-le, getD-take}
-use borrow.Author.Tests.{ltb-true}
 use Rattle.geometry.specs.declared.Geometry.{Geometry}
 use Rattle.geometry.specs.Geometry.{Ranged, capacityOf, topCapacityOf, marksStart, keysStart, paysStart, listStart}
 use Rattle.geometry.proofs.Laws.{pays-end, store-length-high}
 use Rattle.levels.specs.Record.{Rec}
-use Rattle.levels.specs.Basics.{all}
-use Rattle.levels.specs.Every.{Every}
-use Rattle.levels.proofs.Every.{every-turn, every-of-all}
-use Rattle.words.specs.Layout.{word, topCountAt, topSlots, topRecs, keysOf, paysOf, topWords, each, part, topLength}
-use Rattle.words.specs.Form.{blank, topUnusedZero}
-use Rattle.words.proofs.Parts.{part-mid, part-rest}
+use Rattle.levels.proofs.Lists.{getD-map-in, map-set}
+use Rattle.words.specs.Layout.{word, topCountAt, topSlots, topRecs, keysOf, paysOf, topWords, topLength}
+use Rattle.words.proofs.Parts.{part-rest}
 use Rattle.words.proofs.Slots.{padRecs, pad-recs-length, blankRec, unpad}
-use Rattle.words.proofs.Top.{marksOf, marks-length, top-words-pad, top-words-length, top-slots-length, top-read, top-written}
+use Rattle.words.proofs.Top.{marksOf, marks-length, top-words-pad, top-words-length, top-slots-length, top-length, top-written}
 use Rattle.words.proofs.State.{top-end, top-inside, lists-inside}
-use Rattle.words.proofs.Form.{all-part}
+use Rattle.words.proofs.Form.{top-unused, mark-words-low}
 use Rattle.top.specs.declared.Slot.{Slot}
 use Rattle.top.specs.Top.{TopInside, TopReady, withSlots, withTop, slotAt, setBit, withSlot, recOf}
-use Rattle.top.proofs.Lists.{set-right, getD-right, map-set, map-at}
+use Rattle.top.proofs.Lists.{set-right, getD-right}
 use Rattle.top.proofs.Marks.{marks-bit, marks-set, marks-low}
 
 -- header, mark words, keys, payloads and the rest
@@ -136,12 +131,12 @@ module _ (g : Geometry) (ws : List ℕ) (k : Ranged g) (i : listStart g 1 ≤ le
     pub slot-key : word (withSlots g ws S) (keysStart g + j) ≡ getD S j blankRec .key
     slot-key =
         rw (slots-lay S e) (lay-key g H M (keysOf S) (paysOf S) R head-long (marks-length _ _ S) j (rw (length-map S, e) h)
-        ∙ map-at (λ (r : Rec). r .key) S j blankRec 0 (rw e h))
+        ∙ getD-map-in (λ (r : Rec). r .key) S j blankRec 0 (rw e h))
 
     slot-pay : word (withSlots g ws S) (paysStart g + j) ≡ getD S j blankRec .pay
     slot-pay =
         rw (slots-lay S e) (lay-pay g H M (keysOf S) (paysOf S) R head-long (marks-length _ _ S) (rw (length-map S) e) j (rw (length-map S, e) h)
-        ∙ map-at (λ (r : Rec). r .pay) S j blankRec 0 (rw e h))
+        ∙ getD-map-in (λ (r : Rec). r .pay) S j blankRec 0 (rw e h))
 
     -- slot j read
     pub slot-read : recOf (slotAt g (withSlots g ws S) j) ≡ getD S j blankRec
@@ -168,21 +163,6 @@ module _ (g : Geometry) (ws : List ℕ) (k : Ranged g) (i : listStart g 1 ≤ le
         ∙ ap (λ (us : List ℕ). set us (marksStart g + q) m) (lay-set-pay g H M ks (paysOf S) R head-long (marks-length _ _ S) (rw (length-set, length-map S) e) j (r .pay) (rw (length-map S, e) h))
         ∙ lay-set-mark g H M ks vs R head-long q m (rw marks-length (p .0))
         ∙ rw (← w, ← map-set (λ (x : Rec). x .key) S j (recOf r), ← map-set (λ (x : Rec). x .pay) S j (recOf r)) (sym (slots-lay (set S j (recOf r)) (length-set S j (recOf r) ∙ e))))
-
-  -- no mark word has a bit from B on
-  pub slots-low : (S : List Rec) → length S ≡ topCapacityOf g → (q : ℕ) → q < capacityOf g 0 → word (withSlots g ws S) (marksStart g + q) < 2 ^ g .b
-  slots-low S e q h =
-      rw (slots-lay S e, lay-mark g (take 12 ws) (marksOf (g .b) (capacityOf g 0) S) (keysOf S) (paysOf S) (drop (listStart g 1) ws) head-long q (rw marks-length h))
-      (marks-low (g .b) (capacityOf g 0) q S h)
-
-  -- the slots read back
-  pub slots-back : (S : List Rec) → length S ≡ topCapacityOf g → topSlots g (withSlots g ws S) ≡ S
-  unfolding withSlots marksStart
-  slots-back S e =
-      let b : 1 ≤ g .b = omega (arith, k .b-low) in
-      let l = top-words-length g S b (omega arith) in
-      let n : marksStart g + topLength g ≤ length (withSlots g ws S) = rw (length-append, length-append, l, head-long) (omega (arith, top-end g)) in
-      top-read g (withSlots g ws S) S b (omega arith) (part-mid (take 12 ws) (topWords g S) (drop (listStart g 1) ws) 12 (topLength g) head-long l) n ∙ pad-full (topCapacityOf g) S e
 
   -- other slots, the same length
   pub slots-long : (S : List Rec) → length S ≡ topCapacityOf g → length (withSlots g ws S) ≡ length ws
@@ -227,30 +207,19 @@ module _ (g : Geometry) (ws : List ℕ) (t : TopReady g ws) where
   ready-inside =
       record { ranged = t .valid .ranged; inside = omega (arith, lists-inside g ws (t .words)); short = rw (t .words) (store-length-high g (t .valid)) }
 
-  unused : (all blank (drop (topCountAt ws) (topSlots g ws)) ≡ true) × (all (λ (i : ℕ). ltb (word ws (marksStart g + i)) (2 ^ g .b)) (each (λ (i : ℕ). i) 0 (capacityOf g 0)) ≡ true)
-  unfolding topUnusedZero
-  unused = (and-eq-true-iff _ _) .0 (t .unused)
-
-  words-low : Every (λ m. m < 2 ^ g .b) (part ws (marksStart g) (capacityOf g 0))
-  words-low =
-      let e = all-part (λ (m : ℕ). ltb m (2 ^ g .b)) ws (marksStart g) (capacityOf g 0) 0 (omega (arith, top-inside g ws (t .words))) in
-      every-turn (λ m. ltb m (2 ^ g .b) ≡ true) (λ m. m < 2 ^ g .b) (part ws (marksStart g) (capacityOf g 0)) (λ m b. ltb-true _ _ b)
-      (every-of-all (λ (m : ℕ). ltb m (2 ^ g .b)) (part ws (marksStart g) (capacityOf g 0)) (rw add-zero at (sym e ∙ unused .1)))
-
   pub ready-count : length (topRecs g ws) ≡ topCountAt ws
-  unfolding topRecs
-  ready-count = length-take-le (topCountAt ws) (topSlots g ws) (rw top-slots-length (t .fits))
+  ready-count = top-length g ws (t .fits)
 
   -- the slots are the records and blank ones
   pub ready-slots : topSlots g ws ≡ padRecs (topCapacityOf g) (topRecs g ws)
   unfolding topRecs
-  ready-slots = sym (unpad (topCapacityOf g) (topCountAt ws) (topSlots g ws) (top-slots-length g ws) (t .fits) (unused .0))
+  ready-slots = sym (unpad (topCapacityOf g) (topCountAt ws) (topSlots g ws) (top-slots-length g ws) (t .fits) (top-unused g ws (t .unused) .0))
 
   -- the words are those of the records
   pub ready-recs : withSlots g ws (topRecs g ws) ≡ ws
   unfolding withSlots topRecs marksStart
   ready-recs =
-      let w = top-written g ws (topCountAt ws) (omega (arith, t .valid .ranged .b-low)) (t .fits) (top-inside g ws (t .words)) (unused .0) words-low in
+      let w = top-written g ws (topCountAt ws) (omega (arith, t .valid .ranged .b-low)) (t .fits) (top-inside g ws (t .words)) (top-unused g ws (t .unused) .0) (mark-words-low g ws (t .words) (t .unused)) in
       let e : 12 + topLength g ≡ listStart g 1 = top-end g in
       rw (w, ← e, ← part-rest ws 12 (topLength g)) (take-append-drop 12 ws)
 

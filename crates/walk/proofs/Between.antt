@@ -9,17 +9,17 @@ use native.Mathlib.Omega.{arith}
 use lib.Dec.{eqb}
 use lib.ListN.{length, length-append}
 use Rattle.levels.specs.Record.{Rec}
-use Rattle.levels.specs.Map.{overlay, into, unmarked}
+use Rattle.levels.specs.Map.{overlay, unmarked}
 use Rattle.levels.proofs.Rising.{below-append}
 use Rattle.levels.specs.Rising.{Below}
-use Rattle.levels.proofs.Overlay.{into-below}
+use Rattle.levels.proofs.Overlay.{into-below, overlay-nil}
 use Rattle.words.specs.Layout.{word}
 use Rattle.chunks.specs.Peel.{Least, liveBit}
 use Rattle.chunks.proofs.Overlay.{live-cons}
 use Rattle.directory.specs.declared.Directory.{Directory}
 use Rattle.directory.specs.Directory.{recordsFrom, recordsOf}
 use Rattle.walk.specs.declared.Cursor.{Cursor}
-use Rattle.walk.specs.Walk.{rest, Good, Skims, four, layered, Smaller, LeastOf}
+use Rattle.walk.specs.Walk.{rest, Good, Skims, four, layered, Smaller}
 use Rattle.walk.proofs.Rest.{headOf, more, rest-alive, alive-of, least-of, more-chunk, more-last, step-chunk}
 use Rattle.walk.proofs.Four.{Abreast, rests}
 
@@ -91,20 +91,6 @@ module _ (ws : List ℕ) (d : Directory) (c : Cursor) (bound : ℕ) (after : Cur
 key-high : (ws : List ℕ) (d : Directory) (c : Cursor) → Good ws d c → c .key ≤ 4294967296
 key-high ws d c g = dite (decLt 0 (c .chunk .count)) (λ y. omega (arith, g .alive y .1)) (λ n. omega (arith, g .ended (omega arith) .0))
 
--- the least of four numbers, taken one after the other
-pub least-row : (a b c d x y r : ℕ) → Smaller a b x → Smaller x c y → Smaller y d r → LeastOf a b c d r
-least-row a b c d x y r p q s =
-    let u = p .low0 in
-    let v = p .low1 in
-    let w = q .low0 in
-    let z = q .low1 in
-    let i = s .low0 in
-    let j = s .low1 in
-    record { low0 = omega arith; low1 = omega arith; low2 = omega arith; low3 = omega arith; hit = hit }
-  where
-    hit : (a ≡ r → ⊥) → (b ≡ r → ⊥) → (c ≡ r → ⊥) → d ≡ r
-    hit na nb nc = s .hit (λ f. nc (q .hit (λ e. nb (p .hit (λ t. na (t ∙ e ∙ f)) ∙ e ∙ f)) ∙ f))
-
 -- four cursors, the last of which skims up to the least key of the others
 module _ (ws : List ℕ) (d0 d1 d2 d3 : Directory) (c0 c1 c2 c3 : Cursor) (g : Abreast ws d0 d1 d2 d3 c0 c1 c2 c3) (x y : ℕ) (p : Smaller (c0 .key) (c1 .key) x) (q : Smaller x (c2 .key) y) where
   pub bound-high : y ≤ 4294967296
@@ -121,11 +107,6 @@ module _ (ws : List ℕ) (d0 d1 d2 d3 : Directory) (c0 c1 c2 c3 : Cursor) (g : A
         (least-of ws d0 c0 (g .good0) y (omega (arith, p .low0, q .low0))) (least-of ws d1 c1 (g .good1) y (omega (arith, p .low1, q .low0))) (least-of ws d2 c2 (g .good2) y (q .low1)) (k .below))
 
 -- an empty list changes nothing, first or last
-pub overlay-nil : (xs : List Rec) → overlay xs [] ≡ xs
-unfolding overlay into
-overlay-nil [] = refl
-overlay-nil (x ∷ xs) = rw (overlay-nil xs)
-
 four-around : (a b c d : List Rec) → d ≡ [] → four a b c d ≡ four d a b c
 unfolding overlay
 four-around a b c d e = rw (e, overlay-nil c)

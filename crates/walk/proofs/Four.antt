@@ -17,7 +17,7 @@ use Rattle.words.specs.Layout.{word}
 use Rattle.chunks.specs.declared.Chunk.{Chunk}
 use Rattle.chunks.specs.Chunks.{chunkRecs}
 use Rattle.chunks.specs.Peel.{taken, past, orList, liveBit}
-use Rattle.chunks.proofs.Slots.{slots-length}
+use Rattle.words.proofs.Slots.{slots-length}
 use Rattle.chunks.proofs.Overlay.{overlay-cut, live-cons, next-here, next-past, four-live-high}
 use Rattle.directory.specs.declared.Directory.{Directory}
 use Rattle.directory.specs.Directory.{Formed, recordsFrom, recordsOf, chunkAt}
@@ -135,16 +135,21 @@ live-count-high ws d0 d1 d2 d3 f0 f1 f2 f3 =
     let p = four-live-high (recordsOf ws d0) (recordsOf ws d1) (recordsOf ws d2) (recordsOf ws d3) in
     omega (arith, level-length ws d0 f0, level-length ws d1 f1, level-length ws d2 f2, level-length ws d3 f3)
 
--- the smaller of two smaller numbers is the least of four
+-- the least of four numbers, taken one after the other
+pub least-row : (a b c d x y r : ℕ) → Smaller a b x → Smaller x c y → Smaller y d r → LeastOf a b c d r
+least-row a b c d x y r p q s =
+    record {
+      low0 = omega (arith, p .low0, q .low0, s .low0);
+      low1 = omega (arith, p .low1, q .low0, s .low0);
+      low2 = omega (arith, q .low1, s .low0);
+      low3 = s .low1;
+      hit = λ na nb nc. s .hit (λ f. nc (q .hit (λ e. nb (p .hit (λ t. na (t ∙ e ∙ f)) ∙ e ∙ f)) ∙ f));
+    }
+
+-- or as the smaller of two smaller numbers
 pub least-join : (a b c d x y r : ℕ) → Smaller a b x → Smaller c d y → Smaller x y r → LeastOf a b c d r
 least-join a b c d x y r p q s =
-    let u = p .low0 in
-    let v = p .low1 in
-    let w = q .low0 in
-    let z = q .low1 in
-    let i = s .low0 in
-    let j = s .low1 in
-    record { low0 = omega arith; low1 = omega arith; low2 = omega arith; low3 = omega arith; hit = hit }
+    record { low0 = omega (arith, p .low0, s .low0); low1 = omega (arith, p .low1, s .low0); low2 = omega (arith, q .low0, s .low1); low3 = omega (arith, q .low1, s .low1); hit = hit }
   where
     hit : (a ≡ r → ⊥) → (b ≡ r → ⊥) → (c ≡ r → ⊥) → d ≡ r
     hit na nb nc = dite (ℕ-discrete x r)

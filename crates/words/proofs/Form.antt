@@ -3,12 +3,11 @@ use Prim.Native.Nat.{ℕ, zero, suc, _+_, _-_, _^_, _≤_, _<_}
 use mathlib.Core.Path.{_≡_, refl, sym, ap, _∙_}
 use mathlib.Core.Bool.{Bool, true, false, not, _&&_, and-eq-true-iff}
 use mathlib.Core.List.{List, [], _∷_, map, map-append}
-use native.Mathlib.Nat.{add-zero, add-suc, suc-add}
+use native.Mathlib.Nat.{add-zero}
 use native.Mathlib.Numerals.{one-add}
 use native.Mathlib.Omega.{arith}
 use lib.Dec.{leb, ltb}
-use lib.ListN.{length, take, drop, getD, length-take, length-drop, List·getD-map, List·getD-eq-default}
-use lib.Seq.{length-take-le}
+use lib.ListN.{length, take, drop, getD, length-take, length-drop, List·getD-eq-default}
 use borrow.Author.Tests.{leb-true, leb-false, ltb-true, eqb-true, not-true, le-leb, lt-ltb, eq-eqb, lt-leb}
 use Rattle.geometry.specs.declared.Geometry.{Geometry}
 use Rattle.geometry.specs.Geometry.{Valid, within, capacityOf, capacitySum, flashCapacityOf, topCapacityOf, marksStart, listStart, storeLength}
@@ -24,13 +23,14 @@ use Rattle.levels.proofs.Every.{every-turn, every-both, every-map, every-of-all
 use Rattle.words.specs.Layout.{word, geometryAt, topCountAt, countAt, topSlots, topRecs, listedAt, recordCount, markWordAt, blockSlots, blockAt, levelAt, each, storeAt, pad, placeOf, headerWords, listWords, blockWords, areaOf, storeWords, part, placeWords}
 use Rattle.words.specs.Form.{allListed, listedPlaces, blank, liveExact, liveFits, cursorInside, topFits, roomOf, countsFit, placesInside, placesOnce, blocksFilled, keysRise, bottomUnmarked, topUnusedZero, listsUnusedZero, blocksUnusedZero, tombstonesClean, pairsKept, levelsKept, clauses, formed}
 use Rattle.words.specs.Passed.{Laid}
-use Rattle.words.proofs.Parts.{part-word, pad-word, part-cons}
-use Rattle.words.proofs.Slots.{slots-length, mark-low, padRecs, pad-blank}
-use Rattle.words.proofs.Blocks.{place-words, place-below, count-read, mark-read, slots-read, block-written}
-use Rattle.words.proofs.Top.{marksOf, top-slots-length, top-marks, top-written}
+use Rattle.words.proofs.Each.{length-each, getD-each, all-each, all-each-at}
+use Rattle.words.proofs.Parts.{part-cons}
+use Rattle.words.proofs.Slots.{mark-low, padRecs, pad-blank}
+use Rattle.words.proofs.Blocks.{place-words, place-below, block-size, count-read, mark-read, slots-read, block-written}
+use Rattle.words.proofs.Top.{marksOf, top-length, top-marks, top-written}
 use Rattle.words.proofs.Lists.{Listed, listed-places, listed-zeros, listed-self, listed-words, listed-counts-pad, level-length}
 use Rattle.words.proofs.Laid.{places-are, in-use-are}
-use Rattle.words.proofs.State.{Holds, store-length, lists-inside, top-inside, live-held, cursor-held, top-count-held, counts-held, listed-held, top-inside, top-held, levels-held, store-held, words-hold, held-words}
+use Rattle.words.proofs.State.{Holds, store-length, lists-inside, top-inside, live-held, cursor-held, top-count-held, count-held, listed-held, top-held, levels-held, store-held, words-hold, held-words}
 
 -- the clauses of the form check, each by its name
 pub record Clauses (g : Geometry) (ws : List ℕ) : Type 0 where
@@ -79,20 +79,6 @@ unfolding formed clauses
 clauses-formed g ws k =
     rw (k .live-exact, k .live-fits, k .cursor-inside, k .top-fits, k .counts-fit, k .places-inside, k .places-once, k .blocks-filled, k .keys-rise, k .bottom-unmarked, k .top-unused, k .lists-unused, k .blocks-unused, k .tombstones-clean, k .pairs-kept, k .levels-kept)
 
--- a test of every level number is a test of every level
-pub all-each : {A : Type 0} (t : A → Bool) (f : ℕ → A) (n i : ℕ) → all (λ (j : ℕ). t (f j)) (each (λ (j : ℕ). j) i n) ≡ all t (each f i n)
-all-each t f zero i = refl
-all-each t f (suc n) i = rw (all-each t f n (suc i))
-
-pub each-at : {A : Type 0} (f : ℕ → A) (n i j : ℕ) (d : A) → j < n → getD (each f i n) j d ≡ f (i + j)
-each-at f zero i j d h = absurd (omega arith)
-each-at f (suc n) i zero d h = rw add-zero
-each-at f (suc n) i (suc j) d h = each-at f n (suc i) j d (omega arith) ∙ rw (suc-add, add-suc)
-
-each-length : {A : Type 0} (f : ℕ → A) (n i : ℕ) → length (each f i n) ≡ n
-each-length f zero i = refl
-each-length f (suc n) i = ap suc (each-length f n (suc i))
-
 -- a test of n words in a row is a test of every word of that part
 pub all-part : (t : ℕ → Bool) (ws : List ℕ) (a n j : ℕ) → a + j + n ≤ length ws → all (λ (i : ℕ). t (word ws (a + i))) (each (λ (i : ℕ). i) j n) ≡ all t (part ws (a + j) n)
 unfolding part
@@ -112,7 +98,7 @@ unfolding blockAt
 places-of-blocks g ws [] = refl
 places-of-blocks g ws (p ∷ ps) = rw (places-of-blocks g ws ps)
 
--- "at most K(i)", "(zero above h)"
+-- "each block count is at most K(i)", "(zero above h)": the room of a level's list
 pub room-level : (g : Geometry) (i : ℕ) → i ≤ g .h → roomOf g i ≡ capacityOf g i
 unfolding roomOf
 room-level g i h = rw (le-leb i (g .h) h)
@@ -121,39 +107,46 @@ pub room-above : (g : Geometry) (i : ℕ) → g .h < i → roomOf g i ≡ 0
 unfolding roomOf
 room-above g i h = rw (lt-leb i (g .h) h)
 
--- for every level number
-pub count-fits : (g : Geometry) (ws : List ℕ) → countsFit g ws ≡ true → (i : ℕ) → 1 ≤ i → i ≤ 3 → countAt ws i ≤ roomOf g i
+count-room : (g : Geometry) (ws : List ℕ) → countsFit g ws ≡ true → (i : ℕ) → 1 ≤ i → i ≤ 3 → countAt ws i ≤ roomOf g i
 unfolding countsFit
-count-fits g ws e i l h = let k = simp and-eq-true-iff at e in go i l h (leb-true _ _ (k .0)) (leb-true _ _ (k .1 .0)) (leb-true _ _ (k .1 .1 .0))
-  where
-    Fit : ℕ → Type 0
-    Fit i = countAt ws i ≤ roomOf g i
+count-room g ws e i l h =
+    let j : 1 + (i - 1) ≡ i = omega arith in
+    let t : ℕ → Bool = λ (i : ℕ). leb (countAt ws i) (roomOf g i) in
+    leb-true _ _ (ap t (sym j) ∙ all-each-at t (λ (i : ℕ). i) 1 3 e (i - 1) (omega arith))
 
-    go : (i : ℕ) → 1 ≤ i → i ≤ 3 → Fit 1 → Fit 2 → Fit 3 → Fit i
-    go zero l h a b c = absurd (omega arith)
-    go (suc zero) l h a b c = a
-    go (suc (suc zero)) l h a b c = b
-    go (suc (suc (suc zero))) l h a b c = c
-    go (suc (suc (suc (suc i)))) l h a b c = absurd (omega arith)
+pub count-low : (g : Geometry) (ws : List ℕ) → countsFit g ws ≡ true → (i : ℕ) → 1 ≤ i → i ≤ 3 → i ≤ g .h → countAt ws i ≤ capacityOf g i
+count-low g ws e i l h k = rw (room-level g i k) at (count-room g ws e i l h)
+
+pub count-empty : (g : Geometry) (ws : List ℕ) → countsFit g ws ≡ true → (i : ℕ) → 1 ≤ i → i ≤ 3 → g .h < i → countAt ws i ≡ 0
+count-empty g ws e i l h k = let n = rw (room-above g i k) at (count-room g ws e i l h) in omega arith
 
 -- level h is the last of the levels
 bottom-level : (g : Geometry) (ws : List ℕ) → 1 ≤ g .h → getD (each (levelAt g ws) 1 (g .h)) (g .h - 1) [] ≡ levelAt g ws (g .h)
 bottom-level g ws h =
     let e : 1 + (g .h - 1) ≡ g .h = omega arith in
-    each-at (levelAt g ws) (g .h) 1 (g .h - 1) [] (omega arith) ∙ ap (levelAt g ws) e
+    getD-each (levelAt g ws) 1 (g .h) (g .h - 1) [] (omega arith) ∙ ap (levelAt g ws) e
+
+-- the two halves of the clause about level 0's unused parts
+pub top-unused : (g : Geometry) (ws : List ℕ) → topUnusedZero g ws ≡ true
+    → (all blank (drop (topCountAt ws) (topSlots g ws)) ≡ true) × (all (λ (i : ℕ). ltb (word ws (marksStart g + i)) (2 ^ g .b)) (each (λ (i : ℕ). i) 0 (capacityOf g 0)) ≡ true)
+unfolding topUnusedZero
+top-unused g ws e = (and-eq-true-iff _ _) .0 e
+
+pub mark-words-low : (g : Geometry) (ws : List ℕ) → length ws ≡ storeLength g → topUnusedZero g ws ≡ true → Every (λ m. m < 2 ^ g .b) (part ws (marksStart g) (capacityOf g 0))
+mark-words-low g ws long z =
+    let e = all-part (λ (m : ℕ). ltb m (2 ^ g .b)) ws (marksStart g) (capacityOf g 0) 0 (omega (arith, top-inside g ws long)) in
+    every-turn (λ m. ltb m (2 ^ g .b) ≡ true) (λ m. m < 2 ^ g .b) (part ws (marksStart g) (capacityOf g 0)) (λ m b. ltb-true _ _ b)
+    (every-of-all (λ (m : ℕ). ltb m (2 ^ g .b)) (part ws (marksStart g) (capacityOf g 0)) (rw add-zero at (sym e ∙ top-unused g ws z .1)))
 
 -- What the form check says of words that pass it.
 module _ (g : Geometry) (ws : List ℕ) (v : Valid g) (long : length ws ≡ storeLength g) (c : Clauses g ws) where
-  count-low : (i : ℕ) → 1 ≤ i → i ≤ g .h → countAt ws i ≤ capacityOf g i
-  count-low i l h = let k = count-fits g ws (c .counts-fit) i l (omega (arith, v .ranged .h-high)) in rw (room-level g i h) at k
-
-  count-none : (i : ℕ) → g .h < i → i ≤ 3 → countAt ws i ≡ 0
-  count-none i l h = let k = rw (room-above g i l) at (count-fits g ws (c .counts-fit) i (omega arith) h) in omega arith
+  count-fits : (i : ℕ) → 1 ≤ i → i ≤ g .h → countAt ws i ≤ capacityOf g i
+  count-fits i l h = count-low g ws (c .counts-fit) i l (omega (arith, v .ranged .h-high)) h
 
   pub clauses-listed : Listed g ws 1 (each (levelAt g ws) 1 (g .h))
   unfolding listsUnusedZero flashCapacityOf
   clauses-listed =
-      listed-self g ws (g .h) 1 (omega arith) (lists-inside g ws long) (λ j h. count-low (1 + j) (omega arith) (omega arith)) (c .lists-unused)
+      listed-self g ws (g .h) 1 (omega arith) (lists-inside g ws long) (λ j h. count-fits (1 + j) (omega arith) (omega arith)) (c .lists-unused)
 
   places-good : Every (λ p. (p < g .p) × (1 ≤ recordCount g ws p) × (recordCount g ws p ≤ g .b)) (allListed g ws)
   unfolding placesInside blocksFilled
@@ -163,35 +156,27 @@ module _ (g : Geometry) (ws : List ℕ) (v : Valid g) (long : length ws ≡ stor
       (every-of-all (λ p. ltb p (g .p)) (allListed g ws) (c .places-inside))
       (every-of-all (λ p. within 1 (g .b) (recordCount g ws p)) (allListed g ws) (c .blocks-filled))
 
-  recs-length : (p : ℕ) → recordCount g ws p ≤ g .b → length (blockAt g ws p .recs) ≡ recordCount g ws p
-  unfolding blockAt blockSlots
-  recs-length p h = length-take-le (recordCount g ws p) (blockSlots g ws p) (rw slots-length h)
-
   block-fits : (p : ℕ) → (p < g .p) × (1 ≤ recordCount g ws p) × (recordCount g ws p ≤ g .b) → BlockFits g (blockAt g ws p)
   unfolding blockAt
   block-fits p k =
-      record { at = p; placed-at = refl; inside = k .0; filled = rw (recs-length p (k .2)) (k .1); fits = rw (recs-length p (k .2)) (k .2) }
+      record { at = p; placed-at = refl; inside = k .0; filled = rw (block-size g ws p (k .2)) (k .1); fits = rw (block-size g ws p (k .2)) (k .2) }
 
   top-count-low : topCountAt ws ≤ topCapacityOf g
   unfolding topFits
   top-count-low = leb-true _ _ (c .top-fits)
 
-  top-length : length (topRecs g ws) ≡ topCountAt ws
-  unfolding topRecs
-  top-length = length-take-le (topCountAt ws) (topSlots g ws) (rw (top-slots-length g ws) top-count-low)
-
   level-fits : (i : ℕ) → i < g .h → length (levelAt g ws (suc i)) ≤ capacityOf g (suc i)
   level-fits i h =
-      let k = count-low (suc i) (omega arith) h in
+      let k = count-fits (suc i) (omega arith) h in
       rw (level-length g ws (suc i) (rw (long, store-length g) (omega (arith, list-inside g {i = suc i} (omega arith) h))) k) k
 
   pub clauses-fits : Fits g (storeAt g ws)
   unfolding storeAt
   clauses-fits =
       record {
-        level-count = each-length (levelAt g ws) (g .h) 1;
-        top-fits = rw top-length top-count-low;
-        level-fits = λ i h. rw (each-at (levelAt g ws) (g .h) 1 i [] h, one-add) (level-fits i h);
+        level-count = length-each (levelAt g ws) 1 (g .h);
+        top-fits = rw (top-length g ws top-count-low) top-count-low;
+        level-fits = λ i h. rw (getD-each (levelAt g ws) 1 (g .h) i [] h, one-add) (level-fits i h);
         blocks-fit = rw (blocks-listed g ws (g .h) 1) (every-map (blockAt g ws) (BlockFits g) (allListed g ws) (every-turn _ (λ p. BlockFits g (blockAt g ws p)) (allListed g ws) block-fits places-good));
       }
 
@@ -234,31 +219,20 @@ module _ (g : Geometry) (ws : List ℕ) (v : Valid g) (long : length ws ≡ stor
 
   counts-written : part ws 9 3 ≡ pad 3 (map (λ (l : Level). length l) (each (levelAt g ws) 1 (g .h)))
   counts-written =
-      let n = each-length (levelAt g ws) (g .h) 1 in
-      listed-counts-pad g ws (each (levelAt g ws) 1 (g .h)) (omega (arith, v .ranged .h-high)) (omega (arith, store-length-low g v)) clauses-listed (λ i a b. count-none i (omega arith) b)
+      let n = length-each (levelAt g ws) 1 (g .h) in
+      listed-counts-pad g ws (each (levelAt g ws) 1 (g .h)) (omega (arith, v .ranged .h-high)) (omega (arith, store-length-low g v)) clauses-listed (λ i a b. count-empty g ws (c .counts-fit) i (omega arith) b (omega arith))
 
   header-written : geometryAt ws ≡ g → part ws 0 12 ≡ headerWords g (storeAt g ws)
   unfolding storeAt headerWords
   header-written e =
       let l : 12 ≤ length ws = omega (arith, store-length-low g v) in
       part-cons ws 0 11 (omega arith)
-      ∙ rw (part-cons ws 1 10 (omega arith), part-cons ws 2 9 (omega arith), part-cons ws 3 8 (omega arith), part-cons ws 4 7 (omega arith), part-cons ws 5 6 (omega arith), part-cons ws 6 5 (omega arith), part-cons ws 7 4 (omega arith), part-cons ws 8 3 (omega arith), top-length, counts-written)
+      ∙ rw (part-cons ws 1 10 (omega arith), part-cons ws 2 9 (omega arith), part-cons ws 3 8 (omega arith), part-cons ws 4 7 (omega arith), part-cons ws 5 6 (omega arith), part-cons ws 6 5 (omega arith), part-cons ws 7 4 (omega arith), part-cons ws 8 3 (omega arith), top-length g ws top-count-low, counts-written)
       (λ i. e i .b ∷ e i .w ∷ e i .d ∷ e i .g ∷ e i .h ∷ e i .p ∷ word ws 6 ∷ word ws 7 ∷ word ws 8 ∷ pad 3 (map (λ (l : Level). length l) (each (levelAt g ws) 1 (g .h))))
-
-  -- the two halves of the clause about level 0's unused parts
-  top-unused : (all blank (drop (topCountAt ws) (topSlots g ws)) ≡ true) × (all (λ (i : ℕ). ltb (word ws (marksStart g + i)) (2 ^ g .b)) (each (λ (i : ℕ). i) 0 (capacityOf g 0)) ≡ true)
-  unfolding topUnusedZero
-  top-unused = (and-eq-true-iff _ _) .0 (c .top-unused)
-
-  marks-low : Every (λ m. m < 2 ^ g .b) (part ws (marksStart g) (capacityOf g 0))
-  marks-low =
-      let e = all-part (λ (m : ℕ). ltb m (2 ^ g .b)) ws (marksStart g) (capacityOf g 0) 0 (omega (arith, top-inside g ws long)) in
-      every-turn (λ m. ltb m (2 ^ g .b) ≡ true) (λ m. m < 2 ^ g .b) (part ws (marksStart g) (capacityOf g 0)) (λ m b. ltb-true _ _ b)
-      (every-of-all (λ (m : ℕ). ltb m (2 ^ g .b)) (part ws (marksStart g) (capacityOf g 0)) (rw add-zero at (sym e ∙ top-unused .1)))
 
   lists-written : part ws (listStart g 1) (flashCapacityOf g) ≡ listWords g 1 (each (levelAt g ws) 1 (g .h))
   unfolding flashCapacityOf
-  lists-written = ap (λ (n : ℕ). part ws (listStart g 1) (capacitySum g 1 n)) (sym (each-length (levelAt g ws) (g .h) 1)) ∙ listed-words g ws (each (levelAt g ws) 1 (g .h)) 1 (omega arith) clauses-listed
+  lists-written = ap (λ (n : ℕ). part ws (listStart g 1) (capacitySum g 1 n)) (sym (length-each (levelAt g ws) 1 (g .h))) ∙ listed-words g ws (each (levelAt g ws) 1 (g .h)) 1 (omega arith) clauses-listed
 
   pub clauses-hold : geometryAt ws ≡ g → Holds g ws (storeAt g ws)
   unfolding storeAt topRecs
@@ -266,7 +240,7 @@ module _ (g : Geometry) (ws : List ℕ) (v : Valid g) (long : length ws ≡ stor
       record {
         long = long;
         header = header-written e;
-        top = sym (top-written g ws (topCountAt ws) (omega (arith, v .ranged .b-low)) top-count-low (top-inside g ws long) (top-unused .0) marks-low);
+        top = sym (top-written g ws (topCountAt ws) (omega (arith, v .ranged .b-low)) top-count-low (top-inside g ws long) (top-unused g ws (c .top-unused) .0) (mark-words-low g ws long (c .top-unused)));
         lists = lists-written;
         laid = clauses-laid;
       }
@@ -296,14 +270,8 @@ module _ (g : Geometry) (ws : List ℕ) (s : Store) (v : Valid g) (f : Fits g s)
   all-listed : (t : ℕ → Bool) → Every (λ b. t (placeOf b) ≡ true) (allBlocks (s .levels)) → all t (allListed g ws) ≡ true
   all-listed t h = rw listed-are (all-of-every t (map placeOf (allBlocks (s .levels))) (every-map placeOf (λ p. t p ≡ true) (allBlocks (s .levels)) h))
 
-  count-held : (i : ℕ) → i < 3 → countAt ws (suc i) ≡ length (getD (s .levels) i [])
-  count-held i h =
-      let e : 8 + suc i ≡ 9 + i = omega arith in
-      ap (word ws) e ∙ sym (part-word ws 9 3 i h) ∙ ap (λ (xs : List ℕ). getD xs i 0) (counts-held g ws s v f k)
-      ∙ pad-word 3 (map (λ (l : Level). length l) (s .levels)) i ∙ List·getD-map (λ (l : Level). length l) (s .levels) i []
-
   level-low : (i : ℕ) → i < 3 → leb (countAt ws (suc i)) (if leb (suc i) (g .h) then capacityOf g (suc i) else 0) ≡ true
-  level-low i h = rw (count-held i h) (go (leb (suc i) (g .h)) refl)
+  level-low i h = rw (count-held g ws s v f k i h) (go (leb (suc i) (g .h)) refl)
     where
       go : (t : Bool) → leb (suc i) (g .h) ≡ t → leb (length (getD (s .levels) i [])) (if t then capacityOf g (suc i) else 0) ≡ true
       go true e = le-leb _ _ (f .level-fits i (leb-true _ _ e))

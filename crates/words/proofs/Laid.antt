@@ -1,10 +1,9 @@
 -- A store whose blocks stand in their places, and how writing new blocks keeps that so.
 use Prim.Native.Nat.{ℕ}
 use mathlib.Core.Path.{_≡_, refl, sym, ap, _∙_}
-use mathlib.Core.Bool.{Bool, true, false, not, _||_, or-true, true≢false, and-eq-true-iff}
+use mathlib.Core.Bool.{true, false, not, or-true, true≢false, and-eq-true-iff}
 use mathlib.Core.List.{List, [], _∷_, _++_, map, List·Memᴰ, List·Memᴰ·head, List·Memᴰ·tail, List·Memᴰ·not-nil}
 use mathlib.Core.Logic.{_≢_, _⊎_, inl, inr}
-use mathlib.Core.Option.{Option, none, some}
 use lib.Dec.{eqb}
 use borrow.Author.Tests.{eq-eqb, eqb-false, not-true}
 use Rattle.geometry.specs.declared.Geometry.{Geometry}
@@ -14,7 +13,9 @@ use Rattle.levels.specs.Place.{placesOf, inUse, distinct}
 use Rattle.levels.specs.Store.{Store}
 use Rattle.levels.specs.Every.{Every, allBlocks}
 use Rattle.levels.specs.Sound.{BlockFits}
+use Rattle.levels.proofs.Basics.{or-false}
 use Rattle.levels.proofs.Every.{every-at, every-turn}
+use Rattle.levels.proofs.Places.{places-append}
 use Rattle.words.specs.Layout.{placeOf, blockWords, writeBlocks, placeWords}
 use Rattle.words.specs.Passed.{Laid}
 use Rattle.words.proofs.Blocks.{Apart, writes-length, writes-other, writes-here}
@@ -28,26 +29,14 @@ pub places-are : (g : Geometry) (bs : Level) → Every (BlockFits g) bs → plac
 places-are g [] f = refl
 places-are g (b ∷ bs) f = rw (f .0 .placed-at, places-are g bs (f .1))
 
-places-append : (bs cs : Level) → placesOf (bs ++ cs) ≡ placesOf bs ++ placesOf cs
-places-append [] cs = refl
-places-append (b ∷ bs) cs = go (b .place) (places-append bs cs)
-  where
-    go : (o : Option ℕ) → placesOf (bs ++ cs) ≡ placesOf bs ++ placesOf cs → placesOf (record { place = o; recs = b .recs } ∷ (bs ++ cs)) ≡ placesOf (record { place = o; recs = b .recs } ∷ bs) ++ placesOf cs
-    go none ih = ih
-    go (some p) ih = ap (λ (ps : List ℕ). p ∷ ps) ih
-
 -- the places in use are those of the blocks of all levels
 pub in-use-are : (ls : List Level) → inUse ls ≡ placesOf (allBlocks ls)
 in-use-are [] = refl
 in-use-are (l ∷ ls) = ap (λ (ps : List ℕ). placesOf l ++ ps) (in-use-are ls) ∙ sym (places-append l (allBlocks ls))
 
-or-both : (a b : Bool) → (a || b) ≡ false → (a ≡ false) × (b ≡ false)
-or-both false b e = (refl, e)
-or-both true b e = absurd (true≢false e)
-
 pub member-not : (q : ℕ) (ps : List ℕ) → member q ps ≡ false → Every (λ p. q ≢ p) ps
 member-not q [] e = tt
-member-not q (p ∷ ps) e = let k = or-both (eqb q p) (member q ps) e in (eqb-false q p (k .0), member-not q ps (k .1))
+member-not q (p ∷ ps) e = let k = or-false (eqb q p) (member q ps) e in (eqb-false q p (k .0), member-not q ps (k .1))
 
 pub member-map : {A : Type 0} (f : A → ℕ) (xs : List A) (x : A) → List·Memᴰ x xs → member (f x) (map f xs) ≡ true
 member-map f [] x m = absurd (List·Memᴰ·not-nil m)

@@ -1,3 +1,4 @@
+pub mod Each
 pub mod Parts
 pub mod Slots
 pub mod Blocks

@@ -1,12 +1,12 @@
 -- The words of a whole store: writing them and reading them back.
-use Prim.Native.Nat.{ℕ, _+_, _*_, _≤_, _<_}
+use Prim.Native.Nat.{ℕ, suc, _+_, _*_, _≤_, _<_}
 use mathlib.Core.Path.{_≡_, refl, sym, ap, _∙_}
 use mathlib.Core.List.{List, [], _∷_, _++_, map, append-assoc}
 use mathlib.Core.Option.{some}
 use native.Mathlib.Nat.{zero-add, add-sub-cancel}
 use native.Mathlib.Numerals.{one-add}
 use native.Mathlib.Omega.{arith}
-use lib.ListN.{length, take, drop, getD, length-append, length-map}
+use lib.ListN.{length, take, drop, getD, length-append, length-map, List·getD-map}
 use lib.Seq.{take-append-seam, drop-at}
 use Rattle.geometry.specs.declared.Geometry.{Geometry}
 use Rattle.geometry.specs.Geometry.{Valid, capacitySum, flashCapacityOf, topCapacityOf, marksStart, keysStart, paysStart, listStart, blockWidth, placesStart, placeStart, storeLength}
@@ -16,9 +16,9 @@ use Rattle.levels.specs.Store.{Store}
 use Rattle.levels.specs.Every.{Every, allBlocks}
 use Rattle.levels.specs.Sound.{BlockFits, Fits}
 use Rattle.levels.proofs.Every.{every-both}
-use Rattle.words.specs.Layout.{word, geometryAt, liveAt, cursorAt, topCountAt, topSlots, topRecs, blockAt, levelAt, each, storeAt, pad, placeOf, headerWords, topWords, listWords, blockWords, areaOf, storeWords, part, placeWords, topLength}
+use Rattle.words.specs.Layout.{word, geometryAt, liveAt, cursorAt, topCountAt, countAt, topSlots, topRecs, blockAt, levelAt, each, storeAt, pad, placeOf, headerWords, topWords, listWords, blockWords, areaOf, storeWords, part, placeWords, topLength}
 use Rattle.words.specs.Passed.{Laid}
-use Rattle.words.proofs.Parts.{part-word, part-mid, part-two, part-front, part-rest, pad-length}
+use Rattle.words.proofs.Parts.{part-word, part-mid, part-two, part-front, part-rest, pad-length, pad-word}
 use Rattle.words.proofs.Slots.{padRecs}
 use Rattle.words.proofs.Blocks.{place-words, place-of, place-below, block-read}
 use Rattle.words.proofs.Top.{top-words-length, top-read}
@@ -61,29 +61,34 @@ pub room-fits : (g : Geometry) (s : Store) → Fits g s → Room g 1 (s .levels)
 room-fits g s f =
     room-of g (s .levels) 1 (λ j h. rw one-add (f .level-fits j (omega (arith, f .level-count))))
 
+-- the three block counts
+pub counts-length : (s : Store) → length (s .levels) ≤ 3 → length (pad 3 (map (λ (l : Level). length l) (s .levels))) ≡ 3
+counts-length s h = pad-length 3 (map (λ (l : Level). length l) (s .levels)) (rw length-map h)
+
 pub header-length : (g : Geometry) (s : Store) → length (s .levels) ≤ 3 → length (headerWords g s) ≡ 12
 unfolding headerWords
-header-length g s h = rw (pad-length 3 (map (λ (l : Level). length l) (s .levels)) (rw length-map h))
+header-length g s h = rw (counts-length s h)
 
 -- Writing. The words of a store have the layout's length and hold the store.
-module _ (g : Geometry) (s : Store) (area : List ℕ) (v : Valid g) (f : Fits g s) (l : length area ≡ g .p * blockWidth g) where
-  header-12 : length (headerWords g s) ≡ 12
+module _ (g : Geometry) (s : Store) (v : Valid g) (f : Fits g s) where
+  pub header-12 : length (headerWords g s) ≡ 12
   header-12 = header-length g s (omega (arith, f .level-count, v .ranged .h-high))
 
-  top-long : length (topWords g (s .top)) ≡ topLength g
+  pub top-long : length (topWords g (s .top)) ≡ topLength g
   top-long = top-words-length g (s .top) (omega (arith, v .ranged .b-low)) (f .top-fits)
 
-  lists-long : length (listWords g 1 (s .levels)) ≡ flashCapacityOf g
+  pub lists-long : length (listWords g 1 (s .levels)) ≡ flashCapacityOf g
   unfolding flashCapacityOf
   lists-long = rw (list-words-length g (s .levels) 1 (room-fits g s f), f .level-count)
 
   -- the words before the lists, and before the places
-  upper-long : length (headerWords g s ++ topWords g (s .top)) ≡ listStart g 1
+  pub upper-long : length (headerWords g s ++ topWords g (s .top)) ≡ listStart g 1
   upper-long = rw (length-append, header-12, top-long, ← marks-start g) (top-end g)
 
   all-long : length ((headerWords g s ++ topWords g (s .top)) ++ listWords g 1 (s .levels)) ≡ placesStart g
   all-long = rw (length-append, upper-long, lists-long) (lists-length g)
 
+module _ (g : Geometry) (s : Store) (area : List ℕ) (v : Valid g) (f : Fits g s) (l : length area ≡ g .p * blockWidth g) where
   upper-is : storeWords g s area ≡ (headerWords g s ++ topWords g (s .top)) ++ (listWords g 1 (s .levels) ++ area)
   unfolding storeWords
   upper-is = sym (append-assoc (headerWords g s) (topWords g (s .top)) (listWords g 1 (s .levels) ++ area))
@@ -92,19 +97,19 @@ module _ (g : Geometry) (s : Store) (area : List ℕ) (v : Valid g) (f : Fits g 
   all-is = upper-is ∙ sym (append-assoc (headerWords g s ++ topWords g (s .top)) (listWords g 1 (s .levels)) area)
 
   pub words-length : length (storeWords g s area) ≡ storeLength g
-  words-length = rw (all-is, length-append, all-long, l) (sym (store-length g))
+  words-length = rw (all-is, length-append, all-long g s v f, l) (sym (store-length g))
 
   pub area-back : areaOf g (storeWords g s area) ≡ area
-  area-back = rw all-is (drop-at ((headerWords g s ++ topWords g (s .top)) ++ listWords g 1 (s .levels)) area (placesStart g) all-long)
+  area-back = rw all-is (drop-at ((headerWords g s ++ topWords g (s .top)) ++ listWords g 1 (s .levels)) area (placesStart g) (all-long g s v f))
 
   pub words-hold : Laid g area s → Holds g (storeWords g s area) s
   unfolding storeWords
   words-hold d =
       record {
         long = words-length;
-        header = part-mid [] (headerWords g s) (topWords g (s .top) ++ (listWords g 1 (s .levels) ++ area)) 0 12 refl header-12;
-        top = part-mid (headerWords g s) (topWords g (s .top)) (listWords g 1 (s .levels) ++ area) (marksStart g) (topLength g) (header-12 ∙ sym (marks-start g)) top-long;
-        lists = ap (λ (ws : List ℕ). part ws (listStart g 1) (flashCapacityOf g)) upper-is ∙ part-mid (headerWords g s ++ topWords g (s .top)) (listWords g 1 (s .levels)) area (listStart g 1) (flashCapacityOf g) upper-long lists-long;
+        header = part-mid [] (headerWords g s) (topWords g (s .top) ++ (listWords g 1 (s .levels) ++ area)) 0 12 refl (header-12 g s v f);
+        top = part-mid (headerWords g s) (topWords g (s .top)) (listWords g 1 (s .levels) ++ area) (marksStart g) (topLength g) (header-12 g s v f ∙ sym (marks-start g)) (top-long g s v f);
+        lists = ap (λ (ws : List ℕ). part ws (listStart g 1) (flashCapacityOf g)) upper-is ∙ part-mid (headerWords g s ++ topWords g (s .top)) (listWords g 1 (s .levels)) area (listStart g 1) (flashCapacityOf g) (upper-long g s v f) (lists-long g s v f);
         laid = rw area-back d;
       }
 
@@ -140,7 +145,14 @@ module _ (g : Geometry) (ws : List ℕ) (s : Store) (v : Valid g) (f : Fits g s)
   unfolding headerWords
   counts-held =
       part-two ws (g .b ∷ g .w ∷ g .d ∷ g .g ∷ g .h ∷ g .p ∷ s .live ∷ s .cursor ∷ length (s .top) ∷ []) (pad 3 (map (λ (l : Level). length l) (s .levels))) 0 9 3 refl
-      (pad-length 3 (map (λ (l : Level). length l) (s .levels)) (rw length-map (omega (arith, f .level-count, v .ranged .h-high)))) (k .header) .1
+      (counts-length s (omega (arith, f .level-count, v .ranged .h-high))) (k .header) .1
+
+  -- the block count of a level is the length of its list, 0 above h
+  pub count-held : (i : ℕ) → i < 3 → countAt ws (suc i) ≡ length (getD (s .levels) i [])
+  count-held i h =
+      let e : 8 + suc i ≡ 9 + i = omega arith in
+      ap (word ws) e ∙ sym (part-word ws 9 3 i h) ∙ ap (λ (xs : List ℕ). getD xs i 0) counts-held
+      ∙ pad-word 3 (map (λ (l : Level). length l) (s .levels)) i ∙ List·getD-map (λ (l : Level). length l) (s .levels) i []
 
   pub listed-held : Listed g ws 1 (s .levels)
   unfolding flashCapacityOf

@@ -1,12 +1,12 @@
 -- The words through the merges of a call: after each merge and each compaction the blocks of all levels stand in their places;
 -- so the words that a put or delete leaves pass the form check.
 use Prim.Native.Nat.{ℕ}
-use mathlib.Core.Path.{_≡_, refl, sym, _∙_, ap, subst}
+use mathlib.Core.Path.{_≡_, sym, _∙_, ap, subst}
 use mathlib.Core.Bool.{Bool}
 use mathlib.Core.List.{List, [], _∷_, _++_}
 use borrow.Author.Tests.{eq-eqb}
 use Rattle.geometry.specs.declared.Geometry.{Geometry}
-use Rattle.levels.specs.Record.{Rec, Block}
+use Rattle.levels.specs.Record.{Rec}
 use Rattle.levels.specs.Place.{placesOf}
 use Rattle.levels.specs.Store.{Store, usedIn, allocationOf}
 use Rattle.levels.specs.Call.{Compaction, Merge, afterCompactions, afterMerge, afterMerges, Follows, Chained}
@@ -22,14 +22,9 @@ use Rattle.words.specs.Layout.{geometryAt, storeAt, areaOf, writeBlocks}
 use Rattle.words.specs.Form.{reasonOf}
 use Rattle.words.specs.Calls.{Outcome, ChangeAnswer, compactedBlocks, writtenBlocks, leftWords, changeOutcome, putOf, deleteOf}
 use Rattle.words.specs.Passed.{Laid, Passed}
+use Rattle.words.proofs.Blocks.{writes-append}
 use Rattle.words.proofs.Laid.{laid-levels, laid-step}
 use Rattle.words.proofs.Reason.{reason-passed, reason-back}
-
--- blocks written one after the other
-pub writes-append : (g : Geometry) (bs cs : List Block) (area : List ℕ) → writeBlocks g area (bs ++ cs) ≡ writeBlocks g (writeBlocks g area bs) cs
-unfolding writeBlocks
-writes-append g [] cs area = refl
-writes-append g (b ∷ bs) cs area = writes-append g bs cs _
 
 -- one compaction, and one merge
 pub laid-compaction : (g : Geometry) (e : Store) (c : Compaction) (area : List ℕ) → CompactionFacts g e c → Laid g area (c .start) → Laid g (writeBlocks g area (c .written)) (c .finish)
@@ -50,7 +45,7 @@ unfolding writeBlocks
 laid-compactions g e s [] area f h l = l
 laid-compactions g e s (c ∷ cs) area f h l =
     let k = laid-compaction g e c area (f .0) (subst (Laid g area) (sym (h .0)) l) in
-    subst (λ (a : List ℕ). Laid g a (afterCompactions (c .finish) cs)) (sym (writes-append g (c .written) (compactedBlocks cs) area))
+    subst (λ (a : List ℕ). Laid g a (afterCompactions (c .finish) cs)) (sym (writes-append g area (c .written) (compactedBlocks cs)))
     (laid-compactions g e (c .finish) cs (writeBlocks g area (c .written)) (f .1) (h .1) k)
 
 -- the merges of a call with their compactings
@@ -63,7 +58,7 @@ laid-merges g e s (m ∷ ms) area f h l =
     let k = laid-merge g e m area (f .0) (subst (Laid g area) (sym (h .0)) l) in
     let i = laid-compactions g e (m .finish) (m .compactions) a (f .0 .five .facts) (f .0 .five .follows) k in
     let q : writeBlocks g area (m .written ++ (compactedBlocks (m .compactions) ++ writtenBlocks ms)) ≡ writeBlocks g b (writtenBlocks ms) =
-    writes-append g (m .written) (compactedBlocks (m .compactions) ++ writtenBlocks ms) area ∙ writes-append g (compactedBlocks (m .compactions)) (writtenBlocks ms) a in
+    writes-append g area (m .written) (compactedBlocks (m .compactions) ++ writtenBlocks ms) ∙ writes-append g a (compactedBlocks (m .compactions)) (writtenBlocks ms) in
     subst (λ (x : List ℕ). Laid g x (afterMerges (afterMerge m) ms)) (sym q) (laid-merges g e (afterMerge m) ms b (f .1) (h .1) i)
 
 -- a call that enters a record: the blocks of the store that it leaves stand in their places

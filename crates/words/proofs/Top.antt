@@ -12,21 +12,12 @@ use Rattle.geometry.specs.Geometry.{capacityOf, topCapacityOf, marksStart, keys
 use Rattle.levels.specs.Basics.{all}
 use Rattle.levels.specs.Record.{Rec, Block, pages}
 use Rattle.levels.specs.Every.{Every}
-use Rattle.levels.proofs.Pages.{pages-cons}
-use Rattle.words.specs.Layout.{word, slotsAt, pageSlots, topSlots, pad, markWord, keysOf, paysOf, topWords, topLength, part}
+use Rattle.levels.proofs.Lists.{map-take, map-drop}
+use Rattle.levels.proofs.Pages.{pages-step}
+use Rattle.words.specs.Layout.{word, slotsAt, pageSlots, topCountAt, topSlots, topRecs, pad, markWord, keysOf, paysOf, topWords, topLength, part}
 use Rattle.words.specs.Form.{blank}
 use Rattle.words.proofs.Parts.{part-length, part-split, part-split-three, part-three, part-cons, pad-cons}
 use Rattle.words.proofs.Slots.{slots-part, slotsOf, slots-of, keys-of, pays-of, mark-of, keys-pad, pays-pad, mark-pad, slots-length, pad-recs-length, blankRec, padRecs, unpad}
-
-pub map-take : {A B : Type 0} (f : A → B) (n : ℕ) (xs : List A) → take n (map f xs) ≡ map f (take n xs)
-map-take f zero xs = refl
-map-take f (suc n) [] = refl
-map-take f (suc n) (x ∷ xs) = rw (map-take f n xs)
-
-pub map-drop : {A B : Type 0} (f : A → B) (n : ℕ) (xs : List A) → drop n (map f xs) ≡ map f (drop n xs)
-map-drop f zero xs = refl
-map-drop f (suc n) [] = refl
-map-drop f (suc n) (x ∷ xs) = map-drop f n xs
 
 -- the mark words of n pages of B records
 unfoldable pub marksOf : ℕ → ℕ → List Rec → List ℕ
@@ -68,7 +59,7 @@ unfolding pageSlotsOf marksOf
 pages-of B zero [] e = refl
 pages-of B zero (r ∷ rs) e = absurd (omega arith)
 pages-of B (suc n) rs e =
-    rw (map-take _ B rs, map-drop _ B rs, map-take _ B rs, map-drop _ B rs, slots-of (take B rs), pages-of B n (drop B rs) (rw length-drop (omega arith)))
+    rw (← map-take (λ (r : Rec). r .key) B rs, ← map-drop (λ (r : Rec). r .key) B rs, ← map-take (λ (r : Rec). r .pay) B rs, ← map-drop (λ (r : Rec). r .pay) B rs, slots-of (take B rs), pages-of B n (drop B rs) (rw length-drop (omega arith)))
     (take-append-drop B rs)
 
 pub page-keys : (B : ℕ) (ms ks vs : List ℕ) → length ks ≡ length ms * B → length vs ≡ length ms * B → keysOf (pageSlotsOf B ms ks vs) ≡ ks
@@ -136,7 +127,7 @@ marks-pad B (suc n) [] h l =
     rw (e, take-pad B (n * B) [], drop-pad B (n * B) [], mark-pad B (take B []), take-nil, drop-nil, ← marks-pad B n [] h (omega arith)) (simp sub-zero)
 marks-pad B (suc n) (r ∷ rs) h l =
     let e : suc n * B ≡ B + n * B = omega arith in
-    rw (e, pages-cons B r rs h, pad-cons, take-pad B (n * B) (r ∷ rs), drop-pad B (n * B) (r ∷ rs), mark-pad B (take B (r ∷ rs)), marks-pad B n (drop B (r ∷ rs)) h (rw length-drop (omega arith)))
+    rw (e, pages-step B (r ∷ rs) h (omega arith), pad-cons, take-pad B (n * B) (r ∷ rs), drop-pad B (n * B) (r ∷ rs), mark-pad B (take B (r ∷ rs)), marks-pad B n (drop B (r ∷ rs)) h (rw length-drop (omega arith)))
 
 pub marks-length : (B n : ℕ) (rs : List Rec) → length (marksOf B n rs) ≡ n
 unfolding marksOf
@@ -173,6 +164,11 @@ page-slots-count g ws (suc n) i = rw (length-append, slots-length, page-slots-co
 pub top-slots-length : (g : Geometry) (ws : List ℕ) → length (topSlots g ws) ≡ topCapacityOf g
 unfolding topSlots topCapacityOf
 top-slots-length g ws = page-slots-count g ws (capacityOf g 0) 0
+
+-- level 0 has as many records as word 8 says, if these fit
+pub top-length : (g : Geometry) (ws : List ℕ) → topCountAt ws ≤ topCapacityOf g → length (topRecs g ws) ≡ topCountAt ws
+unfolding topRecs
+top-length g ws h = length-take-le (topCountAt ws) (topSlots g ws) (rw (top-slots-length g ws) h)
 
 -- Reading: level 0's words are those of the records rs.
 module _ (g : Geometry) (ws : List ℕ) (rs : List Rec) (h : 1 ≤ g .b) (l : length rs ≤ topCapacityOf g) (e : part ws (marksStart g) (topLength g) ≡ topWords g rs) where

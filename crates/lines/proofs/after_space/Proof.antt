@@ -1,7 +1,8 @@
+use mathlib.Core.Bool.{and-false}
 use mathlib.Core.Path.{sym, _∙_}
 use borrow.Author.Tests.{lt-ltb, le-ltb, not-true, not-false}
 use Rattle.lines.specs.Machine.{afterSpace}
-use Rattle.lines.proofs.Laws.{digit-low, and-no}
+use Rattle.lines.proofs.Laws.{digit-low}
 use borrow.Author.Needs.{needs}
 use Rattle.lines.proofs.after_space.Statement.{statement}
 use Rattle.lines.proofs.after_space.Tie as tie
@@ -15,7 +16,7 @@ is-digit-requires c κs = search needs
 
 returns : tie.Need-returns
 unfolding afterSpace
-returns c = rw (← c .before .is-digit .ensures, not-true (c .before .is-digit .result) (c .if1 .taken), and-no)
+returns c = rw (← c .before .is-digit .ensures, not-true (c .before .is-digit .result) (c .if1 .taken), and-false)
 
 sub-push : tie.Need-sub-push
 sub-push c = digit-low _ (sym (c .before .before .is-digit .ensures) ∙ not-false _ (c .before .if1 .left))

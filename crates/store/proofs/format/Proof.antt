@@ -1,5 +1,5 @@
 use native.Mathlib.Omega.{arith}
-use mathlib.Core.Path.{_≡_, sym, _∙_}
+use mathlib.Core.Path.{sym, _∙_}
 use Rattle.entry.proofs.Laws.{fitted-ready}
 use Rattle.store.proofs.Formatting.{cleared-headed, format-refused, format-done, fitted-room}
 use borrow.Author.Needs.{needs}

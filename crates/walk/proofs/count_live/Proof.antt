@@ -7,8 +7,8 @@ use lib.ListN.{length}
 use Rattle.levels.specs.Record.{Rec}
 use Rattle.levels.specs.Map.{unmarked}
 use Rattle.walk.specs.Walk.{rest, layered}
-use Rattle.walk.proofs.Four.{Abreast, rests, load, rests-start, live-turn, live-end, live-count-high, walk-less}
-use Rattle.walk.proofs.Between.{least-row, bound-high, skimmed, skimmed-live, skims-length}
+use Rattle.walk.proofs.Four.{Abreast, rests, load, rests-start, live-turn, live-end, live-count-high, walk-less, least-row}
+use Rattle.walk.proofs.Between.{bound-high, skimmed, skimmed-live, skims-length}
 use Rattle.walk.proofs.count_live.Statement.{statement}
 use Rattle.walk.proofs.count_live.Tie as tie
 use Rattle.walk.proofs.count_live.Reads as reads

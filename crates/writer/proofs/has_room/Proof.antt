@@ -1,4 +1,3 @@
-use native.Mathlib.Omega.{arith}
 use Rattle.top.proofs.Words.{ready-bounds}
 use Rattle.writer.proofs.Entering.{at-found, at-gap}
 use borrow.Author.Needs.{needs}

@@ -1,6 +1,6 @@
-use Prim.Native.Nat.{ℕ, _≤_, _<_, _+_, _-_, _*_, _^_, _%_}
+use Prim.Native.Nat.{_+_, _-_, _*_, _^_, _%_}
 use native.Mathlib.Omega.{arith}
-use mathlib.Core.Path.{_≡_, refl}
+use mathlib.Core.Path.{_≡_}
 use lib.Pow.{shl-exact, pow-mono, shl-lt}
 use borrow.Author.Needs.{needs}
 use Rattle.blocks.proofs.Buffer.push.Statement.{statement}

@@ -1,4 +1,3 @@
-use mathlib.Core.Path.{_∙_}
 use Rattle.lines.specs.Machine.{step}
 use borrow.Author.Needs.{needs}
 use Rattle.lines.proofs.Reading.take.Statement.{statement}
