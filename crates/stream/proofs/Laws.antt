@@ -9,13 +9,18 @@ use Rattle.levels.specs.Basics.{if_then_else_}
 use Rattle.levels.proofs.Basics.{if-either}
 use Rattle.blocks.specs.declared.Layout.{Layout}
 use Rattle.blocks.specs.Blocks.{nextMark}
+use Rattle.stream.specs.declared.Spot.{Spot}
 use Rattle.stream.specs.declared.Progress.{Progress}
 use Rattle.stream.specs.declared.Inputs.{Inputs}
-use Rattle.stream.specs.Machine.{Memory, Movable, passX, passY, flushed, writtenAt, turn, turns, idle}
+use Rattle.stream.specs.Machine.{Memory, Movable, movedTo, flushed, writtenAt, turn, turns, idle}
 
 pub flushed-m : (z : Layout) (a : Memory) → flushed z a .st .m ≤ a .st .m + 1
 unfolding flushed
 flushed-m z a = if-either (λ (b : Memory). b .st .m ≤ a .st .m + 1) (eqb (a .st .buf .n) 0) a (writtenAt z a (nextMark (z .p) (a .used) (a .st .cursor))) (omega arith) (omega arith)
+
+pub flushed-y : (z : Layout) (a : Memory) → flushed z a .st .y ≡ a .st .y
+unfolding flushed
+flushed-y z a = if-either (λ (b : Memory). b .st .y ≡ a .st .y) (eqb (a .st .buf .n) 0) a (writtenAt z a (nextMark (z .p) (a .used) (a .st .cursor))) refl refl
 
 -- one branch, where the test is known
 pub if-true : {A : Type 0} (t : Bool) (a b : A) → t ≡ true → (if t then a else b) ≡ a
@@ -44,23 +49,12 @@ module _ (z : Layout) (t : Inputs) (xs ys : List ℕ) where
       let s : b ≡ turns z t xs ys i a = turns-idle d i a e in
       ap (λ (n : ℕ). turns z t xs ys n a) h ∙ (if-true (idle z t xs ys b) b (turn z t xs ys b) (ap (idle z t xs ys) s ∙ e) ∙ s)
 
--- the places, the buffer and the list are not touched by a move of a side
-pub same-movable : (z : Layout) (xs : List ℕ) (used : List Bool) (v w : Progress) → v .m ≡ w .m → v .writes ≡ w .writes → v .cursor ≡ w .cursor → v .buf ≡ w .buf → Movable z xs used w → Movable z xs used v
-same-movable z xs used v w a n b e k =
+-- the places, the buffer and the list are not touched by a move of the sides
+pub moved-movable : (z : Layout) (xs : List ℕ) (used : List Bool) (w : Progress) (x y : Spot) → Movable z xs used w → Movable z xs used (movedTo w x y)
+moved-movable z xs used w x y k =
+    let f = k .flushable in
     record {
-      flushable = record { sized = k .flushable .sized; cursor = rw b (k .flushable .cursor); full = rw e (k .flushable .full); room = rw a (k .flushable .room); count = rw n (k .flushable .count); free = k .flushable .free };
-      gatherable = record { few = rw e (k .gatherable .few); bits = rw e (k .gatherable .bits) };
-      room = rw a (k .room);
+      flushable = record { sized = f .sized; cursor = f .cursor; full = f .full; room = f .room; count = f .count; free = f .free };
+      gatherable = record { few = k .gatherable .few; bits = k .gatherable .bits };
+      room = k .room;
     }
-
-pub pass-x-movable : (z : Layout) (xs : List ℕ) (used : List Bool) (w : Progress) (n : ℕ) → Movable z xs used w → Movable z xs used (passX w n)
-unfolding passX
-pass-x-movable z xs used w n k = if-either (Movable z xs used) (leb n (w .xj + 1)) _ _ (same-movable z xs used _ w refl refl refl refl k) (same-movable z xs used _ w refl refl refl refl k)
-
-pub pass-y-movable : (z : Layout) (xs : List ℕ) (used : List Bool) (w : Progress) (n : ℕ) → Movable z xs used w → Movable z xs used (passY w n)
-unfolding passY
-pass-y-movable z xs used w n k = if-either (Movable z xs used) (leb n (w .yj + 1)) _ _ (same-movable z xs used _ w refl refl refl refl k) (same-movable z xs used _ w refl refl refl refl k)
-
-pub pass-x-y : (w : Progress) (n : ℕ) → (passX w n .yi ≡ w .yi) × (passX w n .yj ≡ w .yj)
-unfolding passX
-pass-x-y w n = if-either (λ (v : Progress). (v .yi ≡ w .yi) × (v .yj ≡ w .yj)) (leb n (w .xj + 1)) _ _ (refl, refl) (refl, refl)

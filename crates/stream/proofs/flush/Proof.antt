@@ -38,18 +38,18 @@ element-write-out c = search needs
 empty-requires : tie.Need-empty-requires
 empty-requires c κs = search needs
 
-add-t21 : tie.Need-add-t21
-add-t21 c = search needs
+add-t23 : tie.Need-add-t23
+add-t23 c = search needs
 
-add-t24 : tie.Need-add-t24
-add-t24 c = search needs
+add-t26 : tie.Need-add-t26
+add-t26 c = search needs
 
 same-length : tie.Need-same-length
 same-length c = search needs
 
 returns-2 : tie.Need-returns-2
 unfolding flushed
-returns-2 c = rw (ne-eqb _ _ (c .before .before .before .before .before .before .before .before .if1 .left), c .before .empty .ensures, c .before .before .before .before .write-block .ensures .0, c .before .before .before .before .before .before .first-free .ensures)
+returns-2 c = rw (ne-eqb _ _ (c .before .before .before .before .before .before .before .before .before .before .if1 .left), c .before .before .before .empty .ensures, c .before .before .before .before .before .before .write-block .ensures .0, c .before .before .before .before .before .before .before .before .first-free .ensures)
 
 pub flush-spec : {M : Type 1} → statement M
 flush-spec =
@@ -63,7 +63,7 @@ flush-spec =
     mul-out
     element-write-out
     empty-requires
-    add-t21
-    add-t24
+    add-t23
+    add-t26
     same-length
     returns-2)
