@@ -5,8 +5,9 @@ use mathlib.Core.Bool.{Bool, true, false, true≢false}
 use mathlib.Core.List.{List}
 use native.Mathlib.Omega.{arith}
 use lib.Dec.{leb, eqb}
+use borrow.Author.Tests.{le-leb, leb-true}
 use Rattle.levels.specs.Basics.{if_then_else_}
-use Rattle.levels.proofs.Basics.{if-either}
+use Rattle.levels.proofs.Basics.{and-left, and-right, if-either}
 use Rattle.blocks.specs.declared.Layout.{Layout}
 use Rattle.blocks.specs.Blocks.{nextMark}
 use Rattle.stream.specs.declared.Spot.{Spot}
@@ -31,8 +32,18 @@ pub if-false : {A : Type 0} (t : Bool) (a b : A) → t ≡ false → (if t then 
 if-false true a b e = absurd (true≢false e)
 if-false false a b e = refl
 
--- The turns are counted outside the machine's text: `rw` in a goal that holds an open turn took 2.3 GB.
 module _ (z : Layout) (t : Inputs) (xs ys : List ℕ) where
+  -- idle is what stands at both ends
+  pub idle-of : (a : Memory) → t .x ≤ a .st .x .i → t .y ≤ a .st .y .i → idle z t xs ys a ≡ true
+  idle-of a h l = rw (le-leb (t .x) (a .st .x .i) h, le-leb (t .y) (a .st .y .i) l)
+
+  pub idle-ends : (a : Memory) → idle z t xs ys a ≡ true → (t .x ≤ a .st .x .i) × (t .y ≤ a .st .y .i)
+  idle-ends a e =
+      let p = leb (t .x) (a .st .x .i) in
+      let q = leb (t .y) (a .st .y .i) in
+      (leb-true (t .x) (a .st .x .i) (and-left p q e), leb-true (t .y) (a .st .y .i) (and-right p q e))
+
+  -- The turns are counted outside the machine's text: `rw` in a goal that holds an open turn took 2.3 GB.
   pub turns-more : (i : ℕ) (a : Memory) → idle z t xs ys (turns z t xs ys i a) ≡ false → turn z t xs ys (turns z t xs ys i a) ≡ turns z t xs ys (i + 1) a
   unfolding turns
   turns-more i a e =
