@@ -38,10 +38,6 @@ unfolding layAll layDone
 lay-reverse z d [] l = refl
 lay-reverse z d (b ∷ bs) l = lay-reverse z d bs (b ∷ l)
 
-lay-none : (z : Layout) (d : Flash) → layAll z d [] ≡ d
-unfolding layAll
-lay-none z d = refl
-
 -- entries of a place list
 abbrev pub entries : List ℕ → ℕ → ℕ → List ℕ
 entries ys i zero = []

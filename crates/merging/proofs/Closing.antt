@@ -17,7 +17,7 @@ use Rattle.stream.specs.declared.Spot.{Spot}
 use Rattle.stream.specs.declared.Progress.{Progress}
 use Rattle.stream.specs.declared.Inputs.{Inputs}
 use Rattle.sides.specs.Sides.{chunkOf, lastSize}
-use Rattle.stream.specs.Machine.{Memory, flushed}
+use Rattle.stream.specs.Machine.{Memory}
 use Rattle.levels.proofs.Basics.{if-either}
 use Rattle.stream.proofs.Laws.{flushed-m, flushed-y}
 use Rattle.joins.specs.Joins.{Clean, pulled, Lefts, leftJoined, afterTaken, Afters, afterJoined, joinedUp, Closable}

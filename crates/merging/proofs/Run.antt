@@ -18,13 +18,11 @@ use Rattle.merging.specs.Blocks.{Flash}
 use Rattle.merging.proofs.Moves.{side-none}
 use Rattle.merging.proofs.Outs.{marks-low}
 use Rattle.merging.proofs.Sim.{Both, sim-step}
+use Rattle.merging.proofs.Steps.{step-idle}
 
 iterate-end : {A : Type 0} (n : ℕ) (f : A → A) (a : A) → iterate (suc n) f a ≡ f (iterate n f a)
 iterate-end zero f a = refl
 iterate-end (suc n) f a = iterate-end n f (f a)
-
-step-none : (B : ℕ) (bottom : Bool) (s : State) → s .upper ≡ [] → s .lower ≡ [] → step B bottom s ≡ s
-step-none B bottom s e f = rw (e, f)
 
 side-readable : {z : Layout} {pages : Bool} {ws : List ℕ} {used : List Bool} {list : List ℕ} {end : ℕ} {p : Spot} → Sized z ws → end ≤ 4096 → SideAt z pages ws used list end p → Readable z pages ws list (p .i) (p .j) end
 side-readable {p = p} s h k =
@@ -66,7 +64,7 @@ module _ (z : Layout) (t : Inputs) (xs ys : List ℕ) (d : Flash) where
       go false e ih bu = sim-step z t xs ys d made r (ih .0) bu (ih .1) e
       go true e ih bu =
           let h = idle-ends z t xs ys r e in
-          rw (step-none (z .b) (t .bottom) made
+          rw (step-idle (z .b) (t .bottom) made
           (ih .1 .upper ∙ side-none z (t .pages) (r .words) xs (r .st .x .i) (r .st .x .j) (t .x) (h .0))
           (ih .1 .lower ∙ side-none z false (r .words) ys (r .st .y .i) (r .st .y .j) (t .y) (h .1))) ih
 

@@ -1,9 +1,8 @@
 -- A step of the machine is a step of the merge as defined on blocks.
-use Prim.Native.Nat.{ℕ, suc, _+_, _-_, _/_, _%_, _^_, _≤_, _<_}
+use Prim.Native.Nat.{ℕ, suc, _+_, _-_, _≤_, _<_}
 use mathlib.Core.Path.{_≡_, sym, ap, subst, _∙_, refl}
 use mathlib.Core.Bool.{Bool, true, false, _&&_, true≢false}
 use mathlib.Core.List.{List, [], _∷_, _++_}
-use mathlib.Core.Option.{some}
 use native.Mathlib.Decide.{decLt}
 use native.Mathlib.Numerals.{add-one}
 use native.Mathlib.Omega.{arith}
@@ -23,7 +22,7 @@ use Rattle.stream.specs.declared.Spot.{Spot}
 use Rattle.stream.specs.declared.Inputs.{Inputs}
 use Rattle.sides.specs.Sides.{blockChunk, chunkOf, headOf, headAt, noHead, lastSize, follows}
 use Rattle.stream.specs.Machine.{Memory, flushed, append, gathered, reused, emitted, withProgress, withBuffer, spotAfter, moved, turn, idle}
-use Rattle.levels.proofs.Basics.{and-left, and-right, if-either}
+use Rattle.levels.proofs.Basics.{and-left, and-right}
 use Rattle.stream.proofs.Laws.{flushed-m, idle-of}
 use Rattle.merging.specs.Relation.{nextFree, Holds, Stands, SideAt, LastIs, Core, Budget, Sim}
 use Rattle.merging.specs.Blocks.{blockOf, storedAt, countAt, begun, side, Flash}

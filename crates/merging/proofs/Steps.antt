@@ -180,7 +180,7 @@ module _ (B : ℕ) (bottom : Bool) where
   steps-end zero s f g h = (none-left (s .upper) f (omega arith), none-left (s .lower) g (omega arith))
   steps-end (suc n) s f g h = let l = step-less s f g in let c = l .count in steps-end n (step B bottom s) (l .upper) (l .lower) (omega arith)
 
-  step-idle : (s : State) → s .upper ≡ [] → s .lower ≡ [] → step B bottom s ≡ s
+  pub step-idle : (s : State) → s .upper ≡ [] → s .lower ≡ [] → step B bottom s ≡ s
   step-idle s e f = rw (e, f)
 
   idle-steps : (n : ℕ) (s : State) → s .upper ≡ [] → s .lower ≡ [] → iterate n (step B bottom) s ≡ s

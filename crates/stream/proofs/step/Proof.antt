@@ -3,10 +3,10 @@ use mathlib.Core.Bool.{true, false}
 use Prim.Native.Nat.{ℕ, _<_, _^_}
 use Rattle.sides.specs.Sides.{HeadOk}
 use Rattle.stream.specs.declared.Spot.{Spot}
-use Rattle.stream.specs.Machine.{Movable, movedTo, turn}
+use Rattle.stream.specs.Machine.{Movable, movedTo}
 use Rattle.levels.proofs.Basics.{and-left}
 use Rattle.sides.proofs.Laws.{head-ok, head-some, head-none, both-some, last-low}
-use Rattle.stream.proofs.Laws.{moved-movable}
+use Rattle.stream.proofs.Laws.{moved-movable, turn-lower, turn-upper, turn-both}
 use borrow.Author.Needs.{needs}
 use Rattle.stream.proofs.step.Statement.{statement}
 use Rattle.stream.proofs.step.Tie as tie
@@ -68,8 +68,10 @@ same-length : tie.Need-same-length
 same-length c = search needs
 
 returns : tie.Need-returns
-unfolding turn
-returns c = c .before .before .emit .ensures ∙ rw (c .before .before .before .before .before .before .moved .ensures, c .before .before .before .before .before .before .before .after .ensures, ← c .before .before .before .before .before .before .before .before .before .before .before .before .before .before .before .before .before .peek .ensures, ← c .before .before .before .before .before .before .before .before .before .before .before .before .before .before .before .peek2 .ensures, ← c .before .before .before .before .before .before .before .before .before .before .before .before .last-size .ensures, ← c .before .before .before .before .before .before .before .before .reusable .ensures, ← c .before .before .before .before .before .before .before .before .before .before .before2 .ensures, c .before .before .before .before .before .before .before .before .before .if1 .taken)
+returns c =
+    let a = c .before .before .before .before .before .before .before .before .before .before .before .before .before .before .before .before .before .before .before .before .before .before .args in
+    c .before .before .emit .ensures ∙ rw (c .before .before .before .before .before .before .moved .ensures, c .before .before .before .before .before .before .before .after .ensures)
+    (turn-lower (a .z) (a .t) (a .xs .now) (a .ys .now) (record { words = a .s .now; used = a .used .now; out = a .out .now; st = a .w }) (c .before .before .before .before .before .before .before .before .before .before .before .before .before .before .before .before .before .peek .result) (c .before .before .before .before .before .before .before .before .before .before .before .before .before .before .before .peek2 .result) (c .before .before .before .before .before .before .before .before .before .before .before .before .last-size .result) (c .before .before .before .before .before .before .before .before .before .before .before .before .before .before .before .before .before .peek .ensures) (c .before .before .before .before .before .before .before .before .before .before .before .before .before .before .before .peek2 .ensures) (c .before .before .before .before .before .before .before .before .before .before .before .before .last-size .ensures) (c .before .before .before .before .before .before .before .before .reusable .result) (c .before .before .before .before .before .before .before .before .reusable .ensures) (sym (c .before .before .before .before .before .before .before .before .before .before .before2 .ensures) ∙ c .before .before .before .before .before .before .before .before .before .if1 .taken))
 
 before-requires-2 : tie.Need-before-requires-2
 before-requires-2 c κs = search needs
@@ -90,8 +92,10 @@ same-length-2 : tie.Need-same-length-2
 same-length-2 c = search needs
 
 returns-2 : tie.Need-returns-2
-unfolding turn
-returns-2 c = c .before .before .emit2 .ensures ∙ rw (c .before .before .before .before .before .before .moved2 .ensures, c .before .before .before .before .before .before .before .after2 .ensures, ← c .before .before .before .before .before .before .before .before .before .before .before .before .before .before .before .before .before .before .before .peek .ensures, ← c .before .before .before .before .before .before .before .before .before .before .before .before .before .before .before .before .before .peek2 .ensures, ← c .before .before .before .before .before .before .before .before .before .before .before .before .before .before .last-size .ensures, ← c .before .before .before .before .before .before .before .before .reusable2 .ensures, ← c .before .before .before .before .before .before .before .before .before .before .before .before .before2 .ensures, c .before .before .before .before .before .before .before .before .before .before .before .if1 .left, ← c .before .before .before .before .before .before .before .before .before .before .before3 .ensures, c .before .before .before .before .before .before .before .before .before .if2 .taken)
+returns-2 c =
+    let a = c .before .before .before .before .before .before .before .before .before .before .before .before .before .before .before .before .before .before .before .before .before .before .before .before .args in
+    c .before .before .emit2 .ensures ∙ rw (c .before .before .before .before .before .before .moved2 .ensures, c .before .before .before .before .before .before .before .after2 .ensures)
+    (turn-upper (a .z) (a .t) (a .xs .now) (a .ys .now) (record { words = a .s .now; used = a .used .now; out = a .out .now; st = a .w }) (c .before .before .before .before .before .before .before .before .before .before .before .before .before .before .before .before .before .before .before .peek .result) (c .before .before .before .before .before .before .before .before .before .before .before .before .before .before .before .before .before .peek2 .result) (c .before .before .before .before .before .before .before .before .before .before .before .before .before .before .last-size .result) (c .before .before .before .before .before .before .before .before .before .before .before .before .before .before .before .before .before .before .before .peek .ensures) (c .before .before .before .before .before .before .before .before .before .before .before .before .before .before .before .before .before .peek2 .ensures) (c .before .before .before .before .before .before .before .before .before .before .before .before .before .before .last-size .ensures) (c .before .before .before .before .before .before .before .before .reusable2 .result) (c .before .before .before .before .before .before .before .before .reusable2 .ensures) (sym (c .before .before .before .before .before .before .before .before .before .before .before .before .before2 .ensures) ∙ c .before .before .before .before .before .before .before .before .before .before .before .if1 .left) (sym (c .before .before .before .before .before .before .before .before .before .before .before3 .ensures) ∙ c .before .before .before .before .before .before .before .before .before .if2 .taken))
 
 -- of equal keys both sides have a record
 both : (c : tie.Else2) → (c .before .before .before .before .before .before .before .before .before .before .peek .result .some ≡ true) × (c .before .before .before .before .before .before .before .before .peek2 .result .some ≡ true)
@@ -116,8 +120,10 @@ same-length-3 : tie.Need-same-length-3
 same-length-3 c = search needs
 
 returns-3 : tie.Need-returns-3
-unfolding turn
-returns-3 c = c .before .before .emit3 .ensures ∙ rw (c .before .before .before .before .before .before .moved3 .ensures, c .before .before .before .before .before .before .before .after4 .ensures, c .before .before .before .before .before .before .before .before .after3 .ensures, ← c .before .before .before .before .before .before .before .before .before .before .before .before .before .before .before .before .before .before .before .peek .ensures, ← c .before .before .before .before .before .before .before .before .before .before .before .before .before .before .before .before .before .peek2 .ensures, ← c .before .before .before .before .before .before .before .before .before .before .before .before .before2 .ensures, c .before .before .before .before .before .before .before .before .before .before .before .if1 .left, ← c .before .before .before .before .before .before .before .before .before .before .before3 .ensures, c .before .before .before .before .before .before .before .before .before .if2 .left)
+returns-3 c =
+    let a = c .before .before .before .before .before .before .before .before .before .before .before .before .before .before .before .before .before .before .before .before .before .before .before .before .args in
+    c .before .before .emit3 .ensures ∙ rw (c .before .before .before .before .before .before .moved3 .ensures, c .before .before .before .before .before .before .before .after4 .ensures, c .before .before .before .before .before .before .before .before .after3 .ensures)
+    (turn-both (a .z) (a .t) (a .xs .now) (a .ys .now) (record { words = a .s .now; used = a .used .now; out = a .out .now; st = a .w }) (c .before .before .before .before .before .before .before .before .before .before .before .before .before .before .before .before .before .before .before .peek .result) (c .before .before .before .before .before .before .before .before .before .before .before .before .before .before .before .before .before .peek2 .result) (c .before .before .before .before .before .before .before .before .before .before .before .before .before .before .last-size .result) (c .before .before .before .before .before .before .before .before .before .before .before .before .before .before .before .before .before .before .before .peek .ensures) (c .before .before .before .before .before .before .before .before .before .before .before .before .before .before .before .before .before .peek2 .ensures) (c .before .before .before .before .before .before .before .before .before .before .before .before .before .before .last-size .ensures) (sym (c .before .before .before .before .before .before .before .before .before .before .before .before .before2 .ensures) ∙ c .before .before .before .before .before .before .before .before .before .before .before .if1 .left) (sym (c .before .before .before .before .before .before .before .before .before .before .before3 .ensures) ∙ c .before .before .before .before .before .before .before .before .before .if2 .left))
 
 pub step-spec : {M : Type 1} → statement M
 step-spec =
