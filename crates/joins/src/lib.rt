@@ -67,17 +67,10 @@ fn pull_last(s: &[u32], z: Layout, out: &[u32; 4096], w: Progress) -> Progress
     let none = blocks::empty();
     let last = append_block(s, z, q, none);
     let old = w.buf;
-    let all = append_buffer(last, old);
-    let x = w.x;
-    let y = w.y;
-    Progress {
-        x: x,
-        y: y,
-        m: m,
-        writes: w.writes,
-        cursor: w.cursor,
-        buf: all,
-    }
+    let mut v = w;
+    v.m = m;
+    v.buf = append_buffer(last, old);
+    v
 }
 
 // A leftover that with the last block holds B or fewer joins it.
@@ -105,18 +98,11 @@ fn take_after(s: &[u32], z: Layout, q: usize, w: Progress) -> Progress
     ensures { λ r. ⌜ r ≡ afterTaken z (now (s .entry)) q w ⌝ }
 {
     let buf = w.buf;
-    let all = append_block(s, z, q, buf);
-    let x = w.x;
     let y = w.y;
-    let next = Spot { i: y.i + 1, j: 0 };
-    Progress {
-        x: x,
-        y: next,
-        m: w.m,
-        writes: w.writes,
-        cursor: w.cursor,
-        buf: all,
-    }
+    let mut v = w;
+    v.y = Spot { i: y.i + 1, j: 0 };
+    v.buf = append_block(s, z, q, buf);
+    v
 }
 
 // The buffer, or if it is empty the last block, joins the block after Y by the same rule.

@@ -58,17 +58,12 @@ pub fn flush(
     used[q] = true;
     blocks::write_block(s, z, q, buf);
     out[m] = q as u32;
-    let fresh = blocks::empty();
-    let x = w.x;
-    let y = w.y;
-    Progress {
-        x: x,
-        y: y,
-        m: m + 1,
-        writes: w.writes + 1,
-        cursor: q,
-        buf: fresh,
-    }
+    let mut v = w;
+    v.m = m + 1;
+    v.writes = w.writes + 1;
+    v.cursor = q;
+    v.buf = blocks::empty();
+    v
 }
 
 // The buffer is written, and the block at place q follows as it stands.
@@ -110,16 +105,8 @@ pub fn gather(
     let more = buf.push(h.key, h.tombstone, h.pay);
     let n = more.n;
     let b = z.b;
-    let x = w.x;
-    let y = w.y;
-    let v = Progress {
-        x: x,
-        y: y,
-        m: w.m,
-        writes: w.writes,
-        cursor: w.cursor,
-        buf: more,
-    };
+    let mut v = w;
+    v.buf = more;
     if b <= n {
         return flush(s, used, out, z, v);
     }
