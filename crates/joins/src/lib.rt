@@ -99,8 +99,9 @@ fn take_after(s: &[u32], z: Layout, q: usize, w: Progress) -> Progress
 {
     let buf = w.buf;
     let y = w.y;
+    let next = Spot { i: y.i + 1, j: 0 };
     let mut v = w;
-    v.y = Spot { i: y.i + 1, j: 0 };
+    v.y = next;
     v.buf = append_block(s, z, q, buf);
     v
 }

@@ -38,7 +38,7 @@ append-buffer-requires c κs =
 
 returns : tie.Need-returns
 unfolding pulled
-returns c = rw (c .before .before .append-buffer .ensures, c .before .before .before .before .append-block .ensures, c .before .before .before .before .before .empty .ensures, c .before .before .before .before .before .before .listed .ensures)
+returns c = rw (c .append-buffer .ensures, c .before .before .append-block .ensures, c .before .before .before .empty .ensures, c .before .before .before .before .listed .ensures)
 
 pub pull-last-spec : {M : Type 1} → statement M
 pull-last-spec =
