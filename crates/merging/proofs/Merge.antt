@@ -25,12 +25,13 @@ use Rattle.stream.proofs.Laws.{idle-of}
 use Rattle.joins.specs.Joins.{restedOut, joinedUp, closed, Closable}
 use Rattle.merging.specs.declared.Cut.{Cut}
 use Rattle.merging.specs.Blocks.{blockOf, blocks, side, layAll}
-use Rattle.merging.specs.Relation.{Stands, Listed, Holds, Core, Sim, Begun, flashOf, start, merged}
+use Rattle.merging.specs.Relation.{Stands, Listed, Holds, Core, Begun, flashOf, start, merged}
 use Rattle.merging.specs.Relation as relation
 use Rattle.merging.specs.Contract.{blocksOf, runOf, mergeOf, ListedBlock, FullPage, Mergeable, Leaves, inputsOf, beginOf, limitOf}
 use Rattle.merging.proofs.Heads.{recs-length}
 use Rattle.merging.proofs.Moves.{begin-zero, side-cons}
 use Rattle.merging.proofs.Frame.{Same, listed-kept}
+use Rattle.merging.proofs.Sim.{Both}
 use Rattle.merging.proofs.Run.{begun-turns, begun-ready}
 use Rattle.merging.proofs.Close.{rested-length, flushed-out}
 use Rattle.merging.proofs.Whole.{turns-same, merge-laid}
@@ -188,7 +189,7 @@ module _ (g : Geometry) (ws : List ℕ) (used : List Bool) (out xs ys : List ℕ
   abbrev pub ends : Memory
   ends = turns z t xs ys (limitOf c) begins
 
-  both : Core z t xs ys (iterate (limitOf c) (step (g .b) (c .bottom)) state .out) ends × Sim z t xs ys (start begins) (iterate (limitOf c) (step (g .b) (c .bottom)) state) ends
+  both : Both z t xs ys (start begins) (iterate (limitOf c) (step (g .b) (c .bottom)) state) ends
   both = begun-turns z t xs ys (limitOf c) begins (begun (limitOf c)) (limitOf c) (le-refl (limitOf c))
 
   -- both sides are used up

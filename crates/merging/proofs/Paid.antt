@@ -21,6 +21,7 @@ use Rattle.stream.specs.declared.Inputs.{Inputs}
 use Rattle.sides.specs.Sides.{headAt, follows}
 use Rattle.stream.specs.Machine.{Memory, flushed, writtenAt, gathered, reused, emitted, withProgress, withBuffer, spotAfter, moved}
 use Rattle.levels.proofs.Basics.{and-left, and-right, if-either}
+use Rattle.stream.proofs.Laws.{after-one}
 use Rattle.merging.specs.Contract.{countMarks}
 use Rattle.merging.specs.Relation.{nextFree}
 
@@ -136,11 +137,9 @@ module _ (b end : ℕ) (p : Spot) where
   after-far : (n : ℕ) (r : Bool) → p .i < end → p .j < n → n ≤ b → (r ≡ true → p .j ≡ 0) → Far b end p (spotAfter p n r) (onList b r) (onPlaces b r)
   unfolding spotAfter
   after-far n true h j l w = let m = mul-le-mul-left {m = p .i + 1} {n = end} b (omega arith) in let e = w refl in record { list = omega arith; places = omega arith; end-high = omega arith }
-  after-far n false h j l w = go (leb n (p .j + 1)) refl
-    where
-      go : (t : Bool) → leb n (p .j + 1) ≡ t → Far b end p (if t then record { i = p .i + 1; j = 0 } else record { i = p .i; j = p .j + 1 }) 1 1
-      go true e = let m = mul-le-mul-left {m = p .i + 1} {n = end} b (omega arith) in record { list = omega arith; places = omega arith; end-high = omega arith }
-      go false e = let m = mul-le-mul-left {m = p .i + 1} {n = end} b (omega arith) in let g = leb-false n (p .j + 1) e in record { list = omega arith; places = omega arith; end-high = omega arith }
+  after-far n false h j l w =
+      let m = mul-le-mul-left {m = p .i + 1} {n = end} b (omega arith) in
+      after-one (λ (q : Spot). Far b end p q 1 1) p n (λ g. record { list = omega arith; places = omega arith; end-high = omega arith }) (λ g. record { list = omega arith; places = omega arith; end-high = omega arith })
 
 -- a block that is reused has not been begun
 follows-start : (z : Layout) (bottom : Bool) (ws : List ℕ) (c : Chunk) (j : ℕ) (o : Head) (n e : ℕ) → follows z bottom (headAt ws c j) o n e ≡ true → j ≡ 0

@@ -23,7 +23,7 @@ use Rattle.stream.specs.declared.Inputs.{Inputs}
 use Rattle.sides.specs.Sides.{blockChunk, chunkOf, headOf, headAt, noHead, lastSize, follows}
 use Rattle.stream.specs.Machine.{Memory, flushed, append, gathered, reused, emitted, withProgress, withBuffer, spotAfter, moved, turn, idle}
 use Rattle.levels.proofs.Basics.{and-left, and-right}
-use Rattle.stream.proofs.Laws.{flushed-m, idle-of}
+use Rattle.stream.proofs.Laws.{flushed-m, after-one, idle-of}
 use Rattle.merging.specs.Relation.{nextFree, Holds, Stands, SideAt, LastIs, Core, Budget, Sim}
 use Rattle.merging.specs.Blocks.{blockOf, storedAt, countAt, begun, side, Flash}
 use Rattle.merging.proofs.Words.{sized-on}
@@ -107,20 +107,15 @@ module _ {z : Layout} {pages : Bool} {ws : List ℕ} {used : List Bool} {list : 
   after-at : (r : Bool) → SideAt z pages ws used list end (spotAfter p (chunk .n) r)
   unfolding spotAfter
   after-at true = next-at
-  after-at false = go (leb (chunk .n) (p .j + 1)) refl
-    where
-      go : (t : Bool) → leb (chunk .n) (p .j + 1) ≡ t → SideAt z pages ws used list end (if t then record { i = p .i + 1; j = 0 } else record { i = p .i; j = p .j + 1 })
-      go true e = next-at
-      go false e = record { stands = k .stands; low = k .low; inside = λ h. leb-false (chunk .n) (p .j + 1) e }
+  after-at false = after-one (SideAt z pages ws used list end) p (chunk .n) (λ _. next-at) (λ h. record { stands = k .stands; low = k .low; inside = λ _. h })
 
   after-side : (r : Bool) → past r top behind ≡ side z pages ws list (spotAfter p (chunk .n) r .i) (spotAfter p (chunk .n) r .j) end
   unfolding spotAfter
   after-side true = refl
-  after-side false = go (leb (chunk .n) (p .j + 1)) refl
-    where
-      go : (t : Bool) → leb (chunk .n) (p .j + 1) ≡ t → let v : Spot = if t then record { i = p .i + 1; j = 0 } else record { i = p .i; j = p .j + 1 } in rest (top ∷ behind) ≡ side z pages ws list (v .i) (v .j) end
-      go true e = rest-last ws chunk (p .j) behind (omega (arith, leb-true (chunk .n) (p .j + 1) e, k .inside g))
-      go false e = rest-more ws chunk (p .j) behind (omega (arith, leb-false (chunk .n) (p .j + 1) e)) ∙ rw (add-one (p .j)) (sym (side-cons z pages ws list (p .i) (suc (p .j)) end g))
+  after-side false =
+      after-one (λ (v : Spot). rest (top ∷ behind) ≡ side z pages ws list (v .i) (v .j) end) p (chunk .n)
+      (λ h. rest-last ws chunk (p .j) behind (omega (arith, k .inside g)))
+      (λ h. rest-more ws chunk (p .j) behind (omega arith) ∙ rw (add-one (p .j)) (sym (side-cons z pages ws list (p .i) (suc (p .j)) end g)))
 
 gather-tail : (z : Layout) (bottom : Bool) (o : Out) (a : Memory) (h : Head) → a .st .buf ≡ bufferOf (o .buffer) → LastIs z (a .words) (a .out) (a .st .m) (o .done)
     → LastIs z (gathered z bottom a h .words) (gathered z bottom a h .out) (gathered z bottom a h .st .m) (gather (z .b) bottom (record { key = h .key; tombstone = eqb (h .tombstone) 1; pay = h .pay }) o .done)

@@ -1,11 +1,11 @@
 -- Laws of the machine's steps.
-use Prim.Native.Nat.{ℕ, zero, suc, _+_, _≤_}
+use Prim.Native.Nat.{ℕ, zero, suc, _+_, _≤_, _<_}
 use mathlib.Core.Path.{_≡_, sym, ap, _∙_, refl}
 use mathlib.Core.Bool.{Bool, true, false, true≢false}
 use mathlib.Core.List.{List}
 use native.Mathlib.Omega.{arith}
 use lib.Dec.{leb, eqb}
-use borrow.Author.Tests.{le-leb, leb-true}
+use borrow.Author.Tests.{le-leb, leb-true, leb-false}
 use Rattle.levels.specs.Basics.{if_then_else_}
 use Rattle.levels.proofs.Basics.{and-left, and-right, if-either}
 use Rattle.blocks.specs.declared.Layout.{Layout}
@@ -24,6 +24,15 @@ flushed-m z a = if-either (λ (b : Memory). b .st .m ≤ a .st .m + 1) (eqb (a .
 pub flushed-y : (z : Layout) (a : Memory) → flushed z a .st .y ≡ a .st .y
 unfolding flushed
 flushed-y z a = if-either (λ (b : Memory). b .st .y ≡ a .st .y) (eqb (a .st .buf .n) 0) a (writtenAt z a (nextMark (z .p) (a .used) (a .st .cursor))) refl refl
+
+-- past one record: it was the last of its block, or there are more
+pub after-one : (P : Spot → Type 0) (p : Spot) (n : ℕ) → (n ≤ p .j + 1 → P (record { i = p .i + 1; j = 0 })) → (p .j + 1 < n → P (record { i = p .i; j = p .j + 1 })) → P (spotAfter p n false)
+unfolding spotAfter
+after-one P p n f g = go (leb n (p .j + 1)) refl
+  where
+    go : (t : Bool) → leb n (p .j + 1) ≡ t → P (if t then record { i = p .i + 1; j = 0 } else record { i = p .i; j = p .j + 1 })
+    go true e = f (leb-true n (p .j + 1) e)
+    go false e = g (leb-false n (p .j + 1) e)
 
 -- one branch, where the test is known
 pub if-true : {A : Type 0} (t : Bool) (a b : A) → t ≡ true → (if t then a else b) ≡ a
