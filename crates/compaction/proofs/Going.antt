@@ -19,7 +19,7 @@ use Rattle.merging.specs.Contract.{countMarks}
 use Rattle.merging.specs.Blocks.{recAt, recsFrom, countAt}
 use Rattle.merging.specs.Relation.{Holds, start}
 use Rattle.merging.proofs.Words.{sized-on}
-use Rattle.merging.proofs.Frame.{Same, kept-same, gather-kept, stored-agree, count-kept}
+use Rattle.merging.proofs.Frame.{Same, gather-kept, stored-agree, count-kept}
 use Rattle.merging.proofs.Heads.{recs-length}
 use Rattle.merging.proofs.Loads.{recs-none, recs-snoc}
 use Rattle.merging.proofs.Outs.{marks-low, gather-holds}
@@ -91,9 +91,9 @@ module _ (z : Layout) (s : Memory) (n : ℕ) (few : n ≤ 2048) (free : countMar
           sized = sized-on z (a .words) (gathered z false a h .words) (k .sized) (kp .length-words);
           full = kp .length-out ∙ k .full;
           cursor = kp .cursor (k .cursor);
-          fit = rw e (gather-fit (z .b) false (recOf h) o (omega arith) (k .fit));
+          fit = rw e (gather-fit (z .b) false (recOf h) o (k .fit));
           holds = rw e (gather-holds z false (start s) o a h (record { sized = k .sized; cursor = k .cursor; list = omega arith }) (omega arith) t (k .holds));
-          same = same-next z s a (gathered z false a h) (k .same) (kept-same z a (gathered z false a h) kp);
+          same = same-next z s a (gathered z false a h) (k .same) (kp .same);
           list = (let u = k .list in let v = sp .list in omega arith);
           places = (let u = k .places in let v = sp .places in omega arith);
           marks = (let u = k .marks in let v = sp .marks in omega arith);

@@ -43,7 +43,7 @@ pub record Gathering (z : Layout) (q : ℕ) (a : Memory) : Type 0 where
 
 -- where a compaction starts
 abbrev pub beginAt : ℕ → Progress
-beginAt cursor = record { xi = 0; xj = 0; yi = 0; yj = 0; m = 0; writes = 0; cursor = cursor; buf = emptyBuffer }
+beginAt cursor = record { x = record { i = 0; j = 0 }; y = record { i = 0; j = 0 }; m = 0; writes = 0; cursor = cursor; buf = emptyBuffer }
 
 -- what a compaction asks: a legal store, work arrays of their full length, listed blocks, and a free place for each of them and one more
 pub record Compactable (g : Geometry) (ws : List ℕ) (used : List Bool) (out list : List ℕ) (n cursor : ℕ) : Type 0 where

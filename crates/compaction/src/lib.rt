@@ -16,6 +16,7 @@ use blocks::Layout;
 use geometry::Geometry;
 use merging::Merged;
 use stream::Progress;
+use stream::Spot;
 
 // The records of the block at place q, into the buffer. A block that is written takes a free place,
 // so the block that is read keeps its words.
@@ -66,11 +67,10 @@ fn begin(cursor: usize) -> Progress
     ensures { λ r. ⌜ r ≡ beginAt cursor ⌝ }
 {
     let empty = blocks::empty();
+    let none = Spot { i: 0, j: 0 };
     Progress {
-        xi: 0,
-        xj: 0,
-        yi: 0,
-        yj: 0,
+        x: none,
+        y: none,
         m: 0,
         writes: 0,
         cursor: cursor,

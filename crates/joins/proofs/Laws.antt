@@ -87,9 +87,9 @@ module _ (z : Layout) (xs out : List ℕ) (w : Progress) where
       let n = getD xs at 0 in
       joined-clean (appended (z .b) xs at emptyBuffer n) (w .buf .keys) (w .buf .pays) (w .buf .marks) (appended-clean (z .b) xs at emptyBuffer empty-clean n) (w .buf .n)
 
-  pub pulled-yi : pulled z xs out w .yi ≡ w .yi
+  pub pulled-y : pulled z xs out w .y ≡ w .y
   unfolding pulled
-  pulled-yi = refl
+  pulled-y = refl
 
 pub rested-more : (out : List ℕ) (m : ℕ) (ys : List ℕ) (from i : ℕ) → set (restedOut out m ys from i) (m + i) (getD ys (from + i) 0) ≡ restedOut out m ys from (i + 1)
 unfolding restedOut

@@ -43,10 +43,8 @@ unfoldable pub pulled : Layout → List ℕ → List ℕ → Progress → Progre
 pulled z xs out w =
     let at = startOf z (getD out (w .m - 1) 0) in
     record {
-      xi = w .xi;
-      xj = w .xj;
-      yi = w .yi;
-      yj = w .yj;
+      x = w .x;
+      y = w .y;
       m = w .m - 1;
       writes = w .writes;
       cursor = w .cursor;
@@ -68,10 +66,8 @@ leftJoined z xs out w =
 unfoldable pub afterTaken : Layout → List ℕ → ℕ → Progress → Progress
 afterTaken z xs q w =
     record {
-      xi = w .xi;
-      xj = w .xj;
-      yi = w .yi + 1;
-      yj = 0;
+      x = w .x;
+      y = record { i = w .y .i + 1; j = 0 };
       m = w .m;
       writes = w .writes;
       cursor = w .cursor;
@@ -82,14 +78,14 @@ pub record Afters (z : Layout) (xs out ys : List ℕ) (w : Progress) (end : ℕ)
   pub lefts : Lefts z xs out w
   pub end-high : end ≤ 4096
   pub clean : Clean (w .buf)
-  pub place : w .yi < end → getD ys (w .yi) 0 < z .p
-  pub filled : w .yi < end → 1 ≤ getD xs (startOf z (getD ys (w .yi) 0)) 0
+  pub place : w .y .i < end → getD ys (w .y .i) 0 < z .p
+  pub filled : w .y .i < end → 1 ≤ getD xs (startOf z (getD ys (w .y .i) 0)) 0
 
 unfoldable pub afterJoined : Layout → List ℕ → List ℕ → List ℕ → Progress → ℕ → Progress
 afterJoined z xs out ys w end =
-    let q = getD ys (w .yi) 0 in
+    let q = getD ys (w .y .i) 0 in
     let size = getD xs (startOf z q) 0 in
-    if leb end (w .yi) then w
+    if leb end (w .y .i) then w
     else if eqb (w .buf .n) 0 then (if leb (lastSize z xs out (w .m) + size) (z .b) then afterTaken z xs q (pulled z xs out w) else w)
     else if leb (w .buf .n + size) (z .b) then afterTaken z xs q w
     else w
@@ -105,8 +101,8 @@ rested a ys end =
     record {
       words = a .words;
       used = a .used;
-      out = restedOut (a .out) (a .st .m) ys (a .st .yi) (end - a .st .yi);
-      st = record { xi = a .st .xi; xj = a .st .xj; yi = a .st .yi; yj = a .st .yj; m = a .st .m + (end - a .st .yi); writes = a .st .writes; cursor = a .st .cursor; buf = a .st .buf };
+      out = restedOut (a .out) (a .st .m) ys (a .st .y .i) (end - a .st .y .i);
+      st = record { x = a .st .x; y = a .st .y; m = a .st .m + (end - a .st .y .i); writes = a .st .writes; cursor = a .st .cursor; buf = a .st .buf };
     }
 
 -- the joins, before the last write
@@ -120,5 +116,5 @@ pub record Closable (z : Layout) (ys : List ℕ) (end : ℕ) (a : Memory) : Type
   pub lefts : Lefts z (a .words) (a .out) (a .st)
   pub afters : Afters z (a .words) (a .out) ys (leftJoined z (a .words) (a .out) (a .st)) end
   pub flushable : Flushable z (a .words) (a .used) (joinedUp z ys end a .st)
-  pub yi-high : flushed z (joinedUp z ys end a) .st .yi ≤ end
-  pub room : flushed z (joinedUp z ys end a) .st .m + (end - flushed z (joinedUp z ys end a) .st .yi) ≤ 4096
+  pub y-high : flushed z (joinedUp z ys end a) .st .y .i ≤ end
+  pub room : flushed z (joinedUp z ys end a) .st .m + (end - flushed z (joinedUp z ys end a) .st .y .i) ≤ 4096

@@ -11,6 +11,7 @@ ghost use Rattle.joins.specs.Joins.{Clean, Loadable, appended, joined, P
 use blocks::Buffer;
 use blocks::Layout;
 use stream::Progress;
+use stream::Spot;
 
 // The first n records of the block whose words start at `at`, after those of the buffer.
 fn append_words(s: &[u32], z: Layout, at: usize, n: usize, buf: Buffer) -> Buffer
@@ -66,17 +67,10 @@ fn pull_last(s: &[u32], z: Layout, out: &[u32; 4096], w: Progress) -> Progress
     let none = blocks::empty();
     let last = append_block(s, z, q, none);
     let old = w.buf;
-    let all = append_buffer(last, old);
-    Progress {
-        xi: w.xi,
-        xj: w.xj,
-        yi: w.yi,
-        yj: w.yj,
-        m: m,
-        writes: w.writes,
-        cursor: w.cursor,
-        buf: all,
-    }
+    let mut v = w;
+    v.m = m;
+    v.buf = append_buffer(last, old);
+    v
 }
 
 // A leftover that with the last block holds B or fewer joins it.
@@ -100,21 +94,16 @@ fn join_left(s: &[u32], z: Layout, out: &[u32; 4096], w: Progress) -> Progress
 
 // The block after Y joins the buffer.
 fn take_after(s: &[u32], z: Layout, q: usize, w: Progress) -> Progress
-    requires { ⌜ Loadable z (now s) q (w .buf) × (w .yi < 4096) ⌝ }
+    requires { ⌜ Loadable z (now s) q (w .buf) × (w .y .i < 4096) ⌝ }
     ensures { λ r. ⌜ r ≡ afterTaken z (now (s .entry)) q w ⌝ }
 {
     let buf = w.buf;
-    let all = append_block(s, z, q, buf);
-    Progress {
-        xi: w.xi,
-        xj: w.xj,
-        yi: w.yi + 1,
-        yj: 0,
-        m: w.m,
-        writes: w.writes,
-        cursor: w.cursor,
-        buf: all,
-    }
+    let y = w.y;
+    let next = Spot { i: y.i + 1, j: 0 };
+    let mut v = w;
+    v.y = next;
+    v.buf = append_block(s, z, q, buf);
+    v
 }
 
 // The buffer, or if it is empty the last block, joins the block after Y by the same rule.
@@ -129,11 +118,12 @@ fn join_after(
     requires { ⌜ Afters z (now s) (now out) (now ys) w end ⌝ }
     ensures { λ r. ⌜ r ≡ afterJoined z (now (s .entry)) (now (out .entry)) (now (ys .entry)) w end ⌝ }
 {
-    let yi = w.yi;
-    if end <= yi {
+    let y = w.y;
+    let i = y.i;
+    if end <= i {
         return w;
     }
-    let q = sides::listed(ys, yi);
+    let q = sides::listed(ys, i);
     let at = blocks::place_start(z, q);
     let size = sides::word(s, at);
     let buf = w.buf;
@@ -184,7 +174,8 @@ pub fn close(
     let b = join_after(s, z, out, ys, a, end);
     let mut v = stream::flush(s, used, out, z, b);
     let m = v.m;
-    let from = v.yi;
+    let y = v.y;
+    let from = y.i;
     copy_entries(out, ys, m, from, end);
     v.m = m + (end - from);
     v

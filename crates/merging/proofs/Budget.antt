@@ -6,73 +6,80 @@ use mathlib.Core.List.{List, []}
 use native.Mathlib.Decide.{decLt}
 use native.Mathlib.Nat.{mul-le-mul-left, le-of-mul-le-mul-right}
 use native.Mathlib.Omega.{arith}
-use borrow.Author.Tests.{le-leb}
 use Rattle.levels.specs.Basics.{if_then_else_, iterate}
 use Rattle.levels.specs.Merge.{Out, step}
 use Rattle.blocks.specs.declared.Layout.{Layout}
 use Rattle.blocks.specs.declared.Buffer.{Buffer}
 use Rattle.blocks.specs.Blocks.{bufferOf}
+use Rattle.sides.specs.declared.Chunk.{Chunk}
 use Rattle.stream.specs.declared.Inputs.{Inputs}
 use Rattle.sides.specs.Sides.{chunkOf, headAt, noHead, lastSize, first}
 use Rattle.stream.specs.Machine.{Memory, turn, idle, turns}
 use Rattle.levels.proofs.Basics.{if-either}
+use Rattle.stream.proofs.Laws.{idle-of}
 use Rattle.merging.specs.Contract.{countMarks}
 use Rattle.merging.specs.Relation.{Holds, Core, Budget, start}
 use Rattle.merging.specs.Relation as relation
 use Rattle.merging.proofs.Sim.{head-at, head-no}
 use Rattle.merging.proofs.Run.{sim-turns}
-use Rattle.merging.proofs.Paid.{Paid, took-x-paid, took-y-paid, took-both-paid, count-free}
+use Rattle.merging.proofs.Paid.{Paid, upper-paid, lower-paid, both-paid, count-free}
 
 -- a step keeps the potential
 pub turn-paid : (z : Layout) (t : Inputs) (xs ys : List ℕ) (s : Memory) (o : Out) (a : Memory) → Core z t xs ys o a → Paid z t s a → idle z t xs ys a ≡ false → Paid z t s (turn z t xs ys a)
 unfolding turn
-turn-paid z t xs ys s o a c p idles = go (decLt (a .st .xi) (t .x)) (decLt (a .st .yi) (t .y))
+turn-paid z t xs ys s o a c p idles = go (decLt (a .st .x .i) (t .x)) (decLt (a .st .y .i) (t .y))
   where
-    go : Dec (a .st .xi < t .x) → Dec (a .st .yi < t .y) → Paid z t s (turn z t xs ys a)
-    go (no nx) (no ny) = absurd (true≢false (sym (rw (le-leb (t .x) (a .st .xi) (omega arith), le-leb (t .y) (a .st .yi) (omega arith))) ∙ idles))
+    x : Chunk
+    x = chunkOf z (t .pages) (a .words) xs (a .st .x .i)
+
+    y : Chunk
+    y = chunkOf z false (a .words) ys (a .st .y .i)
+
+    e : ℕ
+    e = lastSize z (a .words) (a .out) (a .st .m)
+
+    go : Dec (a .st .x .i < t .x) → Dec (a .st .y .i < t .y) → Paid z t s (turn z t xs ys a)
+    go (no nx) (no ny) = absurd (true≢false (sym (idle-of z t xs ys a (omega arith) (omega arith)) ∙ idles))
     go (yes gx) (no ny) =
-        rw (head-at z t xs ys (start s) (t .pages) (a .words) xs (a .st .xi) (a .st .xj) (t .x) gx, head-no z t xs ys (start s) false (a .words) ys (a .st .yi) (a .st .yj) (t .y) (omega arith))
-        (took-x-paid z t s a p (t .bottom) (chunkOf z (t .pages) (a .words) xs (a .st .xi)) (c .upper (a .st .xi) gx .formed .high) noHead (lastSize z (a .words) (a .out) (a .st .m)) gx (c .in-x gx))
+        rw (head-at z (t .pages) (a .words) xs (a .st .x .i) (a .st .x .j) (t .x) gx, head-no z false (a .words) ys (a .st .y .i) (a .st .y .j) (t .y) (omega arith))
+        (upper-paid z t s a p (t .bottom) x noHead e (c .upper .stands (a .st .x .i) gx .formed .high) gx (c .upper .inside gx))
     go (no nx) (yes gy) =
-        rw (head-no z t xs ys (start s) (t .pages) (a .words) xs (a .st .xi) (a .st .xj) (t .x) (omega arith), head-at z t xs ys (start s) false (a .words) ys (a .st .yi) (a .st .yj) (t .y) gy)
-        (took-y-paid z t s a p (t .bottom) (chunkOf z false (a .words) ys (a .st .yi)) (c .lower (a .st .yi) gy .formed .high) noHead (lastSize z (a .words) (a .out) (a .st .m)) gy (c .in-y gy))
+        rw (head-no z (t .pages) (a .words) xs (a .st .x .i) (a .st .x .j) (t .x) (omega arith), head-at z false (a .words) ys (a .st .y .i) (a .st .y .j) (t .y) gy)
+        (lower-paid z t s a p (t .bottom) y noHead e (c .lower .stands (a .st .y .i) gy .formed .high) gy (c .lower .inside gy))
     go (yes gx) (yes gy) =
-        let x = chunkOf z (t .pages) (a .words) xs (a .st .xi) in
-        let y = chunkOf z false (a .words) ys (a .st .yi) in
-        let hx = c .upper (a .st .xi) gx .formed .high in
-        let hy = c .lower (a .st .yi) gy .formed .high in
-        let kx = headAt (a .words) x (a .st .xj) in
-        let ky = headAt (a .words) y (a .st .yj) in
-        let e = lastSize z (a .words) (a .out) (a .st .m) in
-        rw (head-at z t xs ys (start s) (t .pages) (a .words) xs (a .st .xi) (a .st .xj) (t .x) gx, head-at z t xs ys (start s) false (a .words) ys (a .st .yi) (a .st .yj) (t .y) gy)
-        (if-either (Paid z t s) (first ky kx) _ _ (took-y-paid z t s a p (t .bottom) y hy kx e gy (c .in-y gy))
-        (if-either (Paid z t s) (first kx ky) _ _ (took-x-paid z t s a p (t .bottom) x hx ky e gx (c .in-x gx))
-        (took-both-paid z t s a p (t .bottom) x hx y hy gx (c .in-x gx) gy (c .in-y gy))))
+        let hx = c .upper .stands (a .st .x .i) gx .formed .high in
+        let hy = c .lower .stands (a .st .y .i) gy .formed .high in
+        let kx = headAt (a .words) x (a .st .x .j) in
+        let ky = headAt (a .words) y (a .st .y .j) in
+        rw (head-at z (t .pages) (a .words) xs (a .st .x .i) (a .st .x .j) (t .x) gx, head-at z false (a .words) ys (a .st .y .i) (a .st .y .j) (t .y) gy)
+        (if-either (Paid z t s) (first ky kx) _ _ (lower-paid z t s a p (t .bottom) y kx e hy gy (c .lower .inside gy))
+        (if-either (Paid z t s) (first kx ky) _ _ (upper-paid z t s a p (t .bottom) x ky e hx gx (c .upper .inside gx))
+        (both-paid z t s a p (t .bottom) x y kx hx hy gx (c .upper .inside gx) gy (c .lower .inside gy))))
 
 -- what a merge starts with: nothing written, nothing begun, room and free places for its inputs
 pub record Supplied (z : Layout) (t : Inputs) (xs ys : List ℕ) (a : Memory) : Type 0 where
   pub core : Core z t xs ys (relation.first z t xs ys a .out) a
   pub holds : Holds z (start a) (relation.first z t xs ys a .out) a
-  pub x-start : a .st .xj ≡ 0
-  pub y-start : a .st .yj ≡ 0
+  pub x-start : a .st .x .j ≡ 0
+  pub y-start : a .st .y .j ≡ 0
   pub writes : a .st .writes ≡ 0
   pub x-high : t .x ≤ 4096
   pub y-high : t .y ≤ 4096
-  pub room : a .st .m + 2 * ((t .x - a .st .xi) + (t .y - a .st .yi)) + 2 ≤ 4096
-  pub free : countMarks (z .p) (a .used) + ((t .x - a .st .xi) + (t .y - a .st .yi)) + 1 ≤ z .p
+  pub room : a .st .m + 2 * ((t .x - a .st .x .i) + (t .y - a .st .y .i)) + 2 ≤ 4096
+  pub free : countMarks (z .p) (a .used) + ((t .x - a .st .x .i) + (t .y - a .st .y .i)) + 1 ≤ z .p
 
 -- the potential bounds what is listed, written and marked
 pub record Bounded (z : Layout) (t : Inputs) (s a : Memory) : Type 0 where
-  pub m : a .st .m ≤ s .st .m + 2 * ((t .x - s .st .xi) + (t .y - s .st .yi))
-  pub writes : a .st .writes ≤ s .st .writes + ((t .x - s .st .xi) + (t .y - s .st .yi))
-  pub marks : countMarks (z .p) (a .used) ≤ countMarks (z .p) (s .used) + ((t .x - s .st .xi) + (t .y - s .st .yi))
+  pub m : a .st .m ≤ s .st .m + 2 * ((t .x - s .st .x .i) + (t .y - s .st .y .i))
+  pub writes : a .st .writes ≤ s .st .writes + ((t .x - s .st .x .i) + (t .y - s .st .y .i))
+  pub marks : countMarks (z .p) (a .used) ≤ countMarks (z .p) (s .used) + ((t .x - s .st .x .i) + (t .y - s .st .y .i))
 
-pub paid-bounded : (z : Layout) (t : Inputs) (s a : Memory) → 1 ≤ z .b → s .st .xi ≤ t .x → s .st .yi ≤ t .y → Paid z t s a → Bounded z t s a
+pub paid-bounded : (z : Layout) (t : Inputs) (s a : Memory) → 1 ≤ z .b → s .st .x .i ≤ t .x → s .st .y .i ≤ t .y → Paid z t s a → Bounded z t s a
 paid-bounded z t s a b hx hy p =
-    let nx = t .x - s .st .xi in
-    let ny = t .y - s .st .yi in
-    let ex : z .b * t .x ≡ z .b * (s .st .xi + nx) = ap (λ (i : ℕ). z .b * i) (omega arith) in
-    let ey : z .b * t .y ≡ z .b * (s .st .yi + ny) = ap (λ (i : ℕ). z .b * i) (omega arith) in
+    let nx = t .x - s .st .x .i in
+    let ny = t .y - s .st .y .i in
+    let ex : z .b * t .x ≡ z .b * (s .st .x .i + nx) = ap (λ (i : ℕ). z .b * i) (omega arith) in
+    let ey : z .b * t .y ≡ z .b * (s .st .y .i + ny) = ap (λ (i : ℕ). z .b * i) (omega arith) in
     let px = p .x-end in
     let py = p .y-end in
     let l : a .st .m * z .b ≤ (s .st .m + 2 * (nx + ny)) * z .b = (let u = p .list in omega arith) in
@@ -89,8 +96,8 @@ module _ (z : Layout) (t : Inputs) (xs ys : List ℕ) (a : Memory) (k : Supplied
   first-paid : Paid z t a a
   first-paid =
       let n = buffer-empty in
-      let x = mul-le-mul-left {m = a .st .xi} {n = t .x} (z .b) (k .core .x-in) in
-      let y = mul-le-mul-left {m = a .st .yi} {n = t .y} (z .b) (k .core .y-in) in
+      let x = mul-le-mul-left {m = a .st .x .i} {n = t .x} (z .b) (k .core .upper .low) in
+      let y = mul-le-mul-left {m = a .st .y .i} {n = t .y} (z .b) (k .core .lower .low) in
       let xj = k .x-start in
       let yj = k .y-start in
       record { x-end = omega arith; y-end = omega arith; list = omega arith; places = omega arith; marks = omega arith }
@@ -109,7 +116,7 @@ module _ (z : Layout) (t : Inputs) (xs ys : List ℕ) (a : Memory) (k : Supplied
       go false e p c = turn-paid z t xs ys a (iterate n (step (z .b) (t .bottom)) (relation.first z t xs ys a) .out) (turns z t xs ys n a) c p e
 
   bounded : (n : ℕ) → ((i : ℕ) → i < n → Budget z (turns z t xs ys i a)) → Bounded z t a (turns z t xs ys n a)
-  bounded n g = paid-bounded z t a (turns z t xs ys n a) (let l = k .core .sized .b-low in omega arith) (k .core .x-in) (k .core .y-in) (turns-paid n g)
+  bounded n g = paid-bounded z t a (turns z t xs ys n a) (let l = k .core .sized .b-low in omega arith) (k .core .upper .low) (k .core .lower .low) (turns-paid n g)
 
   budget-here : (n : ℕ) → ((i : ℕ) → i < n → Budget z (turns z t xs ys i a)) → Budget z (turns z t xs ys n a)
   budget-here n g =

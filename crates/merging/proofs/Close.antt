@@ -18,12 +18,13 @@ use Rattle.levels.specs.Merge.{Out, flush, joinLeft, join}
 use Rattle.blocks.specs.declared.Layout.{Layout}
 use Rattle.blocks.specs.declared.Buffer.{Buffer}
 use Rattle.blocks.specs.Blocks.{Sized, startOf, emptyBuffer, bufferOf}
+use Rattle.stream.specs.declared.Spot.{Spot}
 use Rattle.stream.specs.declared.Progress.{Progress}
 use Rattle.words.specs.Layout.{markWord}
 use Rattle.sides.specs.Sides.{blockChunk, chunkOf, lastSize}
 use Rattle.stream.specs.Machine.{Memory, flushed, writtenAt, withProgress}
 use Rattle.levels.proofs.Basics.{if-either}
-use Rattle.stream.proofs.Laws.{flushed-m}
+use Rattle.stream.proofs.Laws.{flushed-m, flushed-y}
 use Rattle.joins.specs.Joins.{appended, pulled, leftJoined, afterTaken, afterJoined, restedOut, rested, closed}
 use Rattle.merging.specs.Relation.{Formed, headSize, nextFree, flashOf, Holds, LastIs}
 use Rattle.merging.specs.Blocks.{recsFrom, storedAt, countAt, blocks, Flash, lay, layAll, layDone}
@@ -36,10 +37,6 @@ pub lay-reverse : (z : Layout) (d : Flash) (done l : Level) → layAll z d (reve
 unfolding layAll layDone
 lay-reverse z d [] l = refl
 lay-reverse z d (b ∷ bs) l = lay-reverse z d bs (b ∷ l)
-
-lay-none : (z : Layout) (d : Flash) → layAll z d [] ≡ d
-unfolding layAll
-lay-none z d = refl
 
 -- entries of a place list
 abbrev pub entries : List ℕ → ℕ → ℕ → List ℕ
@@ -80,10 +77,10 @@ module _ (z : Layout) (d : Flash) (a : Memory) where
   flush-flash (r ∷ rs) done w f k = rw (flush-some z (withProgress a w) r rs (k .buf)) (written-holds z d r rs done (withProgress a w) f (k .buf) (k .flash) .flash)
 
   finish : (p : List Rec) (done : Level) (w : Progress) (ys : List ℕ) (end : ℕ) (ws : List ℕ) → Fit z (withProgress a w) → Pend p done w
-      → flushed z (withProgress a w) .st .yi ≡ w .yi → flushed z (withProgress a w) .st .m + (end - w .yi) ≤ length (flushed z (withProgress a w) .out)
-      → flashOf (rested (flushed z (withProgress a w)) ys end) ≡ layAll z (layDone z d (flush p done)) (blocks z false ws ys (w .yi) (end - w .yi))
+      → flushed z (withProgress a w) .st .y .i ≡ w .y .i → flushed z (withProgress a w) .st .m + (end - w .y .i) ≤ length (flushed z (withProgress a w) .out)
+      → flashOf (rested (flushed z (withProgress a w)) ys end) ≡ layAll z (layDone z d (flush p done)) (blocks z false ws ys (w .y .i) (end - w .y .i))
   finish p done w ys end ws f k ey r =
-      rw (ey, flush-flash p done w f k, lay-blocks z (flashOf (flushed z (withProgress a w))) ws ys (w .yi) (end - w .yi), rested-list (flushed z (withProgress a w) .out) (flushed z (withProgress a w) .st .m) ys (w .yi) (end - w .yi) r)
+      rw (ey, flush-flash p done w f k, lay-blocks z (flashOf (flushed z (withProgress a w))) ws ys (w .y .i) (end - w .y .i), rested-list (flushed z (withProgress a w) .out) (flushed z (withProgress a w) .st .m) ys (w .y .i) (end - w .y .i) r)
 
 abbrev init : List ℕ → List ℕ
 init [] = []
@@ -161,10 +158,6 @@ flush-filled : (p : List Rec) (done : Level) → 1 ≤ length p → flush p done
 flush-filled [] done h = absurd (omega arith)
 flush-filled (r ∷ rs) done h = refl
 
-flushed-yi : (z : Layout) (a : Memory) → flushed z a .st .yi ≡ a .st .yi
-unfolding flushed
-flushed-yi z a = if-either (λ (b : Memory). b .st .yi ≡ a .st .yi) (eqb (a .st .buf .n) 0) a (writtenAt z a (nextFree z a)) refl refl
-
 pub flushed-out : (z : Layout) (a : Memory) → length (flushed z a .out) ≡ length (a .out)
 unfolding flushed
 flushed-out z a = if-either (λ (b : Memory). length (b .out) ≡ length (a .out)) (eqb (a .st .buf .n) 0) a (writtenAt z a (nextFree z a)) refl (length-set (a .out) (a .st .m) (nextFree z a))
@@ -183,38 +176,42 @@ unfolding layAll layDone
 lay-new z d p done rest h = lay-reverse z d done (new p ∷ rest) ∙ rw (flush-filled p done h)
 
 module _ (z : Layout) (d : Flash) (a : Memory) (ys : List ℕ) (end : ℕ) (sized : Sized z (a .words)) where
-  finish-at : (p : List Rec) (done : Level) (w : Progress) → w .cursor < z .p → w .m + 1 + (end - w .yi) ≤ length (a .out) → Pend z d a p done w
-      → flashOf (rested (flushed z (withProgress a w)) ys end) ≡ layAll z (layDone z d (flush p done)) (blocks z false (a .words) ys (w .yi) (end - w .yi))
+  finish-at : (p : List Rec) (done : Level) (w : Progress) → w .cursor < z .p → w .m + 1 + (end - w .y .i) ≤ length (a .out) → Pend z d a p done w
+      → flashOf (rested (flushed z (withProgress a w)) ys end) ≡ layAll z (layDone z d (flush p done)) (blocks z false (a .words) ys (w .y .i) (end - w .y .i))
   finish-at p done w h r k =
       let m = flushed-m z (withProgress a w) in
       let o = flushed-out z (withProgress a w) in
-      finish z d a p done w ys end (a .words) (record { sized = sized; cursor = h; list = omega arith }) k (flushed-yi z (withProgress a w)) (omega arith)
+      finish z d a p done w ys end (a .words) (record { sized = sized; cursor = h; list = omega arith }) k (ap (λ (p : Spot). p .i) (flushed-y z (withProgress a w))) (omega arith)
 
   abbrev Laid : List Rec → Level → Progress → Progress → Type 0
-  Laid p done w v = flashOf (rested (flushed z (withProgress a v)) ys end) ≡ layAll z d (join (z .b) (flush p done) (blocks z false (a .words) ys (w .yi) (end - w .yi)))
+  Laid p done w v = flashOf (rested (flushed z (withProgress a v)) ys end) ≡ layAll z d (join (z .b) (flush p done) (blocks z false (a .words) ys (w .y .i) (end - w .y .i)))
 
   -- nothing joins: what is pending is written, and the rest follows
-  stays : (p : List Rec) (done : Level) (w : Progress) → w .cursor < z .p → w .m + 1 + (end - w .yi) ≤ length (a .out) → Pend z d a p done w
-      → layAll z d (join (z .b) (flush p done) (blocks z false (a .words) ys (w .yi) (end - w .yi))) ≡ layAll z d (reverseAux (flush p done) (blocks z false (a .words) ys (w .yi) (end - w .yi))) → Laid p done w w
-  stays p done w h r k e = finish-at p done w h r k ∙ sym (e ∙ lay-reverse z d (flush p done) (blocks z false (a .words) ys (w .yi) (end - w .yi)))
+  stays : (p : List Rec) (done : Level) (w : Progress) → w .cursor < z .p → w .m + 1 + (end - w .y .i) ≤ length (a .out) → Pend z d a p done w
+      → layAll z d (join (z .b) (flush p done) (blocks z false (a .words) ys (w .y .i) (end - w .y .i))) ≡ layAll z d (reverseAux (flush p done) (blocks z false (a .words) ys (w .y .i) (end - w .y .i))) → Laid p done w w
+  stays p done w h r k e = finish-at p done w h r k ∙ sym (e ∙ lay-reverse z d (flush p done) (blocks z false (a .words) ys (w .y .i) (end - w .y .i)))
 
-  module _ (w : Progress) (h : w .cursor < z .p) (r : w .m + 1 + (end - w .yi) ≤ length (a .out)) (y : w .yi < end) (f : Formed z (a .words) (blockChunk z (a .words) (getD ys (w .yi) 0))) where
+  module _ (w : Progress) (h : w .cursor < z .p) (r : w .m + 1 + (end - w .y .i) ≤ length (a .out)) (y : w .y .i < end) (f : Formed z (a .words) (blockChunk z (a .words) (getD ys (w .y .i) 0))) where
     abbrev q : ℕ
-    q = getD ys (w .yi) 0
+    q = getD ys (w .y .i) 0
 
     abbrev bs : Level
-    bs = blocks z false (a .words) ys (w .yi + 1) (end - (w .yi + 1))
+    bs = blocks z false (a .words) ys (w .y .i + 1) (end - (w .y .i + 1))
+
+    -- its size
+    test : size (storedAt z (a .words) q) ≡ countAt z (a .words) q
+    test = recs-length (a .words) (blockChunk z (a .words) q) 0 (countAt z (a .words) q)
 
     filled : (rs : List Rec) → 1 ≤ length (rs ++ storedAt z (a .words) q .recs)
     filled rs = simp (length-append, recs-length) (let l = f .low in omega arith)
 
     -- p takes in the block after
-    takes : (p : List Rec) (done : Level) (v : Progress) → v .cursor ≡ w .cursor → v .m ≤ w .m → v .yi ≡ w .yi → Pend z d a p done v → length p + countAt z (a .words) q ≤ z .b
+    takes : (p : List Rec) (done : Level) (v : Progress) → v .cursor ≡ w .cursor → v .m ≤ w .m → v .y .i ≡ w .y .i → Pend z d a p done v → length p + countAt z (a .words) q ≤ z .b
         → flashOf (rested (flushed z (withProgress a (afterTaken z (a .words) q v))) ys end) ≡ layAll z d (reverseAux done (new (p ++ storedAt z (a .words) q .recs) ∷ bs))
     unfolding afterTaken
     takes p done v eh em ey k n =
         let b = sized .b-high in
-        let g : end - (v .yi + 1) ≤ end - w .yi = omega arith in
+        let g : end - (v .y .i + 1) ≤ end - w .y .i = omega arith in
         finish-at (p ++ storedAt z (a .words) q .recs) done (afterTaken z (a .words) q v) (rw eh h) (omega arith) (after-pend z d a p done v q k (omega arith))
         ∙ rw ey (sym (lay-new z d (p ++ storedAt z (a .words) q .recs) done bs (filled p)))
 
@@ -230,16 +227,13 @@ module _ (z : Layout) (d : Flash) (a : Memory) (ys : List ℕ) (end : ℕ) (size
     unfolding afterJoined
     after-none k e =
         let c = f .low in
-        rw (lt-leb end (w .yi) y, none-left [] k, e, lt-leb (z .b + countAt z (a .words) q) (z .b) (omega arith)) (stays [] [] w h r k refl)
+        rw (lt-leb end (w .y .i) y, none-left [] k, e, lt-leb (z .b + countAt z (a .words) q) (z .b) (omega arith)) (stays [] [] w h r k refl)
 
     after-last : (e : Block) (es : Level) → Pend z d a [] (e ∷ es) w → lastSize z (a .words) (a .out) (w .m) ≡ size e → (size e < z .b → e ≡ storedAt z (a .words) (getD (a .out) (w .m - 1) 0)) → 1 ≤ w .m
         → Laid [] (e ∷ es) w (afterJoined z (a .words) (a .out) ys w end)
     unfolding afterJoined pulled
-    after-last e es k n is m = rw (lt-leb end (w .yi) y, none-left (e ∷ es) k, n) (go (leb (size e + countAt z (a .words) q) (z .b)) refl)
+    after-last e es k n is m = rw (lt-leb end (w .y .i) y, none-left (e ∷ es) k, n) (go (leb (size e + countAt z (a .words) q) (z .b)) refl)
       where
-        test : size (storedAt z (a .words) q) ≡ countAt z (a .words) q
-        test = recs-length (a .words) (blockChunk z (a .words) q) 0 (countAt z (a .words) q)
-
         go : (t : Bool) → leb (size e + countAt z (a .words) q) (z .b) ≡ t → Laid [] (e ∷ es) w (if t then afterTaken z (a .words) q (pulled z (a .words) (a .out) w) else w)
         go true g =
             let l = leb-true (size e + countAt z (a .words) q) (z .b) g in
@@ -248,16 +242,13 @@ module _ (z : Layout) (d : Flash) (a : Memory) (ys : List ℕ) (end : ℕ) (size
             let o : size e + length (e .recs ++ []) ≤ size e + length (e .recs ++ []) = le-refl _ in
             let pp = pull-pend z d a [] e es w k (is (omega arith)) (omega arith) m (omega arith) in
             let t = takes (e .recs ++ []) es (pulled z (a .words) (a .out) w) refl (omega arith) refl pp (rw append-nil (omega arith)) in
-            rw (blocks-cons z (a .words) ys (w .yi) end y, test, g, ← append-nil (e .recs)) t
-        go false g = stays [] (e ∷ es) w h r k (rw (blocks-cons z (a .words) ys (w .yi) end y, test, g))
+            rw (blocks-cons z (a .words) ys (w .y .i) end y, test, g, ← append-nil (e .recs)) t
+        go false g = stays [] (e ∷ es) w h r k (rw (blocks-cons z (a .words) ys (w .y .i) end y, test, g))
 
     after-new : (s : Rec) (rs : List Rec) (done : Level) → Pend z d a (s ∷ rs) done w → Laid (s ∷ rs) done w (afterJoined z (a .words) (a .out) ys w end)
     unfolding afterJoined
-    after-new s rs done k = rw (lt-leb end (w .yi) y, some-left s rs done k .0) (go (leb (w .buf .n + countAt z (a .words) q) (z .b)) refl)
+    after-new s rs done k = rw (lt-leb end (w .y .i) y, some-left s rs done k .0) (go (leb (w .buf .n + countAt z (a .words) q) (z .b)) refl)
       where
-        test : size (storedAt z (a .words) q) ≡ countAt z (a .words) q
-        test = recs-length (a .words) (blockChunk z (a .words) q) 0 (countAt z (a .words) q)
-
         same : leb (w .buf .n + countAt z (a .words) q) (z .b) ≡ leb (length (s ∷ rs) + countAt z (a .words) q) (z .b)
         same = ap (λ (n : ℕ). leb (n + countAt z (a .words) q) (z .b)) (some-left s rs done k .1)
 
@@ -265,30 +256,30 @@ module _ (z : Layout) (d : Flash) (a : Memory) (ys : List ℕ) (end : ℕ) (size
         go true g =
             let h : leb (length (s ∷ rs) + countAt z (a .words) q) (z .b) ≡ true = sym same ∙ g in
             let l = leb-true (length (s ∷ rs) + countAt z (a .words) q) (z .b) h in
-            rw (blocks-cons z (a .words) ys (w .yi) end y, test, h) (takes (s ∷ rs) done w refl (le-refl (w .m)) refl k l)
+            rw (blocks-cons z (a .words) ys (w .y .i) end y, test, h) (takes (s ∷ rs) done w refl (le-refl (w .m)) refl k l)
         go false g =
             let h2 : leb (length (s ∷ rs) + countAt z (a .words) q) (z .b) ≡ false = sym same ∙ g in
-            stays (s ∷ rs) done w h r k (rw (blocks-cons z (a .words) ys (w .yi) end y, test, h2))
+            stays (s ∷ rs) done w h r k (rw (blocks-cons z (a .words) ys (w .y .i) end y, test, h2))
 
   -- the joins with the block after Y
-  pub after-laid : (p : List Rec) (done : Level) (w : Progress) → w .cursor < z .p → w .m + 1 + (end - w .yi) ≤ length (a .out) → (w .yi < end → Formed z (a .words) (blockChunk z (a .words) (getD ys (w .yi) 0))) → Pend z d a p done w
+  pub after-laid : (p : List Rec) (done : Level) (w : Progress) → w .cursor < z .p → w .m + 1 + (end - w .y .i) ≤ length (a .out) → (w .y .i < end → Formed z (a .words) (blockChunk z (a .words) (getD ys (w .y .i) 0))) → Pend z d a p done w
       → (length p ≡ 0 → lastSize z (a .words) (a .out) (w .m) ≡ headSize (z .b) done) → (length p ≡ 0 → LastIs z (a .words) (a .out) (w .m) done)
-      → flashOf (rested (flushed z (withProgress a (afterJoined z (a .words) (a .out) ys w end))) ys end) ≡ layAll z d (join (z .b) (flush p done) (blocks z false (a .words) ys (w .yi) (end - w .yi)))
+      → flashOf (rested (flushed z (withProgress a (afterJoined z (a .words) (a .out) ys w end))) ys end) ≡ layAll z d (join (z .b) (flush p done) (blocks z false (a .words) ys (w .y .i) (end - w .y .i)))
   unfolding afterJoined
-  after-laid p done w h r f k last tail = go (decLt (w .yi) end)
+  after-laid p done w h r f k last tail = go (decLt (w .y .i) end)
     where
       ended : (l : Level) → layAll z (layDone z d l) [] ≡ layAll z d (join (z .b) l [])
       ended [] = sym (lay-reverse z d [] [])
       ended (e ∷ es) = sym (lay-reverse z d (e ∷ es) [])
 
-      cases : (p : List Rec) (done : Level) → Pend z d a p done w → (length p ≡ 0 → lastSize z (a .words) (a .out) (w .m) ≡ headSize (z .b) done) → (length p ≡ 0 → LastIs z (a .words) (a .out) (w .m) done) → w .yi < end
+      cases : (p : List Rec) (done : Level) → Pend z d a p done w → (length p ≡ 0 → lastSize z (a .words) (a .out) (w .m) ≡ headSize (z .b) done) → (length p ≡ 0 → LastIs z (a .words) (a .out) (w .m) done) → w .y .i < end
           → Laid p done w (afterJoined z (a .words) (a .out) ys w end)
       cases [] [] k l t y = after-none w h r y (f y) k (l refl)
       cases [] (e ∷ es) k l t y = after-last w h r y (f y) e es k (l refl) (t refl) (pend-listed z d a [] e es w k)
       cases (s ∷ rs) done k l t y = after-new w h r y (f y) s rs done k
 
-      go : Dec (w .yi < end) → flashOf (rested (flushed z (withProgress a (afterJoined z (a .words) (a .out) ys w end))) ys end) ≡ layAll z d (join (z .b) (flush p done) (blocks z false (a .words) ys (w .yi) (end - w .yi)))
-      go (no n) = rw (le-leb end (w .yi) (omega arith)) (finish-at p done w h r k ∙ rw (blocks-end z (a .words) ys (w .yi) end (omega arith)) (ended (flush p done)))
+      go : Dec (w .y .i < end) → flashOf (rested (flushed z (withProgress a (afterJoined z (a .words) (a .out) ys w end))) ys end) ≡ layAll z d (join (z .b) (flush p done) (blocks z false (a .words) ys (w .y .i) (end - w .y .i)))
+      go (no n) = rw (le-leb end (w .y .i) (omega arith)) (finish-at p done w h r k ∙ rw (blocks-end z (a .words) ys (w .y .i) end (omega arith)) (ended (flush p done)))
       go (yes y) = cases p done k last tail y
 
 left-none : (z : Layout) (xs out : List ℕ) (w : Progress) → eqb (w .buf .n) 0 ≡ true → leftJoined z xs out w ≡ w
@@ -301,28 +292,28 @@ left-some z xs out w t e f = rw (e, f)
 
 -- what is kept of a merge's end: a buffer of fewer than B records
 module _ (z : Layout) (d : Flash) (a : Memory) (ys : List ℕ) (end : ℕ) (o : Out) (h : Holds z d o a) (sized : Sized z (a .words)) (few : length (o .buffer) < z .b)
-    (cursor : a .st .cursor < z .p) (room : a .st .m + 1 + (end - a .st .yi) ≤ length (a .out)) (tail : LastIs z (a .words) (a .out) (a .st .m) (o .done))
-    (form : a .st .yi < end → Formed z (a .words) (blockChunk z (a .words) (getD ys (a .st .yi) 0))) where
+    (cursor : a .st .cursor < z .p) (room : a .st .m + 1 + (end - a .st .y .i) ≤ length (a .out)) (tail : LastIs z (a .words) (a .out) (a .st .m) (o .done))
+    (form : a .st .y .i < end → Formed z (a .words) (blockChunk z (a .words) (getD ys (a .st .y .i) 0))) where
   -- step 4 on words, from any end of step 3
-  pub close-laid : flashOf (closed z ys end a) ≡ layAll z d (join (z .b) (joinLeft (z .b) (o .buffer) (o .done)) (blocks z false (a .words) ys (a .st .yi) (end - a .st .yi)))
+  pub close-laid : flashOf (closed z ys end a) ≡ layAll z d (join (z .b) (joinLeft (z .b) (o .buffer) (o .done)) (blocks z false (a .words) ys (a .st .y .i) (end - a .st .y .i)))
   unfolding closed pulled
   close-laid = go (o .buffer) (o .done) (record { buf = h .buf; flash = h .flash }) (h .last) tail few
     where
       Closes : List Rec → Level → Type 0
-      Closes p done = flashOf (closed z ys end a) ≡ layAll z d (join (z .b) (joinLeft (z .b) p done) (blocks z false (a .words) ys (a .st .yi) (end - a .st .yi)))
+      Closes p done = flashOf (closed z ys end a) ≡ layAll z d (join (z .b) (joinLeft (z .b) p done) (blocks z false (a .words) ys (a .st .y .i) (end - a .st .y .i)))
 
       count-is : (p : List Rec) (done : Level) → Pend z d a p done (a .st) → a .st .buf .n ≡ length p
       count-is p done k = ap (λ (b : Buffer). b .n) (k .buf) ∙ buffer-n p
 
       stay : (s : Rec) (rs : List Rec) (done : Level) → Pend z d a (s ∷ rs) done (a .st) → leb (lastSize z (a .words) (a .out) (a .st .m) + a .st .buf .n) (z .b) ≡ false
-          → flashOf (closed z ys end a) ≡ layAll z d (join (z .b) (flush (s ∷ rs) done) (blocks z false (a .words) ys (a .st .yi) (end - a .st .yi)))
+          → flashOf (closed z ys end a) ≡ layAll z d (join (z .b) (flush (s ∷ rs) done) (blocks z false (a .words) ys (a .st .y .i) (end - a .st .y .i)))
       stay s rs done k e =
           rw (left-some z (a .words) (a .out) (a .st) false (ne-eqb (a .st .buf .n) 0 (λ g. omega (arith, count-is (s ∷ rs) done k))) e)
           (after-laid z d a ys end sized (s ∷ rs) done (a .st) cursor room form k (λ g. absurd (omega arith)) (λ g. absurd (omega arith)))
 
       two : (s : Rec) (rs : List Rec) (e : Block) (es : Level) (t : Bool) → leb (size e + length (s ∷ rs)) (z .b) ≡ t → Pend z d a (s ∷ rs) (e ∷ es) (a .st) → lastSize z (a .words) (a .out) (a .st .m) ≡ size e
           → (size e < z .b → e ≡ storedAt z (a .words) (getD (a .out) (a .st .m - 1) 0))
-          → flashOf (closed z ys end a) ≡ layAll z d (join (z .b) (if t then new (e .recs ++ (s ∷ rs)) ∷ es else new (s ∷ rs) ∷ e ∷ es) (blocks z false (a .words) ys (a .st .yi) (end - a .st .yi)))
+          → flashOf (closed z ys end a) ≡ layAll z d (join (z .b) (if t then new (e .recs ++ (s ∷ rs)) ∷ es else new (s ∷ rs) ∷ e ∷ es) (blocks z false (a .words) ys (a .st .y .i) (end - a .st .y .i)))
       two s rs e es false g k l t = stay s rs (e ∷ es) k (ap (λ (n : ℕ). leb (n + a .st .buf .n) (z .b)) l ∙ ap (λ (n : ℕ). leb (size e + n) (z .b)) (count-is (s ∷ rs) (e ∷ es) k) ∙ g)
       two s rs e es true g k l t =
           let q = leb-true (size e + length (s ∷ rs)) (z .b) g in

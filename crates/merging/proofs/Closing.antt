@@ -13,15 +13,16 @@ use Rattle.levels.specs.Merge.{Out}
 use Rattle.blocks.specs.declared.Layout.{Layout}
 use Rattle.blocks.specs.declared.Buffer.{Buffer}
 use Rattle.blocks.specs.Blocks.{startOf, bufferOf}
+use Rattle.stream.specs.declared.Spot.{Spot}
 use Rattle.stream.specs.declared.Progress.{Progress}
 use Rattle.stream.specs.declared.Inputs.{Inputs}
 use Rattle.sides.specs.Sides.{chunkOf, lastSize}
-use Rattle.stream.specs.Machine.{Memory, flushed, writtenAt}
+use Rattle.stream.specs.Machine.{Memory}
 use Rattle.levels.proofs.Basics.{if-either}
-use Rattle.stream.proofs.Laws.{flushed-m}
+use Rattle.stream.proofs.Laws.{flushed-m, flushed-y}
 use Rattle.joins.specs.Joins.{Clean, pulled, Lefts, leftJoined, afterTaken, Afters, afterJoined, joinedUp, Closable}
-use Rattle.joins.proofs.Laws.{last-pull, pulled-n, pulled-clean, appended-n}
-use Rattle.merging.specs.Relation.{nextFree, Holds, Listed, Core, Budget}
+use Rattle.joins.proofs.Laws.{last-pull, pulled-n, pulled-clean, pulled-y, appended-n}
+use Rattle.merging.specs.Relation.{Holds, Listed, Core, Budget}
 use Rattle.merging.specs.Blocks.{Flash}
 use Rattle.merging.proofs.Outs.{marks-low}
 
@@ -45,10 +46,6 @@ module _ (z : Layout) (xs out : List ℕ) (w : Progress) where
   unfolding pulled
   pulled-writes = refl
 
-  pulled-yi : pulled z xs out w .yi ≡ w .yi
-  unfolding pulled
-  pulled-yi = refl
-
   -- the last block taken back, where with n records more it has B or fewer
   pulled-joined : Lefts z xs out w → (n : ℕ) → 1 ≤ n → w .buf .n ≤ n → lastSize z xs out (w .m) + n ≤ z .b → Joined w (pulled z xs out w)
   pulled-joined k n l h e =
@@ -62,9 +59,9 @@ module _ (z : Layout) (xs out : List ℕ) (w : Progress) where
   unfolding leftJoined
   left-clean c = if-either (λ (v : Progress). Clean (v .buf)) (eqb (w .buf .n) 0) w _ c (if-either (λ (v : Progress). Clean (v .buf)) (leb (lastSize z xs out (w .m) + w .buf .n) (z .b)) (pulled z xs out w) w (pulled-clean z xs out w) c)
 
-  left-yi : leftJoined z xs out w .yi ≡ w .yi
+  left-y : leftJoined z xs out w .y ≡ w .y
   unfolding leftJoined
-  left-yi = if-either (λ (v : Progress). v .yi ≡ w .yi) (eqb (w .buf .n) 0) w _ refl (if-either (λ (v : Progress). v .yi ≡ w .yi) (leb (lastSize z xs out (w .m) + w .buf .n) (z .b)) (pulled z xs out w) w pulled-yi refl)
+  left-y = if-either (λ (v : Progress). v .y ≡ w .y) (eqb (w .buf .n) 0) w _ refl (if-either (λ (v : Progress). v .y ≡ w .y) (leb (lastSize z xs out (w .m) + w .buf .n) (z .b)) (pulled z xs out w) w (pulled-y z xs out w) refl)
 
   left-joined : Lefts z xs out w → Joined w (leftJoined z xs out w)
   unfolding leftJoined
@@ -82,7 +79,7 @@ module _ (z : Layout) (xs out : List ℕ) (w : Progress) where
   unfolding afterTaken
   taken-n q c = appended-n (z .b) xs (startOf z q) (w .buf) c (getD xs (startOf z q) 0)
 
-  taken-same : (q : ℕ) → (afterTaken z xs q w .m ≡ w .m) × (afterTaken z xs q w .cursor ≡ w .cursor) × (afterTaken z xs q w .writes ≡ w .writes) × (afterTaken z xs q w .yi ≡ w .yi + 1)
+  taken-same : (q : ℕ) → (afterTaken z xs q w .m ≡ w .m) × (afterTaken z xs q w .cursor ≡ w .cursor) × (afterTaken z xs q w .writes ≡ w .writes) × (afterTaken z xs q w .y .i ≡ w .y .i + 1)
   unfolding afterTaken
   taken-same q = (refl, refl, refl, refl)
 
@@ -95,10 +92,10 @@ joined-next u v w j k = record { m = (let a = j .m in let b = k .m in omega arit
 module _ (z : Layout) (xs out ys : List ℕ) (w : Progress) (end : ℕ) (k : Afters z xs out ys w end) where
   after-joined : Joined w (afterJoined z xs out ys w end)
   unfolding afterJoined
-  after-joined = go (leb end (w .yi)) (eqb (w .buf .n) 0) (leb (lastSize z xs out (w .m) + size) (z .b)) (leb (w .buf .n + size) (z .b)) refl refl refl refl
+  after-joined = go (leb end (w .y .i)) (eqb (w .buf .n) 0) (leb (lastSize z xs out (w .m) + size) (z .b)) (leb (w .buf .n + size) (z .b)) refl refl refl refl
     where
       q : ℕ
-      q = getD ys (w .yi) 0
+      q = getD ys (w .y .i) 0
 
       size : ℕ
       size = getD xs (startOf z q) 0
@@ -106,14 +103,14 @@ module _ (z : Layout) (xs out ys : List ℕ) (w : Progress) (end : ℕ) (k : Aft
       same : Joined w w
       same = record { m = le-refl (w .m); cursor = refl; writes = refl; few = k .lefts .few }
 
-      go : (t u v x : Bool) → leb end (w .yi) ≡ t → eqb (w .buf .n) 0 ≡ u → leb (lastSize z xs out (w .m) + size) (z .b) ≡ v → leb (w .buf .n + size) (z .b) ≡ x
+      go : (t u v x : Bool) → leb end (w .y .i) ≡ t → eqb (w .buf .n) 0 ≡ u → leb (lastSize z xs out (w .m) + size) (z .b) ≡ v → leb (w .buf .n + size) (z .b) ≡ x
           → Joined w (if t then w else if u then (if v then afterTaken z xs q (pulled z xs out w) else w) else if x then afterTaken z xs q w else w)
       go true u v x e f g h = same
       go false true false x e f g h = same
       go false true true x e f g h =
           let l = leb-true (lastSize z xs out (w .m) + size) (z .b) g in
           let n = eqb-true (w .buf .n) 0 f in
-          let i = k .filled (leb-false end (w .yi) e) in
+          let i = k .filled (leb-false end (w .y .i) e) in
           let p = pulled-joined z xs out w (k .lefts) size i (omega arith) l in
           let c = pulled-n z xs out w in
           let d = last-pull z xs out (w .m) size i l .1 in
@@ -122,45 +119,41 @@ module _ (z : Layout) (xs out ys : List ℕ) (w : Progress) (end : ℕ) (k : Aft
       go false false v false e f g h = same
 
   -- Y's side goes at most one block on
-  after-yi : w .yi ≤ end → (w .yi ≤ afterJoined z xs out ys w end .yi) × (afterJoined z xs out ys w end .yi ≤ end)
+  after-y : w .y .i ≤ end → (w .y .i ≤ afterJoined z xs out ys w end .y .i) × (afterJoined z xs out ys w end .y .i ≤ end)
   unfolding afterJoined
-  after-yi l = go (leb end (w .yi)) refl
+  after-y l = go (leb end (w .y .i)) refl
     where
       q : ℕ
-      q = getD ys (w .yi) 0
+      q = getD ys (w .y .i) 0
 
       size : ℕ
       size = getD xs (startOf z q) 0
 
       Ends : Progress → Type 0
-      Ends v = (w .yi ≤ v .yi) × (v .yi ≤ end)
+      Ends v = (w .y .i ≤ v .y .i) × (v .y .i ≤ end)
 
-      go : (t : Bool) → leb end (w .yi) ≡ t → Ends (if t then w else if eqb (w .buf .n) 0 then (if leb (lastSize z xs out (w .m) + size) (z .b) then afterTaken z xs q (pulled z xs out w) else w) else if leb (w .buf .n + size) (z .b) then afterTaken z xs q w else w)
-      go true e = (le-refl (w .yi), l)
+      go : (t : Bool) → leb end (w .y .i) ≡ t → Ends (if t then w else if eqb (w .buf .n) 0 then (if leb (lastSize z xs out (w .m) + size) (z .b) then afterTaken z xs q (pulled z xs out w) else w) else if leb (w .buf .n + size) (z .b) then afterTaken z xs q w else w)
+      go true e = (le-refl (w .y .i), l)
       go false e =
-          let h = leb-false end (w .yi) e in
+          let h = leb-false end (w .y .i) e in
           let a = taken-same z xs out (pulled z xs out w) q .3 in
           let b = taken-same z xs out w q .3 in
-          let c = pulled-yi z xs out w in
+          let c = ap (λ (p : Spot). p .i) (pulled-y z xs out w) in
           if-either Ends (eqb (w .buf .n) 0) _ _
           (if-either Ends (leb (lastSize z xs out (w .m) + size) (z .b)) (afterTaken z xs q (pulled z xs out w)) w (omega arith, omega arith) (omega arith, omega arith))
           (if-either Ends (leb (w .buf .n + size) (z .b)) (afterTaken z xs q w) w (omega arith, omega arith) (omega arith, omega arith))
 
-flushed-yi : (z : Layout) (a : Memory) → flushed z a .st .yi ≡ a .st .yi
-unfolding flushed
-flushed-yi z a = if-either (λ (b : Memory). b .st .yi ≡ a .st .yi) (eqb (a .st .buf .n) 0) a (writtenAt z a (nextFree z a)) refl refl
-
 -- at the end of step 3, with all of the lower list standing
-pub closable : (z : Layout) (t : Inputs) (xs ys : List ℕ) (end : ℕ) (d : Flash) (o : Out) (a : Memory) → Core z t xs ys o a → Holds z d o a → Budget z a → Listed z false a ys end → end ≤ 4096 → a .st .yi ≤ end
-    → a .st .m + 1 + (end - a .st .yi) ≤ 4096 → Closable z ys end a
+pub closable : (z : Layout) (t : Inputs) (xs ys : List ℕ) (end : ℕ) (d : Flash) (o : Out) (a : Memory) → Core z t xs ys o a → Holds z d o a → Budget z a → Listed z false a ys end → end ≤ 4096 → a .st .y .i ≤ end
+    → a .st .m + 1 + (end - a .st .y .i) ≤ 4096 → Closable z ys end a
 unfolding bufferOf chunkOf
 closable z t xs ys end d o a c h g all he hy r =
     record {
       lefts = lf;
       afters = af;
       flushable = record { sized = c .sized; cursor = rw (ja .cursor, jl .cursor) (c .cursor); full = ja .few; room = omega (arith, ja .m, jl .m); count = rw (ja .writes, jl .writes) (g .count); free = g .free };
-      yi-high = rw (flushed-yi z (joinedUp z ys end a)) (yi .1);
-      room = rw (flushed-yi z (joinedUp z ys end a)) (omega (arith, flushed-m z (joinedUp z ys end a), ja .m, jl .m, yi .0, left-yi z (a .words) (a .out) (a .st)));
+      y-high = rw (flushed-y z (joinedUp z ys end a)) (yi .1);
+      room = rw (flushed-y z (joinedUp z ys end a)) (omega (arith, flushed-m z (joinedUp z ys end a), ja .m, jl .m, yi .0, vy));
     }
   where
     n : a .st .buf .n ≡ length (o .buffer)
@@ -178,8 +171,8 @@ closable z t xs ys end d o a c h g all he hy r =
     jl : Joined (a .st) v
     jl = left-joined z (a .words) (a .out) (a .st) lf
 
-    vy : v .yi ≡ a .st .yi
-    vy = left-yi z (a .words) (a .out) (a .st)
+    vy : v .y .i ≡ a .st .y .i
+    vy = ap (λ (p : Spot). p .i) (left-y z (a .words) (a .out) (a .st))
 
     af : Afters z (a .words) (a .out) ys v end
     af =
@@ -187,12 +180,12 @@ closable z t xs ys end d o a c h g all he hy r =
           lefts = record { sized = c .sized; m-high = omega (arith, jl .m); few = jl .few; places = λ i l. c .listed i (omega (arith, jl .m)) };
           end-high = he;
           clean = left-clean z (a .words) (a .out) (a .st) clean;
-          place = λ l. all (v .yi) l .place refl;
-          filled = λ l. all (v .yi) l .formed .low;
+          place = λ l. all (v .y .i) l .place refl;
+          filled = λ l. all (v .y .i) l .formed .low;
         }
 
     ja : Joined v (afterJoined z (a .words) (a .out) ys v end)
     ja = after-joined z (a .words) (a .out) ys v end af
 
-    yi : (v .yi ≤ afterJoined z (a .words) (a .out) ys v end .yi) × (afterJoined z (a .words) (a .out) ys v end .yi ≤ end)
-    yi = after-yi z (a .words) (a .out) ys v end af (omega (arith, vy))
+    yi : (v .y .i ≤ afterJoined z (a .words) (a .out) ys v end .y .i) × (afterJoined z (a .words) (a .out) ys v end .y .i ≤ end)
+    yi = after-y z (a .words) (a .out) ys v end af (omega (arith, vy))

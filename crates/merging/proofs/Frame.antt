@@ -17,48 +17,50 @@ use Rattle.blocks.specs.Blocks.{Sized, startOf, pushed}
 use Rattle.blocks.proofs.Laws.{free-low}
 use Rattle.sides.specs.declared.Head.{Head}
 use Rattle.sides.specs.Sides.{chunkOf, pageChunk, blockChunk}
+use Rattle.stream.specs.declared.Spot.{Spot}
+use Rattle.stream.specs.declared.Progress.{Progress}
 use Rattle.stream.specs.Machine.{Memory, flushed, writtenAt, append, gathered, withProgress, withBuffer}
 use Rattle.levels.proofs.Basics.{if-either}
-use Rattle.merging.specs.Relation.{nextFree, Stands, Listed}
+use Rattle.merging.specs.Relation.{nextFree, Stands, Listed, SideAt}
 use Rattle.sides.specs.declared.Chunk.{Chunk}
 use Rattle.merging.specs.Blocks.{blockOf, storedAt, countAt, blocks, beginWith, side}
 use Rattle.merging.proofs.Words.{written-other, written-low, written-length, recs-agree}
 
--- the words of places in use, the places in use and the two sides' positions are as they were
-pub record Kept (z : Layout) (a b : Memory) : Type 0 where
-  pub xi : b .st .xi ≡ a .st .xi
-  pub xj : b .st .xj ≡ a .st .xj
-  pub yi : b .st .yi ≡ a .st .yi
-  pub yj : b .st .yj ≡ a .st .yj
+-- the words of places in use and those before the places are as they were
+pub record Same (z : Layout) (a b : Memory) : Type 0 where
   pub words : (q : ℕ) → getD (a .used) q false ≡ true → (j : ℕ) → j < 2 + 2 * z .b → getD (b .words) (startOf z q + j) 0 ≡ getD (a .words) (startOf z q + j) 0
   pub low : (k : ℕ) → k < z .base → getD (b .words) k 0 ≡ getD (a .words) k 0
   pub used : (q : ℕ) → getD (a .used) q false ≡ true → getD (b .used) q false ≡ true
+
+-- where the merge stands has no part in this
+pub same-from : (z : Layout) (a b : Memory) (w : Progress) → Same z (withProgress a w) b → Same z a b
+same-from z a b w k = record { words = k .words; low = k .low; used = k .used }
+
+-- besides, the two sides stand where they stood, and the list grows by places
+pub record Kept (z : Layout) (a b : Memory) : Type 0 where
+  pub same : Same z a b
+  pub x : b .st .x ≡ a .st .x
+  pub y : b .st .y ≡ a .st .y
   pub length-words : length (b .words) ≡ length (a .words)
   pub length-out : length (b .out) ≡ length (a .out)
   pub cursor : a .st .cursor < z .p → b .st .cursor < z .p
   pub places : a .st .m < length (a .out) → ((i : ℕ) → i < a .st .m → getD (a .out) i 0 < z .p) → (a .st .cursor < z .p) → (i : ℕ) → i < b .st .m → getD (b .out) i 0 < z .p
-  pub m : b .st .m ≤ a .st .m + 2
-
-same-kept : (z : Layout) (a b : Memory) → b .words ≡ a .words → b .used ≡ a .used → b .out ≡ a .out → b .st .m ≡ a .st .m → b .st .cursor ≡ a .st .cursor
-    → b .st .xi ≡ a .st .xi → b .st .xj ≡ a .st .xj → b .st .yi ≡ a .st .yi → b .st .yj ≡ a .st .yj → Kept z a b
-same-kept z a b ew eu eo em eh xi xj yi yj =
-    record {
-      xi = xi;
-      xj = xj;
-      yi = yi;
-      yj = yj;
-      words = λ q u j l. rw ew;
-      low = λ k l. rw ew;
-      used = λ q u. rw eu u;
-      length-words = rw ew;
-      length-out = rw eo;
-      cursor = λ h. rw eh h;
-      places = λ l f h i k. rw eo (f i (rw (← em) k));
-      m = omega arith;
-    }
 
 pub full-kept : (z : Layout) (a : Memory) (b : Buffer) → Kept z a (withProgress a (withBuffer (a .st) b))
-full-kept z a b = same-kept z a (withProgress a (withBuffer (a .st) b)) refl refl refl refl refl refl refl refl refl
+full-kept z a b =
+    record {
+      same = record { words = λ q u j l. refl; low = λ k l. refl; used = λ q u. u };
+      x = refl;
+      y = refl;
+      length-words = refl;
+      length-out = refl;
+      cursor = λ h. h;
+      places = λ l f h. f;
+    }
+
+-- a memory keeps itself
+all-kept : (z : Layout) (a : Memory) → Kept z a a
+all-kept z a = full-kept z a (a .st .buf)
 
 put-places : (out : List ℕ) (m q p : ℕ) → m < length out → ((i : ℕ) → i < m → getD out i 0 < p) → q < p → (i : ℕ) → i < m + 1 → getD (set out m q) i 0 < p
 put-places out m q p l f h i k =
@@ -67,18 +69,17 @@ put-places out m q p l f h i k =
 pub written-kept : (z : Layout) (a : Memory) → getD (a .used) (nextFree z a) false ≡ false → Kept z a (writtenAt z a (nextFree z a))
 written-kept z a f =
     record {
-      xi = refl;
-      xj = refl;
-      yi = refl;
-      yj = refl;
-      words = λ q u j l. written-other z (a .words) (nextFree z a) (a .st .buf) q j (other q u) l;
-      low = λ k l. written-low z (a .words) (nextFree z a) (a .st .buf) k l;
-      used = λ q u. getD-set-other (a .used) (nextFree z a) q true false (other q u) ∙ u;
+      same = record {
+        words = λ q u j l. written-other z (a .words) (nextFree z a) (a .st .buf) q j (other q u) l;
+        low = λ k l. written-low z (a .words) (nextFree z a) (a .st .buf) k l;
+        used = λ q u. getD-set-other (a .used) (nextFree z a) q true false (other q u) ∙ u;
+      };
+      x = refl;
+      y = refl;
       length-words = written-length z (a .words) (nextFree z a) (a .st .buf);
       length-out = length-set (a .out) (a .st .m) (nextFree z a);
       cursor = λ h. free-low (z .p) (z .p) (a .used) (a .st .cursor) h;
       places = λ l g h. put-places (a .out) (a .st .m) (nextFree z a) (z .p) l g (free-low (z .p) (z .p) (a .used) (a .st .cursor) h);
-      m = omega arith;
     }
   where
     other : (q : ℕ) → getD (a .used) q false ≡ true → q ≢ nextFree z a
@@ -86,43 +87,34 @@ written-kept z a f =
 
 pub flush-kept : (z : Layout) (a : Memory) → getD (a .used) (nextFree z a) false ≡ false → Kept z a (flushed z a)
 unfolding flushed
-flush-kept z a f = if-either (Kept z a) (eqb (a .st .buf .n) 0) a (writtenAt z a (nextFree z a)) (same-kept z a a refl refl refl refl refl refl refl refl refl) (written-kept z a f)
+flush-kept z a f = if-either (Kept z a) (eqb (a .st .buf .n) 0) a (writtenAt z a (nextFree z a)) (all-kept z a) (written-kept z a f)
 
 pub gather-kept : (z : Layout) (bottom : Bool) (a : Memory) (h : Head) → getD (a .used) (nextFree z a) false ≡ false → Kept z a (gathered z bottom a h)
 unfolding gathered flushed
 gather-kept z bottom a h f =
-    let full : Memory = withProgress a (withBuffer (a .st) (pushed (a .st .buf) (h .key) (h .tombstone) (h .pay))) in
-    if-either (Kept z a) (bottom && eqb (h .tombstone) 1) a _ (same-kept z a a refl refl refl refl refl refl refl refl refl)
-    (if-either (Kept z a) (leb (z .b) (a .st .buf .n + 1)) (flushed z full) full (through (flush-kept z full f)) (full-kept z a (pushed (a .st .buf) (h .key) (h .tombstone) (h .pay))))
+    if-either (Kept z a) (bottom && eqb (h .tombstone) 1) a _ (all-kept z a)
+    (if-either (Kept z a) (leb (z .b) (a .st .buf .n + 1)) (flushed z full) full (through (flush-kept z full f)) (full-kept z a more))
   where
-    through : (let full : Memory = withProgress a (withBuffer (a .st) (pushed (a .st .buf) (h .key) (h .tombstone) (h .pay))) in Kept z full (flushed z full)) → Kept z a (flushed z (withProgress a (withBuffer (a .st) (pushed (a .st .buf) (h .key) (h .tombstone) (h .pay)))))
-    through k = record { xi = k .xi; xj = k .xj; yi = k .yi; yj = k .yj; words = k .words; low = k .low; used = k .used; length-words = k .length-words; length-out = k .length-out; cursor = k .cursor; places = k .places; m = k .m }
+    more : Buffer
+    more = pushed (a .st .buf) (h .key) (h .tombstone) (h .pay)
 
-pub append-kept : (z : Layout) (a c : Memory) (q : ℕ) → c .st .m < length (c .out) → c .st .m ≤ a .st .m + 1 → q < z .p → Kept z a c → Kept z a (append c q)
-append-kept z a c q l m h k =
+    full : Memory
+    full = withProgress a (withBuffer (a .st) more)
+
+    through : Kept z full (flushed z full) → Kept z a (flushed z full)
+    through k = record { same = same-from z a (flushed z full) (withBuffer (a .st) more) (k .same); x = k .x; y = k .y; length-words = k .length-words; length-out = k .length-out; cursor = k .cursor; places = k .places }
+
+pub append-kept : (z : Layout) (a c : Memory) (q : ℕ) → c .st .m < length (c .out) → q < z .p → Kept z a c → Kept z a (append c q)
+append-kept z a c q l h k =
     record {
-      xi = k .xi;
-      xj = k .xj;
-      yi = k .yi;
-      yj = k .yj;
-      words = k .words;
-      low = k .low;
-      used = k .used;
+      same = record { words = k .same .words; low = k .same .low; used = k .same .used };
+      x = k .x;
+      y = k .y;
       length-words = k .length-words;
       length-out = length-set (c .out) (c .st .m) q ∙ k .length-out;
       cursor = k .cursor;
       places = λ n f g. put-places (c .out) (c .st .m) q (z .p) l (k .places n f g) h;
-      m = omega arith;
     }
-
--- the words of places in use and those before the places are as they were
-pub record Same (z : Layout) (a b : Memory) : Type 0 where
-  pub words : (q : ℕ) → getD (a .used) q false ≡ true → (j : ℕ) → j < 2 + 2 * z .b → getD (b .words) (startOf z q + j) 0 ≡ getD (a .words) (startOf z q + j) 0
-  pub low : (k : ℕ) → k < z .base → getD (b .words) k 0 ≡ getD (a .words) k 0
-  pub used : (q : ℕ) → getD (a .used) q false ≡ true → getD (b .used) q false ≡ true
-
-pub kept-same : (z : Layout) (a b : Memory) → Kept z a b → Same z a b
-kept-same z a b k = record { words = k .words; low = k .low; used = k .used }
 
 -- so the chunks that stand there hold the same records
 module _ (z : Layout) (a b : Memory) (sized : Sized z (a .words)) (k : Same z a b) where
@@ -181,6 +173,11 @@ module _ (z : Layout) (a b : Memory) (sized : Sized z (a .words)) (k : Same z a 
 
   pub listed-kept : (pages : Bool) (list : List ℕ) (end : ℕ) → Listed z pages a list end → Listed z pages b list end
   listed-kept pages list end f i h = stands-kept pages list i (f i h)
+
+  -- a side stands where it stood
+  pub side-kept : (pages : Bool) (list : List ℕ) (end : ℕ) (p : Spot) → SideAt z pages (a .words) (a .used) list end p → SideAt z pages (b .words) (b .used) list end p
+  side-kept pages list end p s =
+      record { stands = listed-kept pages list end (s .stands); low = s .low; inside = λ g. rw (chunk-kept pages list (p .i) (s .stands (p .i) g)) (s .inside g) }
 
   pub blocks-same : (pages : Bool) (list : List ℕ) (i n end : ℕ) → Listed z pages a list end → i + n ≤ end → blocks z pages (b .words) list i n ≡ blocks z pages (a .words) list i n
   unfolding blocks

@@ -142,9 +142,6 @@ apart-same : (B n : ℕ) (done : Level) → 1 ≤ n → apart B n done ≡ ltb B
 apart-same B n [] h = sym (lt-ltb B (B + n) (omega arith))
 apart-same B n (e ∷ es) h = refl
 
-and-false : (a b : Bool) → a ≡ false → (a && b) ≡ false
-and-false a b e = rw e
-
 regroup : (e c m : Bool) → ((true && e) && (c && m)) ≡ (((e && true) && c) && m)
 regroup true true m = refl
 regroup true false m = refl

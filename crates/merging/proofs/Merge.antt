@@ -2,14 +2,13 @@
 use Prim.Native.Nat.{ℕ, zero, suc, _+_, _-_, _*_, _≤_, _<_}
 use mathlib.Core.Path.{_≡_, sym, ap, _∙_, refl}
 use mathlib.Core.Bool.{Bool, true, false, true≢false}
-use mathlib.Core.List.{List, [], _∷_, reverseAux}
+use mathlib.Core.List.{List, []}
 use mathlib.Core.Logic.{dite}
 use native.Mathlib.Decide.{decLt}
 use native.Mathlib.Nat.{le-refl}
 use native.Mathlib.Omega.{arith}
 use lib.ListN.{length, getD, length-append}
 use lib.Seq.{getD-set-same, getD-set-other}
-use borrow.Author.Tests.{le-leb}
 use Rattle.geometry.specs.declared.Geometry.{Geometry}
 use Rattle.geometry.specs.Geometry.{placeStart}
 use Rattle.levels.specs.Basics.{iterate}
@@ -22,15 +21,17 @@ use Rattle.blocks.proofs.Laws.{sized-of, start-place, free-found}
 use Rattle.stream.specs.declared.Inputs.{Inputs}
 use Rattle.sides.specs.Sides.{chunkOf}
 use Rattle.stream.specs.Machine.{Memory, Ready, turns, idle}
+use Rattle.stream.proofs.Laws.{idle-of}
 use Rattle.joins.specs.Joins.{restedOut, joinedUp, closed, Closable}
 use Rattle.merging.specs.declared.Cut.{Cut}
 use Rattle.merging.specs.Blocks.{blockOf, blocks, side, layAll}
-use Rattle.merging.specs.Relation.{Stands, Listed, Holds, Core, Sim, Begun, flashOf, start, merged}
+use Rattle.merging.specs.Relation.{Stands, Listed, Holds, Core, Begun, flashOf, start, merged}
 use Rattle.merging.specs.Relation as relation
 use Rattle.merging.specs.Contract.{blocksOf, runOf, mergeOf, ListedBlock, FullPage, Mergeable, Leaves, inputsOf, beginOf, limitOf}
 use Rattle.merging.proofs.Heads.{recs-length}
 use Rattle.merging.proofs.Moves.{begin-zero, side-cons}
 use Rattle.merging.proofs.Frame.{Same, listed-kept}
+use Rattle.merging.proofs.Sim.{Both}
 use Rattle.merging.proofs.Run.{begun-turns, begun-ready}
 use Rattle.merging.proofs.Close.{rested-length, flushed-out}
 use Rattle.merging.proofs.Whole.{turns-same, merge-laid}
@@ -38,7 +39,7 @@ use Rattle.merging.proofs.Begin.{begin-holds, begin-tail}
 use Rattle.merging.proofs.Decode.{blocks-listed, blocks-run}
 use Rattle.merging.proofs.Settle.{NewFit}
 use Rattle.merging.proofs.Leaving.{leaves-of}
-use Rattle.merging.proofs.Steps.{steps-fit, merge-fit, Filled, left, steps-end, steps-enough}
+use Rattle.merging.proofs.Steps.{steps-fit, reverse-fit, merge-fit, Filled, left, steps-end, steps-enough}
 use Rattle.merging.proofs.Budget.{Supplied, budgets, turns-bounded}
 use Rattle.merging.proofs.Closing.{closable}
 
@@ -84,10 +85,6 @@ unfolding blocks chunkOf
 listed-fit B z ws list i zero = tt
 listed-fit B z ws list i (suc n) = (λ e. absurd (true≢false e), listed-fit B z ws list (suc i) n)
 
-reverse-fit : (B : ℕ) (l acc : Level) → NewFit B l → NewFit B acc → NewFit B (reverseAux l acc)
-reverse-fit B [] acc f g = g
-reverse-fit B (b ∷ l) acc f g = reverse-fit B l (b ∷ acc) (f .1) (f .0, g)
-
 -- what stands in the store stands for the machine
 stored-stands : (g : Geometry) (ws : List ℕ) (used : List Bool) (list : List ℕ) (k : ℕ) → ListedBlock g ws used (getD list k 0) → Stands (layoutOf g) false ws used list k
 unfolding chunkOf
@@ -115,6 +112,9 @@ module _ (g : Geometry) (ws : List ℕ) (used : List Bool) (out xs ys : List ℕ
 
   stands-lower : Listed z false begins ys (c .end)
   stands-lower i h = stored-stands g ws used ys i (k .lower i h)
+
+  lower-within : Listed z false begins ys (c .yend)
+  lower-within i h = stands-lower i (let l = k .y-high in omega arith)
 
   stands-upper : Listed z (c .pages) begins xs (c .xend)
   stands-upper i h = go (c .pages) refl
@@ -144,12 +144,8 @@ module _ (g : Geometry) (ws : List ℕ) (used : List Bool) (out xs ys : List ℕ
         full = long;
         cursor = k .cursor-low;
         few = (let l = sized .b-low in omega arith);
-        upper = stands-upper;
-        lower = λ i h. stands-lower i (let l = k .y-high in omega arith);
-        x-in = k .x-low;
-        y-in = k .y-low;
-        in-x = λ h. stands-upper (c .x) h .formed .low;
-        in-y = λ h. stands-lower (c .y) (let l = k .y-high in omega arith) .formed .low;
+        upper = record { stands = stands-upper; low = k .x-low; inside = λ h. stands-upper (c .x) h .formed .low };
+        lower = record { stands = lower-within; low = k .y-low; inside = λ h. lower-within (c .y) h .formed .low };
         listed = λ i h. rw (listed-same i h) (stands-lower i (let a = k .y-low in let b = k .y-high in omega arith) .place refl);
         tail = begin-tail z begins ys refl (omega (arith, fits, long)) listed-same;
       }
@@ -193,21 +189,21 @@ module _ (g : Geometry) (ws : List ℕ) (used : List Bool) (out xs ys : List ℕ
   abbrev pub ends : Memory
   ends = turns z t xs ys (limitOf c) begins
 
-  both : Core z t xs ys (iterate (limitOf c) (step (g .b) (c .bottom)) state .out) ends × Sim z t xs ys (start begins) (iterate (limitOf c) (step (g .b) (c .bottom)) state) ends
+  both : Both z t xs ys (start begins) (iterate (limitOf c) (step (g .b) (c .bottom)) state) ends
   both = begun-turns z t xs ys (limitOf c) begins (begun (limitOf c)) (limitOf c) (le-refl (limitOf c))
 
   -- both sides are used up
-  x-over : c .xend ≤ ends .st .xi
-  x-over = side-over z (c .pages) (ends .words) xs (ends .st .xi) (ends .st .xj) (c .xend) (sym (both .1 .upper) ∙ steps-end (g .b) (c .bottom) (limitOf c) state filled-upper filled-lower few-left .0)
+  x-over : c .xend ≤ ends .st .x .i
+  x-over = side-over z (c .pages) (ends .words) xs (ends .st .x .i) (ends .st .x .j) (c .xend) (sym (both .1 .upper) ∙ steps-end (g .b) (c .bottom) (limitOf c) state filled-upper filled-lower few-left .0)
 
-  y-over : c .yend ≤ ends .st .yi
-  y-over = side-over z false (ends .words) ys (ends .st .yi) (ends .st .yj) (c .yend) (sym (both .1 .lower) ∙ steps-end (g .b) (c .bottom) (limitOf c) state filled-upper filled-lower few-left .1)
+  y-over : c .yend ≤ ends .st .y .i
+  y-over = side-over z false (ends .words) ys (ends .st .y .i) (ends .st .y .j) (c .yend) (sym (both .1 .lower) ∙ steps-end (g .b) (c .bottom) (limitOf c) state filled-upper filled-lower few-left .1)
 
   ended : idle z t xs ys ends ≡ true
-  ended = rw (le-leb (c .xend) (ends .st .xi) x-over, le-leb (c .yend) (ends .st .yi) y-over)
+  ended = idle-of z t xs ys ends x-over y-over
 
-  y-at : ends .st .yi ≡ c .yend
-  y-at = let a = y-over in let b = both .0 .y-in in omega arith
+  y-at : ends .st .y .i ≡ c .yend
+  y-at = let a = y-over in let b = both .0 .lower .low in omega arith
 
   end-room : ends .st .m + 1 + (c .end - c .yend) ≤ 4096
   end-room = let b = turns-bounded z t xs ys begins supplied (limitOf c) .m in let r = k .room in let l = k .y-low in let h = k .y-high in omega arith

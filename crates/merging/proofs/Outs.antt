@@ -120,6 +120,11 @@ flush-push : (rs : List Rec) (r : Rec) (done : Level) → flush (rs ++ (r ∷ []
 flush-push [] r done = refl
 flush-push (s ∷ rs) r done = refl
 
+-- the buffer is full with one record more, in both readings
+pub full-test : (B : ℕ) (buf : Buffer) (rs : List Rec) → buf ≡ bufferOf rs → leb B (buf .n + 1) ≡ leb B (suc (length rs))
+unfolding bufferOf
+full-test B buf rs e = rw (e, add-one (length rs))
+
 pub gather-holds : (z : Layout) (bottom : Bool) (d : Flash) (o : Out) (a : Memory) (h : Head) → Fit z a → length (o .buffer) < 16 → h .tombstone < 2 → Holds z d o a
     → Holds z d (gather (z .b) bottom (record { key = h .key; tombstone = eqb (h .tombstone) 1; pay = h .pay }) o) (gathered z bottom a h)
 unfolding gathered bufferOf
@@ -138,7 +143,7 @@ gather-holds z bottom d o a h f l k s = go (bottom && eqb (h .tombstone) 1) (leb
     held = record { buf = pushes; flash = s .flash; last = s .last }
 
     test : leb (z .b) (a .st .buf .n + 1) ≡ leb (z .b) (suc (length (o .buffer)))
-    test = rw (s .buf, add-one (length (o .buffer)))
+    test = full-test (z .b) (a .st .buf) (o .buffer) (s .buf)
 
     go : (t u : Bool) → leb (z .b) (suc (length (o .buffer))) ≡ u → Holds z d (if t then o else if u then record { buffer = []; done = new (o .buffer ++ (r ∷ [])) ∷ o .done } else record { buffer = o .buffer ++ (r ∷ []); done = o .done })
         (if t then a else if leb (z .b) (a .st .buf .n + 1) then flushed z full else full)

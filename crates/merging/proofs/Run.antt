@@ -4,27 +4,29 @@ use mathlib.Core.Path.{_≡_, _∙_, refl}
 use mathlib.Core.Bool.{Bool, true, false}
 use mathlib.Core.List.{List, []}
 use native.Mathlib.Omega.{arith}
-use lib.Dec.{leb}
-use borrow.Author.Tests.{leb-true}
-use Rattle.levels.specs.Basics.{if_then_else_}
-use Rattle.levels.specs.Basics.{iterate}
+use Rattle.levels.specs.Basics.{if_then_else_, iterate}
 use Rattle.levels.specs.Merge.{Out, State, step}
 use Rattle.blocks.specs.declared.Layout.{Layout}
-use Rattle.blocks.specs.Blocks.{bufferOf}
+use Rattle.blocks.specs.Blocks.{Sized, bufferOf}
+use Rattle.sides.specs.Sides.{Readable}
+use Rattle.stream.specs.declared.Spot.{Spot}
 use Rattle.stream.specs.declared.Inputs.{Inputs}
 use Rattle.stream.specs.Machine.{Memory, Ready, turn, idle, turns}
-use Rattle.merging.specs.Relation.{Holds, Core, Budget, Sim, Begun, start, first}
+use Rattle.stream.proofs.Laws.{idle-ends}
+use Rattle.merging.specs.Relation.{Holds, SideAt, Core, Budget, Sim, Begun, start, first}
 use Rattle.merging.specs.Blocks.{Flash}
 use Rattle.merging.proofs.Moves.{side-none}
 use Rattle.merging.proofs.Outs.{marks-low}
-use Rattle.merging.proofs.Sim.{sim-step, and-left, and-right}
+use Rattle.merging.proofs.Sim.{Both, sim-step}
+use Rattle.merging.proofs.Steps.{step-idle}
 
 iterate-end : {A : Type 0} (n : ℕ) (f : A → A) (a : A) → iterate (suc n) f a ≡ f (iterate n f a)
 iterate-end zero f a = refl
 iterate-end (suc n) f a = iterate-end n f (f a)
 
-step-none : (B : ℕ) (bottom : Bool) (s : State) → s .upper ≡ [] → s .lower ≡ [] → step B bottom s ≡ s
-step-none B bottom s e f = rw (e, f)
+side-readable : {z : Layout} {pages : Bool} {ws : List ℕ} {used : List Bool} {list : List ℕ} {end : ℕ} {p : Spot} → Sized z ws → end ≤ 4096 → SideAt z pages ws used list end p → Readable z pages ws list (p .i) (p .j) end
+side-readable {p = p} s h k =
+    record { sized = s; end-high = h; place = λ g. k .stands (p .i) g .place; page = λ g. k .stands (p .i) g .page; inside = k .inside; count = λ g. k .stands (p .i) g .formed .high }
 
 module _ (z : Layout) (t : Inputs) (xs ys : List ℕ) (d : Flash) where
   -- the code's `requires` follow
@@ -36,8 +38,8 @@ module _ (z : Layout) (t : Inputs) (xs ys : List ℕ) (d : Flash) where
       let b = c .sized .b-high in
       let f = c .few in
       record {
-        upper = record { sized = c .sized; end-high = hx; place = λ k. c .upper (a .st .xi) k .place; page = λ k. c .upper (a .st .xi) k .page; inside = c .in-x; count = λ k. c .upper (a .st .xi) k .formed .high };
-        lower = record { sized = c .sized; end-high = hy; place = λ k. c .lower (a .st .yi) k .place; page = λ k. c .lower (a .st .yi) k .page; inside = c .in-y; count = λ k. c .lower (a .st .yi) k .formed .high };
+        upper = side-readable (c .sized) hx (c .upper);
+        lower = side-readable (c .sized) hy (c .lower);
         movable = record {
           flushable = record { sized = c .sized; cursor = c .cursor; full = rw (h .buf) (omega arith); room = omega arith; count = g .count; free = g .free };
           gatherable = record { few = rw (h .buf) f; bits = rw (h .buf) (marks-low (o .buffer)) };
@@ -47,29 +49,29 @@ module _ (z : Layout) (t : Inputs) (xs ys : List ℕ) (d : Flash) where
       }
 
   pub sim-turns : (n : ℕ) (s : State) (a : Memory) → Core z t xs ys (s .out) a → Sim z t xs ys d s a → ((i : ℕ) → i < n → Budget z (turns z t xs ys i a))
-      → Core z t xs ys (iterate n (step (z .b) (t .bottom)) s .out) (turns z t xs ys n a) × Sim z t xs ys d (iterate n (step (z .b) (t .bottom)) s) (turns z t xs ys n a)
+      → Both z t xs ys d (iterate n (step (z .b) (t .bottom)) s) (turns z t xs ys n a)
   unfolding turns
   sim-turns zero s a c m g = (c, m)
-  sim-turns (suc n) s a c m g = rw iterate-end (go (idle z t xs ys (turns z t xs ys n a)) refl (sim-turns n s a c m (λ i h. g i (omega arith))) (g n (omega arith)))
+  sim-turns (suc n) s a c m g = rw iterate-end (go (idle z t xs ys r) refl (sim-turns n s a c m (λ i h. g i (omega arith))) (g n (omega arith)))
     where
-      go : (b : Bool) → idle z t xs ys (turns z t xs ys n a) ≡ b
-          → Core z t xs ys (iterate n (step (z .b) (t .bottom)) s .out) (turns z t xs ys n a) × Sim z t xs ys d (iterate n (step (z .b) (t .bottom)) s) (turns z t xs ys n a)
-          → Budget z (turns z t xs ys n a)
-          → Core z t xs ys (step (z .b) (t .bottom) (iterate n (step (z .b) (t .bottom)) s) .out) (if b then turns z t xs ys n a else turn z t xs ys (turns z t xs ys n a))
-          × Sim z t xs ys d (step (z .b) (t .bottom) (iterate n (step (z .b) (t .bottom)) s)) (if b then turns z t xs ys n a else turn z t xs ys (turns z t xs ys n a))
-      go false e ih bu = sim-step z t xs ys d (iterate n (step (z .b) (t .bottom)) s) (turns z t xs ys n a) (ih .0) bu (ih .1) e
+      r : Memory
+      r = turns z t xs ys n a
+
+      made : State
+      made = iterate n (step (z .b) (t .bottom)) s
+
+      go : (b : Bool) → idle z t xs ys r ≡ b → Both z t xs ys d made r → Budget z r → Both z t xs ys d (step (z .b) (t .bottom) made) (if b then r else turn z t xs ys r)
+      go false e ih bu = sim-step z t xs ys d made r (ih .0) bu (ih .1) e
       go true e ih bu =
-          let r = turns z t xs ys n a in
-          let hx = leb-true (t .x) (r .st .xi) (and-left (leb (t .x) (r .st .xi)) (leb (t .y) (r .st .yi)) e) in
-          let hy = leb-true (t .y) (r .st .yi) (and-right (leb (t .x) (r .st .xi)) (leb (t .y) (r .st .yi)) e) in
-          rw (step-none (z .b) (t .bottom) (iterate n (step (z .b) (t .bottom)) s)
-          (ih .1 .upper ∙ side-none z (t .pages) (r .words) xs (r .st .xi) (r .st .xj) (t .x) hx)
-          (ih .1 .lower ∙ side-none z false (r .words) ys (r .st .yi) (r .st .yj) (t .y) hy)) ih
+          let h = idle-ends z t xs ys r e in
+          rw (step-idle (z .b) (t .bottom) made
+          (ih .1 .upper ∙ side-none z (t .pages) (r .words) xs (r .st .x .i) (r .st .x .j) (t .x) (h .0))
+          (ih .1 .lower ∙ side-none z false (r .words) ys (r .st .y .i) (r .st .y .j) (t .y) (h .1))) ih
 
 module _ (z : Layout) (t : Inputs) (xs ys : List ℕ) (n : ℕ) (a : Memory) (b : Begun z t xs ys n a) where
   -- a merge that has begun goes on as the stream on blocks
   pub begun-turns : (i : ℕ) → i ≤ n
-      → Core z t xs ys (iterate i (step (z .b) (t .bottom)) (first z t xs ys a) .out) (turns z t xs ys i a) × Sim z t xs ys (start a) (iterate i (step (z .b) (t .bottom)) (first z t xs ys a)) (turns z t xs ys i a)
+      → Both z t xs ys (start a) (iterate i (step (z .b) (t .bottom)) (first z t xs ys a)) (turns z t xs ys i a)
   begun-turns i h = sim-turns z t xs ys (start a) i (first z t xs ys a) a (b .core) (record { upper = refl; lower = refl; out = b .holds }) (λ k l. b .budget k (omega arith))
 
   pub begun-ready : (i : ℕ) → i ≤ n → Ready z t xs ys (turns z t xs ys i a)

@@ -1,6 +1,6 @@
 -- Laws of levels' merge that the code needs: its new blocks have at most B records, and there are enough steps.
 use Prim.Native.Nat.{ℕ, zero, suc, _+_, _-_, _≤_, _<_}
-use mathlib.Core.Path.{_≡_, sym, ap, _∙_, refl}
+use mathlib.Core.Path.{_≡_, sym, ap, subst, _∙_, refl}
 use mathlib.Core.Bool.{Bool, true, false, _&&_, true≢false}
 use mathlib.Core.List.{List, [], _∷_, _++_, reverseAux}
 use native.Mathlib.Omega.{arith}
@@ -10,8 +10,7 @@ use borrow.Author.Tests.{leb-true, leb-false}
 use Rattle.levels.specs.Basics.{if_then_else_, iterate}
 use Rattle.levels.specs.Record.{Rec, Block, Level, new, size, placed, records, firstKey}
 use Rattle.levels.specs.Merge.{Out, State, headRec, reusable, flush, rest, reuse, gather, fromUpper, fromLower, fromBoth, stepOn, step, joinLeft, join}
-use Rattle.levels.proofs.Basics.{if-either}
-use Rattle.merging.proofs.Sim.{and-left, and-right}
+use Rattle.levels.proofs.Basics.{and-left, and-right, if-either}
 use Rattle.merging.proofs.Settle.{NewFit}
 
 -- the buffer is not full, and the new blocks have at most B records
@@ -19,7 +18,26 @@ pub record Fit (B : ℕ) (o : Out) : Type 0 where
   pub few : length (o .buffer) < B
   pub done : NewFit B (o .done)
 
-placed-of : (B : ℕ) (bottom : Bool) (o : Out) (l : Level) (b : Block) → reusable B bottom o l b ≡ true → placed b ≡ true
+-- Block b of a side is reused if r, else its first record is gathered: what is left of the side, and what is made.
+abbrev pub past : Bool → Block → Level → Level
+past r b bs = if r then bs else rest (b ∷ bs)
+
+abbrev pub put : ℕ → Bool → Bool → Block → Out → Out
+put B bottom r b o = if r then reuse b o else gather B bottom (headRec b) o
+
+-- which of the two is tested once for both
+test-once : (f : Level → Out → State) (r : Bool) (k l : Level) (o p : Out) → (if r then f k o else f l p) ≡ f (if r then k else l) (if r then o else p)
+test-once f true k l o p = refl
+test-once f false k l o p = refl
+
+module _ (B : ℕ) (bottom : Bool) where
+  pub from-upper : (x : Block) (xs lower : Level) (o : Out) → let r = reusable B bottom o lower x in fromUpper B bottom x xs lower o ≡ record { upper = past r x xs; lower = lower; out = put B bottom r x o }
+  from-upper x xs lower o = test-once (λ (l : Level) (p : Out). record { upper = l; lower = lower; out = p }) (reusable B bottom o lower x) xs (rest (x ∷ xs)) (reuse x o) (gather B bottom (headRec x) o)
+
+  pub from-lower : (y : Block) (ys upper : Level) (o : Out) → let r = reusable B bottom o upper y in fromLower B bottom y ys upper o ≡ record { upper = upper; lower = past r y ys; out = put B bottom r y o }
+  from-lower y ys upper o = test-once (λ (l : Level) (p : Out). record { upper = upper; lower = l; out = p }) (reusable B bottom o upper y) ys (rest (y ∷ ys)) (reuse y o) (gather B bottom (headRec y) o)
+
+pub placed-of : (B : ℕ) (bottom : Bool) (o : Out) (l : Level) (b : Block) → reusable B bottom o l b ≡ true → placed b ≡ true
 placed-of B bottom o l b e = search (and-left, and-right)
 
 flush-fit : (B : ℕ) (buf : List Rec) (done : Level) → length buf ≤ B → NewFit B done → NewFit B (flush buf done)
@@ -30,27 +48,32 @@ module _ (B : ℕ) (bottom : Bool) where
   reuse-fit : (b : Block) (o : Out) → 1 ≤ B → placed b ≡ true → Fit B o → Fit B (reuse b o)
   reuse-fit b o l p f = let n = f .few in record { few = l; done = (λ e. absurd (true≢false (sym p ∙ e)), flush-fit B (o .buffer) (o .done) (omega arith) (f .done)) }
 
-  pub gather-fit : (r : Rec) (o : Out) → 1 ≤ B → Fit B o → Fit B (gather B bottom r o)
-  gather-fit r o l f = go (bottom && r .tombstone) (leb B (suc (length (o .buffer)))) refl
+  pub gather-few : (r : Rec) (o : Out) → length (o .buffer) < B → length (gather B bottom r o .buffer) < B
+  gather-few r o h = go (bottom && r .tombstone) (leb B (suc (length (o .buffer)))) refl
     where
-      go : (t u : Bool) → leb B (suc (length (o .buffer))) ≡ u → Fit B (if t then o else if u then record { buffer = []; done = new (o .buffer ++ (r ∷ [])) ∷ o .done } else record { buffer = o .buffer ++ (r ∷ []); done = o .done })
-      go true u e = f
-      go false true e = let n = f .few in let w = length-append (o .buffer) (r ∷ []) in record { few = l; done = (λ _. omega arith, f .done) }
-      go false false e = let n = leb-false B (suc (length (o .buffer))) e in let w = length-append (o .buffer) (r ∷ []) in record { few = omega arith; done = f .done }
+      go : (t u : Bool) → leb B (suc (length (o .buffer))) ≡ u → length ((if t then o else if u then record { buffer = []; done = new (o .buffer ++ (r ∷ [])) ∷ o .done } else record { buffer = o .buffer ++ (r ∷ []); done = o .done }) .buffer) < B
+      go true u e = h
+      go false true e = omega arith
+      go false false e = omega (arith, leb-false B (suc (length (o .buffer))) e, length-append (o .buffer) (r ∷ []))
+
+  pub gather-fit : (r : Rec) (o : Out) → Fit B o → Fit B (gather B bottom r o)
+  gather-fit r o f =
+      record {
+        few = gather-few r o (f .few);
+        done =
+            if-either (λ (p : Out). NewFit B (p .done)) (bottom && r .tombstone) o _ (f .done)
+            (if-either (λ (p : Out). NewFit B (p .done)) (leb B (suc (length (o .buffer)))) _ _ (λ _. omega (arith, f .few, length-append (o .buffer) (r ∷ [])), f .done) (f .done));
+      }
+
+  put-fit : (r : Bool) (b : Block) (o : Out) → 1 ≤ B → (r ≡ true → placed b ≡ true) → Fit B o → Fit B (put B bottom r b o)
+  put-fit true b o l p f = reuse-fit b o l (p refl) f
+  put-fit false b o l p f = gather-fit (headRec b) o f
 
   upper-fit : (x : Block) (xs lower : Level) (o : Out) → 1 ≤ B → Fit B o → Fit B (fromUpper B bottom x xs lower o .out)
-  upper-fit x xs lower o l f = go (reusable B bottom o lower x) refl
-    where
-      go : (t : Bool) → reusable B bottom o lower x ≡ t → Fit B (if_then_else_ {A = State} t (record { upper = xs; lower = lower; out = reuse x o }) (record { upper = rest (x ∷ xs); lower = lower; out = gather B bottom (headRec x) o }) .out)
-      go true e = reuse-fit x o l (placed-of B bottom o lower x e) f
-      go false e = gather-fit (headRec x) o l f
+  upper-fit x xs lower o l f = subst (λ (s : State). Fit B (s .out)) (sym (from-upper B bottom x xs lower o)) (put-fit (reusable B bottom o lower x) x o l (placed-of B bottom o lower x) f)
 
   lower-fit : (y : Block) (ys upper : Level) (o : Out) → 1 ≤ B → Fit B o → Fit B (fromLower B bottom y ys upper o .out)
-  lower-fit y ys upper o l f = go (reusable B bottom o upper y) refl
-    where
-      go : (t : Bool) → reusable B bottom o upper y ≡ t → Fit B (if_then_else_ {A = State} t (record { upper = upper; lower = ys; out = reuse y o }) (record { upper = upper; lower = rest (y ∷ ys); out = gather B bottom (headRec y) o }) .out)
-      go true e = reuse-fit y o l (placed-of B bottom o upper y e) f
-      go false e = gather-fit (headRec y) o l f
+  lower-fit y ys upper o l f = subst (λ (s : State). Fit B (s .out)) (sym (from-lower B bottom y ys upper o)) (put-fit (reusable B bottom o upper y) y o l (placed-of B bottom o upper y) f)
 
   step-fit : (s : State) → 1 ≤ B → Fit B (s .out) → Fit B (step B bottom s .out)
   step-fit s l f = go (s .upper) (s .lower) (s .out) f
@@ -61,13 +84,13 @@ module _ (B : ℕ) (bottom : Bool) where
       go [] (y ∷ ys) o f = lower-fit y ys [] o l f
       go (x ∷ xs) (y ∷ ys) o f =
           if-either (λ (s : State). Fit B (s .out)) (ltb (firstKey (y .recs)) (firstKey (x .recs))) _ _ (lower-fit y ys (x ∷ xs) o l f)
-          (if-either (λ (s : State). Fit B (s .out)) (eqb (firstKey (y .recs)) (firstKey (x .recs))) _ _ (gather-fit (headRec x) o l f) (upper-fit x xs (y ∷ ys) o l f))
+          (if-either (λ (s : State). Fit B (s .out)) (eqb (firstKey (y .recs)) (firstKey (x .recs))) _ _ (gather-fit (headRec x) o f) (upper-fit x xs (y ∷ ys) o l f))
 
   pub steps-fit : (n : ℕ) (s : State) → 1 ≤ B → Fit B (s .out) → Fit B (iterate n (step B bottom) s .out)
   steps-fit zero s l f = f
   steps-fit (suc n) s l f = steps-fit n (step B bottom s) l (step-fit s l f)
 
-reverse-fit : (B : ℕ) (l acc : Level) → NewFit B l → NewFit B acc → NewFit B (reverseAux l acc)
+pub reverse-fit : (B : ℕ) (l acc : Level) → NewFit B l → NewFit B acc → NewFit B (reverseAux l acc)
 reverse-fit B [] acc f g = g
 reverse-fit B (b ∷ l) acc f g = reverse-fit B l (b ∷ acc) (f .1) (f .0, g)
 
@@ -113,6 +136,10 @@ rest-filled b bs f = go (b .recs) (f .0)
 cons-count : (b : Block) (bs : Level) → 1 ≤ size b → suc (length (records bs)) ≤ length (records (b ∷ bs))
 cons-count b bs h = rw length-append (omega arith)
 
+past-less : (r : Bool) (b : Block) (bs : Level) → Filled (b ∷ bs) → Filled (past r b bs) × (suc (length (records (past r b bs))) ≤ length (records (b ∷ bs)))
+past-less true b bs f = (f .1, cons-count b bs (f .0))
+past-less false b bs f = let p = rest-filled b bs f in (p .0, omega (arith, p .1))
+
 -- a step reads a record or more
 pub record Less (s r : State) : Type 0 where
   pub upper : Filled (r .upper)
@@ -122,18 +149,16 @@ pub record Less (s r : State) : Type 0 where
 module _ (B : ℕ) (bottom : Bool) where
   upper-less : (x : Block) (xs lower : Level) (o : Out) → Filled (x ∷ xs) → Filled lower → Less (record { upper = x ∷ xs; lower = lower; out = o }) (fromUpper B bottom x xs lower o)
   upper-less x xs lower o f g =
-      if-either (Less (record { upper = x ∷ xs; lower = lower; out = o })) (reusable B bottom o lower x) _ _
-      (record { upper = f .1; lower = g; count = omega (arith, cons-count x xs (f .0)) })
-      (let r = rest-filled x xs f in record { upper = r .0; lower = g; count = omega (arith, r .1) })
+      let p = past-less (reusable B bottom o lower x) x xs f in
+      subst (Less (record { upper = x ∷ xs; lower = lower; out = o })) (sym (from-upper B bottom x xs lower o)) (record { upper = p .0; lower = g; count = omega (arith, p .1) })
 
   lower-less : (y : Block) (ys upper : Level) (o : Out) → Filled (y ∷ ys) → Filled upper → Less (record { upper = upper; lower = y ∷ ys; out = o }) (fromLower B bottom y ys upper o)
   lower-less y ys upper o f g =
-      if-either (Less (record { upper = upper; lower = y ∷ ys; out = o })) (reusable B bottom o upper y) _ _
-      (record { upper = g; lower = f .1; count = omega (arith, cons-count y ys (f .0)) })
-      (let r = rest-filled y ys f in record { upper = g; lower = r .0; count = omega (arith, r .1) })
+      let p = past-less (reusable B bottom o upper y) y ys f in
+      subst (Less (record { upper = upper; lower = y ∷ ys; out = o })) (sym (from-lower B bottom y ys upper o)) (record { upper = g; lower = p .0; count = omega (arith, p .1) })
 
   both-less : (x : Block) (xs : Level) (y : Block) (ys : Level) (o : Out) → Filled (x ∷ xs) → Filled (y ∷ ys) → Less (record { upper = x ∷ xs; lower = y ∷ ys; out = o }) (fromBoth B bottom x xs (y ∷ ys) o)
-  both-less x xs y ys o f g = let r = rest-filled x xs f in let q = rest-filled y ys g in record { upper = r .0; lower = q .0; count = omega (arith, r .1, q .1) }
+  both-less x xs y ys o f g = let p = past-less false x xs f in let q = past-less false y ys g in record { upper = p .0; lower = q .0; count = omega (arith, p .1, q .1) }
 
   step-less : (s : State) → Filled (s .upper) → Filled (s .lower) → Less s (step B bottom s)
   step-less s f g = go (s .upper) (s .lower) (s .out) f g
@@ -155,7 +180,7 @@ module _ (B : ℕ) (bottom : Bool) where
   steps-end zero s f g h = (none-left (s .upper) f (omega arith), none-left (s .lower) g (omega arith))
   steps-end (suc n) s f g h = let l = step-less s f g in let c = l .count in steps-end n (step B bottom s) (l .upper) (l .lower) (omega arith)
 
-  step-idle : (s : State) → s .upper ≡ [] → s .lower ≡ [] → step B bottom s ≡ s
+  pub step-idle : (s : State) → s .upper ≡ [] → s .lower ≡ [] → step B bottom s ≡ s
   step-idle s e f = rw (e, f)
 
   idle-steps : (n : ℕ) (s : State) → s .upper ≡ [] → s .lower ≡ [] → iterate n (step B bottom) s ≡ s

@@ -5,26 +5,24 @@ use mathlib.Core.Bool.{Bool, true, false}
 use mathlib.Core.List.{List, []}
 use native.Mathlib.Nat.{le-refl}
 use native.Mathlib.Omega.{arith}
-use lib.Dec.{leb}
 use lib.ListN.{getD}
-use borrow.Author.Tests.{leb-true}
 use Rattle.levels.specs.Basics.{iterate}
 use Rattle.levels.specs.Merge.{Out, step, joinLeft, join}
 use Rattle.blocks.specs.declared.Layout.{Layout}
 use Rattle.blocks.specs.Blocks.{Free}
 use Rattle.blocks.proofs.Laws.{free-found}
 use Rattle.sides.specs.declared.Head.{Head}
-use Rattle.stream.specs.declared.Progress.{Progress}
+use Rattle.stream.specs.declared.Spot.{Spot}
 use Rattle.stream.specs.declared.Inputs.{Inputs}
 use Rattle.sides.specs.Sides.{blockChunk, chunkOf, first, follows, headOf, lastSize}
-use Rattle.stream.specs.Machine.{Memory, gathered, reused, withProgress, skipX, skipY, passX, passY, tookX, tookY, tookBoth, turn, idle, turns}
+use Rattle.stream.specs.Machine.{Memory, reused, emitted, movedTo, moved, spotAfter, turn, idle, turns}
 use Rattle.levels.proofs.Basics.{if-either}
+use Rattle.stream.proofs.Laws.{idle-ends}
 use Rattle.joins.specs.Joins.{closed}
 use Rattle.merging.specs.Relation.{Formed, nextFree, flashOf, Stands, Listed, Begun, start}
 use Rattle.merging.specs.Relation as relation
 use Rattle.merging.specs.Blocks.{blocks, layAll}
-use Rattle.merging.proofs.Frame.{Same, kept-same, flush-kept, gather-kept, stands-kept, blocks-same}
-use Rattle.merging.proofs.Sim.{pass-x-same, pass-y-same, and-right}
+use Rattle.merging.proofs.Frame.{Same, same-from, flush-kept, gather-kept, stands-kept, blocks-same}
 use Rattle.merging.proofs.Run.{begun-turns}
 use Rattle.merging.proofs.Close.{close-laid}
 
@@ -32,27 +30,30 @@ pub same-next : (z : Layout) (a b c : Memory) → Same z a b → Same z b c → 
 same-next z a b c k l =
     record { words = λ q u j h. l .words q (k .used q u) j h ∙ k .words q u j h; low = λ i h. l .low i h ∙ k .low i h; used = λ q u. l .used q (k .used q u) }
 
-module _ (z : Layout) (bottom : Bool) (a : Memory) (f : getD (a .used) (nextFree z a) false ≡ false) where
-  gather-same : (w : Progress) (h : Head) → w .cursor ≡ a .st .cursor → Same z a (gathered z bottom (withProgress a w) h)
-  gather-same w h e = let k = kept-same z (withProgress a w) _ (gather-kept z bottom (withProgress a w) h (rw e f)) in record { words = k .words; low = k .low; used = k .used }
-
-  reuse-same : (w : Progress) (q : ℕ) → w .cursor ≡ a .st .cursor → Same z a (reused z (withProgress a w) q)
-  unfolding reused
-  reuse-same w q e = let k = kept-same z (withProgress a w) _ (flush-kept z (withProgress a w) (rw e f)) in record { words = k .words; low = k .low; used = k .used }
+emit-same : (z : Layout) (bottom : Bool) (a : Memory) (h : Head) (r : Bool) → Free (a .used) (nextFree z a) → Same z a (emitted z bottom a h r)
+unfolding emitted reused
+emit-same z bottom a h true f = let k = flush-kept z a f .same in record { words = k .words; low = k .low; used = k .used }
+emit-same z bottom a h false f = gather-kept z bottom a h f .same
 
 module _ (z : Layout) (t : Inputs) (xs ys : List ℕ) where
-  turn-same : (a : Memory) → getD (a .used) (nextFree z a) false ≡ false → Same z a (turn z t xs ys a)
-  unfolding turn tookX tookY tookBoth
+  turn-same : (a : Memory) → Free (a .used) (nextFree z a) → Same z a (turn z t xs ys a)
+  unfolding turn
   turn-same a f =
-      let x = headOf z (t .pages) (a .words) xs (a .st .xi) (a .st .xj) (t .x) in
-      let y = headOf z false (a .words) ys (a .st .yi) (a .st .yj) (t .y) in
-      let e = lastSize z (a .words) (a .out) (a .st .m) in
-      let b = t .bottom in
-      if-either (Same z a) (first y x) _ _
-      (if-either (Same z a) (follows z b y x (a .st .buf .n) e) _ _ (reuse-same z b a f (skipY (a .st)) (y .place) refl) (gather-same z b a f (passY (a .st) (y .n)) y (pass-y-same (a .st) (y .n) .cursor)))
-      (if-either (Same z a) (first x y) _ _
-      (if-either (Same z a) (follows z b x y (a .st .buf .n) e) _ _ (reuse-same z b a f (skipX (a .st)) (x .place) refl) (gather-same z b a f (passX (a .st) (x .n)) x (pass-x-same (a .st) (x .n) .cursor)))
-      (gather-same z b a f (passY (passX (a .st) (x .n)) (y .n)) x (pass-y-same (passX (a .st) (x .n)) (y .n) .cursor ∙ pass-x-same (a .st) (x .n) .cursor)))
+      if-either (Same z a) (first y x) _ _ (on (a .st .x) (spotAfter (a .st .y) (y .n) (whole y x)) y (whole y x))
+      (if-either (Same z a) (first x y) _ _ (on (spotAfter (a .st .x) (x .n) (whole x y)) (a .st .y) x (whole x y))
+      (on (spotAfter (a .st .x) (x .n) false) (spotAfter (a .st .y) (y .n) false) x false))
+    where
+      x : Head
+      x = headOf z (t .pages) (a .words) xs (a .st .x .i) (a .st .x .j) (t .x)
+
+      y : Head
+      y = headOf z false (a .words) ys (a .st .y .i) (a .st .y .j) (t .y)
+
+      whole : Head → Head → Bool
+      whole h o = follows z (t .bottom) h o (a .st .buf .n) (lastSize z (a .words) (a .out) (a .st .m))
+
+      on : (p q : Spot) (h : Head) (r : Bool) → Same z a (emitted z (t .bottom) (moved a p q) h r)
+      on p q h r = same-from z a (emitted z (t .bottom) (moved a p q) h r) (movedTo (a .st) p q) (emit-same z (t .bottom) (moved a p q) h r f)
 
   pub turns-same : (n : ℕ) (a : Memory) → ((i : ℕ) → i < n → Free (turns z t xs ys i a .used) (nextFree z (turns z t xs ys i a))) → Same z a (turns z t xs ys n a)
   unfolding turns
@@ -78,9 +79,9 @@ module _ (z : Layout) (t : Inputs) (xs ys : List ℕ) (n end : ℕ) (a : Memory)
       let s = begun-turns z t xs ys n a b n (le-refl n) in
       let g = turns-same z t xs ys n a (λ i h. let c = begun-turns z t xs ys n a b i (omega arith) .0 in free-found (turns z t xs ys i a .used) (z .p) (turns z t xs ys i a .st .cursor) (c .cursor) (b .budget i (omega arith) .free)) in
       let sz = b .core .sized in
-      let hy = leb-true (t .y) (r .st .yi) (and-right (leb (t .x) (r .st .xi)) (leb (t .y) (r .st .yi)) ended) in
-      let iy = s .0 .y-in in
-      let e : r .st .yi ≡ t .y = omega arith in
+      let hy = idle-ends z t xs ys r ended .1 in
+      let iy = s .0 .lower .low in
+      let e : r .st .y .i ≡ t .y = omega arith in
       let fl = s .0 .full in
-      let c = close-laid z (start a) r ys end made (s .1 .out) (s .0 .sized) (s .0 .few) (s .0 .cursor) (rw (e, fl) room) (s .0 .tail) (λ h. formed-at z r ys (stands-kept z a r sz g false ys (r .st .yi) (all (r .st .yi) h))) in
+      let c = close-laid z (start a) r ys end made (s .1 .out) (s .0 .sized) (s .0 .few) (s .0 .cursor) (rw (e, fl) room) (s .0 .tail) (λ h. formed-at z r ys (stands-kept z a r sz g false ys (r .st .y .i) (all (r .st .y .i) h))) in
       c ∙ rw (e, blocks-same z a r sz g false ys (t .y) (end - t .y) end all (omega arith))

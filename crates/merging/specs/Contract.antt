@@ -84,7 +84,7 @@ abbrev pub inputsOf : Cut → Inputs
 inputsOf c = record { x = c .xend; y = c .yend; pages = c .pages; bottom = c .bottom }
 
 abbrev pub beginOf : Cut → ℕ → Progress
-beginOf c cursor = record { xi = c .x; xj = 0; yi = c .y; yj = 0; m = c .y; writes = 0; cursor = cursor; buf = emptyBuffer }
+beginOf c cursor = record { x = record { i = c .x; j = 0 }; y = record { i = c .y; j = 0 }; m = c .y; writes = 0; cursor = cursor; buf = emptyBuffer }
 
 abbrev pub limitOf : Cut → ℕ
 limitOf c = 16 * ((c .xend - c .x) + (c .yend - c .y))

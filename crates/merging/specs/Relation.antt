@@ -10,6 +10,7 @@ use Rattle.levels.specs.Merge.{Out, State, step, joinLeft, join}
 use Rattle.blocks.specs.declared.Layout.{Layout}
 use Rattle.blocks.specs.Blocks.{Sized, SomeFree, nextMark, bufferOf}
 use Rattle.sides.specs.declared.Chunk.{Chunk}
+use Rattle.stream.specs.declared.Spot.{Spot}
 use Rattle.stream.specs.declared.Inputs.{Inputs}
 use Rattle.sides.specs.Sides.{chunkOf, lastSize}
 use Rattle.stream.specs.Machine.{Memory, turns}
@@ -49,6 +50,12 @@ pub record Stands (z : Layout) (pages : Bool) (ws : List ℕ) (used : List Bool)
 abbrev pub Listed : Layout → Bool → Memory → List ℕ → ℕ → Type 0
 Listed z pages a list end = (k : ℕ) → k < end → Stands z pages (a .words) (a .used) list k
 
+-- a side stands at spot p: its chunks stand, and p is a record of one of them, or its end
+pub record SideAt (z : Layout) (pages : Bool) (ws : List ℕ) (used : List Bool) (list : List ℕ) (end : ℕ) (p : Spot) : Type 0 where
+  pub stands : (k : ℕ) → k < end → Stands z pages ws used list k
+  pub low : p .i ≤ end
+  pub inside : p .i < end → p .j < chunkOf z pages ws list (p .i) .n
+
 -- a last block of fewer than B records is the one that the list's last place holds
 abbrev pub LastIs : Layout → List ℕ → List ℕ → ℕ → Level → Type 0
 LastIs z ws out m [] = Unit {0}
@@ -60,12 +67,8 @@ pub record Core (z : Layout) (t : Inputs) (xs ys : List ℕ) (o : Out) (a : Memo
   pub full : length (a .out) ≡ 4096
   pub cursor : a .st .cursor < z .p
   pub few : length (o .buffer) < z .b
-  pub upper : Listed z (t .pages) a xs (t .x)
-  pub lower : Listed z false a ys (t .y)
-  pub x-in : a .st .xi ≤ t .x
-  pub y-in : a .st .yi ≤ t .y
-  pub in-x : a .st .xi < t .x → a .st .xj < chunkOf z (t .pages) (a .words) xs (a .st .xi) .n
-  pub in-y : a .st .yi < t .y → a .st .yj < chunkOf z false (a .words) ys (a .st .yi) .n
+  pub upper : SideAt z (t .pages) (a .words) (a .used) xs (t .x) (a .st .x)
+  pub lower : SideAt z false (a .words) (a .used) ys (t .y) (a .st .y)
   pub listed : (i : ℕ) → i < a .st .m → getD (a .out) i 0 < z .p
   pub tail : LastIs z (a .words) (a .out) (a .st .m) (o .done)
 
@@ -77,8 +80,8 @@ pub record Budget (z : Layout) (a : Memory) : Type 0 where
 
 -- a machine's memory and a state of the merge on blocks
 pub record Sim (z : Layout) (t : Inputs) (xs ys : List ℕ) (d : Flash) (s : State) (a : Memory) : Type 0 where
-  pub upper : s .upper ≡ side z (t .pages) (a .words) xs (a .st .xi) (a .st .xj) (t .x)
-  pub lower : s .lower ≡ side z false (a .words) ys (a .st .yi) (a .st .yj) (t .y)
+  pub upper : s .upper ≡ side z (t .pages) (a .words) xs (a .st .x .i) (a .st .x .j) (t .x)
+  pub lower : s .lower ≡ side z false (a .words) ys (a .st .y .i) (a .st .y .j) (t .y)
   pub out : Holds z d (s .out) a
 
 -- the flash that a merge starts from: nothing is listed yet
@@ -89,8 +92,8 @@ start a = record { words = a .words; used = a .used; cursor = a .st .cursor; wri
 abbrev pub first : Layout → Inputs → List ℕ → List ℕ → Memory → State
 first z t xs ys a =
     record {
-      upper = side z (t .pages) (a .words) xs (a .st .xi) (a .st .xj) (t .x);
-      lower = side z false (a .words) ys (a .st .yi) (a .st .yj) (t .y);
+      upper = side z (t .pages) (a .words) xs (a .st .x .i) (a .st .x .j) (t .x);
+      lower = side z false (a .words) ys (a .st .y .i) (a .st .y .j) (t .y);
       out = record { buffer = []; done = reverse (blocks z false (a .words) ys 0 (a .st .m)) };
     }
 

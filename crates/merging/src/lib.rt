@@ -9,6 +9,7 @@ use blocks::Layout;
 use geometry::Geometry;
 use stream::Inputs;
 use stream::Progress;
+use stream::Spot;
 
 // Where a merge's blocks stand: X is the chunks x to xend of the upper level, Y the entries y to
 // yend of the lower level's list, which has `end` entries; X may be pages of level 0, and the lower
@@ -48,11 +49,11 @@ impl Cut {
         ensures { λ r. ⌜ r ≡ beginOf self cursor ⌝ }
     {
         let empty = blocks::empty();
+        let x = Spot { i: self.x, j: 0 };
+        let y = Spot { i: self.y, j: 0 };
         Progress {
-            xi: self.x,
-            xj: 0,
-            yi: self.y,
-            yj: 0,
+            x: x,
+            y: y,
             m: self.y,
             writes: 0,
             cursor: cursor,

@@ -1,21 +1,38 @@
 -- Laws of the machine's steps.
-use Prim.Native.Nat.{ℕ, zero, suc, _+_, _≤_}
+use Prim.Native.Nat.{ℕ, zero, suc, _+_, _≤_, _<_}
 use mathlib.Core.Path.{_≡_, sym, ap, _∙_, refl}
 use mathlib.Core.Bool.{Bool, true, false, true≢false}
 use mathlib.Core.List.{List}
 use native.Mathlib.Omega.{arith}
 use lib.Dec.{leb, eqb}
+use borrow.Author.Tests.{le-leb, leb-true, leb-false}
 use Rattle.levels.specs.Basics.{if_then_else_}
-use Rattle.levels.proofs.Basics.{if-either}
+use Rattle.levels.proofs.Basics.{and-left, and-right, if-either}
 use Rattle.blocks.specs.declared.Layout.{Layout}
 use Rattle.blocks.specs.Blocks.{nextMark}
+use Rattle.sides.specs.declared.Head.{Head}
+use Rattle.sides.specs.Sides.{headOf, lastSize, first, follows}
+use Rattle.stream.specs.declared.Spot.{Spot}
 use Rattle.stream.specs.declared.Progress.{Progress}
 use Rattle.stream.specs.declared.Inputs.{Inputs}
-use Rattle.stream.specs.Machine.{Memory, Movable, passX, passY, flushed, writtenAt, turn, turns, idle}
+use Rattle.stream.specs.Machine.{Memory, Movable, spotAfter, movedTo, moved, flushed, writtenAt, emitted, stepWith, turn, turns, idle}
 
 pub flushed-m : (z : Layout) (a : Memory) → flushed z a .st .m ≤ a .st .m + 1
 unfolding flushed
 flushed-m z a = if-either (λ (b : Memory). b .st .m ≤ a .st .m + 1) (eqb (a .st .buf .n) 0) a (writtenAt z a (nextMark (z .p) (a .used) (a .st .cursor))) (omega arith) (omega arith)
+
+pub flushed-y : (z : Layout) (a : Memory) → flushed z a .st .y ≡ a .st .y
+unfolding flushed
+flushed-y z a = if-either (λ (b : Memory). b .st .y ≡ a .st .y) (eqb (a .st .buf .n) 0) a (writtenAt z a (nextMark (z .p) (a .used) (a .st .cursor))) refl refl
+
+-- past one record: it was the last of its block, or there are more
+pub after-one : (P : Spot → Type 0) (p : Spot) (n : ℕ) → (n ≤ p .j + 1 → P (record { i = p .i + 1; j = 0 })) → (p .j + 1 < n → P (record { i = p .i; j = p .j + 1 })) → P (spotAfter p n false)
+unfolding spotAfter
+after-one P p n f g = go (leb n (p .j + 1)) refl
+  where
+    go : (t : Bool) → leb n (p .j + 1) ≡ t → P (if t then record { i = p .i + 1; j = 0 } else record { i = p .i; j = p .j + 1 })
+    go true e = f (leb-true n (p .j + 1) e)
+    go false e = g (leb-false n (p .j + 1) e)
 
 -- one branch, where the test is known
 pub if-true : {A : Type 0} (t : Bool) (a b : A) → t ≡ true → (if t then a else b) ≡ a
@@ -26,8 +43,18 @@ pub if-false : {A : Type 0} (t : Bool) (a b : A) → t ≡ false → (if t then 
 if-false true a b e = absurd (true≢false e)
 if-false false a b e = refl
 
--- The turns are counted outside the machine's text: `rw` in a goal that holds an open turn took 2.3 GB.
 module _ (z : Layout) (t : Inputs) (xs ys : List ℕ) where
+  -- idle is what stands at both ends
+  pub idle-of : (a : Memory) → t .x ≤ a .st .x .i → t .y ≤ a .st .y .i → idle z t xs ys a ≡ true
+  idle-of a h l = rw (le-leb (t .x) (a .st .x .i) h, le-leb (t .y) (a .st .y .i) l)
+
+  pub idle-ends : (a : Memory) → idle z t xs ys a ≡ true → (t .x ≤ a .st .x .i) × (t .y ≤ a .st .y .i)
+  idle-ends a e =
+      let p = leb (t .x) (a .st .x .i) in
+      let q = leb (t .y) (a .st .y .i) in
+      (leb-true (t .x) (a .st .x .i) (and-left p q e), leb-true (t .y) (a .st .y .i) (and-right p q e))
+
+  -- The turns are counted outside the machine's text: `rw` in a goal that holds an open turn took 2.3 GB.
   pub turns-more : (i : ℕ) (a : Memory) → idle z t xs ys (turns z t xs ys i a) ≡ false → turn z t xs ys (turns z t xs ys i a) ≡ turns z t xs ys (i + 1) a
   unfolding turns
   turns-more i a e =
@@ -44,23 +71,28 @@ module _ (z : Layout) (t : Inputs) (xs ys : List ℕ) where
       let s : b ≡ turns z t xs ys i a = turns-idle d i a e in
       ap (λ (n : ℕ). turns z t xs ys n a) h ∙ (if-true (idle z t xs ys b) b (turn z t xs ys b) (ap (idle z t xs ys) s ∙ e) ∙ s)
 
--- the places, the buffer and the list are not touched by a move of a side
-pub same-movable : (z : Layout) (xs : List ℕ) (used : List Bool) (v w : Progress) → v .m ≡ w .m → v .writes ≡ w .writes → v .cursor ≡ w .cursor → v .buf ≡ w .buf → Movable z xs used w → Movable z xs used v
-same-movable z xs used v w a n b e k =
+-- the places, the buffer and the list are not touched by a move of the sides
+pub moved-movable : (z : Layout) (xs : List ℕ) (used : List Bool) (w : Progress) (x y : Spot) → Movable z xs used w → Movable z xs used (movedTo w x y)
+moved-movable z xs used w x y k =
+    let f = k .flushable in
     record {
-      flushable = record { sized = k .flushable .sized; cursor = rw b (k .flushable .cursor); full = rw e (k .flushable .full); room = rw a (k .flushable .room); count = rw n (k .flushable .count); free = k .flushable .free };
-      gatherable = record { few = rw e (k .gatherable .few); bits = rw e (k .gatherable .bits) };
-      room = rw a (k .room);
+      flushable = record { sized = f .sized; cursor = f .cursor; full = f .full; room = f .room; count = f .count; free = f .free };
+      gatherable = record { few = k .gatherable .few; bits = k .gatherable .bits };
+      room = k .room;
     }
 
-pub pass-x-movable : (z : Layout) (xs : List ℕ) (used : List Bool) (w : Progress) (n : ℕ) → Movable z xs used w → Movable z xs used (passX w n)
-unfolding passX
-pass-x-movable z xs used w n k = if-either (Movable z xs used) (leb n (w .xj + 1)) _ _ (same-movable z xs used _ w refl refl refl refl k) (same-movable z xs used _ w refl refl refl refl k)
+-- A step, by the side that comes first: x and y are what the two sides read, e is the size of the last block, r says whether the block is reused.
+module _ (z : Layout) (t : Inputs) (xs ys : List ℕ) (a : Memory) (x y : Head) (e : ℕ)
+    (ex : x ≡ headOf z (t .pages) (a .words) xs (a .st .x .i) (a .st .x .j) (t .x)) (ey : y ≡ headOf z false (a .words) ys (a .st .y .i) (a .st .y .j) (t .y)) (ee : e ≡ lastSize z (a .words) (a .out) (a .st .m)) where
+  turn-with : stepWith z t xs ys a x y e ≡ turn z t xs ys a
+  unfolding turn
+  turn-with = rw (ex, ey, ee)
 
-pub pass-y-movable : (z : Layout) (xs : List ℕ) (used : List Bool) (w : Progress) (n : ℕ) → Movable z xs used w → Movable z xs used (passY w n)
-unfolding passY
-pass-y-movable z xs used w n k = if-either (Movable z xs used) (leb n (w .yj + 1)) _ _ (same-movable z xs used _ w refl refl refl refl k) (same-movable z xs used _ w refl refl refl refl k)
+  pub turn-lower : (r : Bool) → r ≡ follows z (t .bottom) y x (a .st .buf .n) e → first y x ≡ true → emitted z (t .bottom) (moved a (a .st .x) (spotAfter (a .st .y) (y .n) r)) y r ≡ turn z t xs ys a
+  turn-lower r er f = rw er (sym (if-true (first y x) _ _ f) ∙ turn-with)
 
-pub pass-x-y : (w : Progress) (n : ℕ) → (passX w n .yi ≡ w .yi) × (passX w n .yj ≡ w .yj)
-unfolding passX
-pass-x-y w n = if-either (λ (v : Progress). (v .yi ≡ w .yi) × (v .yj ≡ w .yj)) (leb n (w .xj + 1)) _ _ (refl, refl) (refl, refl)
+  pub turn-upper : (r : Bool) → r ≡ follows z (t .bottom) x y (a .st .buf .n) e → first y x ≡ false → first x y ≡ true → emitted z (t .bottom) (moved a (spotAfter (a .st .x) (x .n) r) (a .st .y)) x r ≡ turn z t xs ys a
+  turn-upper r er f g = rw er (sym (if-false (first y x) _ _ f ∙ if-true (first x y) _ _ g) ∙ turn-with)
+
+  pub turn-both : first y x ≡ false → first x y ≡ false → emitted z (t .bottom) (moved a (spotAfter (a .st .x) (x .n) false) (spotAfter (a .st .y) (y .n) false)) x false ≡ turn z t xs ys a
+  turn-both f g = sym (if-false (first y x) _ _ f ∙ if-false (first x y) _ _ g) ∙ turn-with

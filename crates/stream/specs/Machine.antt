@@ -1,6 +1,6 @@
 -- The merge as a machine over the words, the marks, the new list and a few numbers: what the code does, step by step.
 use Prim.Native.Nat.{ℕ, zero, suc, _+_, _^_, _≤_, _<_}
-use mathlib.Core.Bool.{Bool, true, false, _&&_}
+use mathlib.Core.Bool.{Bool, true, false, _&&_, _||_}
 use mathlib.Core.List.{List}
 use lib.Dec.{leb, eqb}
 use lib.ListN.{getD, set}
@@ -10,6 +10,7 @@ use Rattle.blocks.specs.declared.Buffer.{Buffer}
 use Rattle.blocks.specs.Blocks.{Sized, SomeFree, nextMark, pushed, emptyBuffer, written}
 use Rattle.sides.specs.declared.Head.{Head}
 use Rattle.sides.specs.Sides.{Readable, headOf, lastSize, first, follows}
+use Rattle.stream.specs.declared.Spot.{Spot}
 use Rattle.stream.specs.declared.Progress.{Progress}
 use Rattle.stream.specs.declared.Inputs.{Inputs}
 
@@ -35,7 +36,7 @@ pub record Gatherable (z : Layout) (w : Progress) : Type 0 where
   pub bits : w .buf .marks < 2 ^ w .buf .n
 
 abbrev pub withBuffer : Progress → Buffer → Progress
-withBuffer w b = record { xi = w .xi; xj = w .xj; yi = w .yi; yj = w .yj; m = w .m; writes = w .writes; cursor = w .cursor; buf = b }
+withBuffer w b = record { x = w .x; y = w .y; m = w .m; writes = w .writes; cursor = w .cursor; buf = b }
 
 abbrev pub withProgress : Memory → Progress → Memory
 withProgress a w = record { words = a .words; used = a .used; out = a .out; st = w }
@@ -47,7 +48,7 @@ writtenAt z a q =
       words = written z (a .words) q (a .st .buf);
       used = set (a .used) q true;
       out = set (a .out) (a .st .m) q;
-      st = record { xi = a .st .xi; xj = a .st .xj; yi = a .st .yi; yj = a .st .yj; m = a .st .m + 1; writes = a .st .writes + 1; cursor = q; buf = emptyBuffer };
+      st = record { x = a .st .x; y = a .st .y; m = a .st .m + 1; writes = a .st .writes + 1; cursor = q; buf = emptyBuffer };
     }
 
 unfoldable pub flushed : Layout → Memory → Memory
@@ -60,7 +61,7 @@ append a q =
       words = a .words;
       used = a .used;
       out = set (a .out) (a .st .m) q;
-      st = record { xi = a .st .xi; xj = a .st .xj; yi = a .st .yi; yj = a .st .yj; m = a .st .m + 1; writes = a .st .writes; cursor = a .st .cursor; buf = a .st .buf };
+      st = record { x = a .st .x; y = a .st .y; m = a .st .m + 1; writes = a .st .writes; cursor = a .st .cursor; buf = a .st .buf };
     }
 
 unfoldable pub reused : Layout → Memory → ℕ → Memory
@@ -72,17 +73,20 @@ gathered z bottom a h =
     else if leb (z .b) (a .st .buf .n + 1) then flushed z (withProgress a (withBuffer (a .st) (pushed (a .st .buf) (h .key) (h .tombstone) (h .pay))))
     else withProgress a (withBuffer (a .st) (pushed (a .st .buf) (h .key) (h .tombstone) (h .pay)))
 
-abbrev pub skipX : Progress → Progress
-skipX w = record { xi = w .xi + 1; xj = 0; yi = w .yi; yj = w .yj; m = w .m; writes = w .writes; cursor = w .cursor; buf = w .buf }
+-- past the whole block, or past one record of a block of n
+unfoldable pub spotAfter : Spot → ℕ → Bool → Spot
+spotAfter p n whole = if whole || leb n (p .j + 1) then record { i = p .i + 1; j = 0 } else record { i = p .i; j = p .j + 1 }
 
-abbrev pub skipY : Progress → Progress
-skipY w = record { xi = w .xi; xj = w .xj; yi = w .yi + 1; yj = 0; m = w .m; writes = w .writes; cursor = w .cursor; buf = w .buf }
+-- X and Y further on
+abbrev pub movedTo : Progress → Spot → Spot → Progress
+movedTo w x y = record { x = x; y = y; m = w .m; writes = w .writes; cursor = w .cursor; buf = w .buf }
 
-unfoldable pub passX : Progress → ℕ → Progress
-passX w n = if leb n (w .xj + 1) then skipX w else record { xi = w .xi; xj = w .xj + 1; yi = w .yi; yj = w .yj; m = w .m; writes = w .writes; cursor = w .cursor; buf = w .buf }
+abbrev pub moved : Memory → Spot → Spot → Memory
+moved a x y = withProgress a (movedTo (a .st) x y)
 
-unfoldable pub passY : Progress → ℕ → Progress
-passY w n = if leb n (w .yj + 1) then skipY w else record { xi = w .xi; xj = w .xj; yi = w .yi; yj = w .yj + 1; m = w .m; writes = w .writes; cursor = w .cursor; buf = w .buf }
+-- the block of h follows as it stands, or its next record is gathered
+unfoldable pub emitted : Layout → Bool → Memory → Head → Bool → Memory
+emitted z bottom a h whole = if whole then reused z a (h .place) else gathered z bottom a h
 
 -- the merge can write and gather
 pub record Movable (z : Layout) (xs : List ℕ) (used : List Bool) (w : Progress) : Type 0 where
@@ -92,43 +96,34 @@ pub record Movable (z : Layout) (xs : List ℕ) (used : List Bool) (w : Progress
 
 -- a step can be made
 pub record Ready (z : Layout) (t : Inputs) (xs ys : List ℕ) (a : Memory) : Type 0 where
-  pub upper : Readable z (t .pages) (a .words) xs (a .st .xi) (a .st .xj) (t .x)
-  pub lower : Readable z false (a .words) ys (a .st .yi) (a .st .yj) (t .y)
+  pub upper : Readable z (t .pages) (a .words) xs (a .st .x .i) (a .st .x .j) (t .x)
+  pub lower : Readable z false (a .words) ys (a .st .y .i) (a .st .y .j) (t .y)
   pub movable : Movable z (a .words) (a .used) (a .st)
   pub listed : (i : ℕ) → i < a .st .m → getD (a .out) i 0 < z .p
 
-module _ (z : Layout) (bottom : Bool) (a : Memory) where
-  unfoldable pub tookX : Head → Head → ℕ → Memory
-  tookX x y e =
-      if follows z bottom x y (a .st .buf .n) e then reused z (withProgress a (skipX (a .st))) (x .place)
-      else gathered z bottom (withProgress a (passX (a .st) (x .n))) x
-
-  unfoldable pub tookY : Head → Head → ℕ → Memory
-  tookY y x e =
-      if follows z bottom y x (a .st .buf .n) e then reused z (withProgress a (skipY (a .st))) (y .place)
-      else gathered z bottom (withProgress a (passY (a .st) (y .n))) y
-
-  unfoldable pub tookBoth : Head → Head → Memory
-  tookBoth x y = gathered z bottom (withProgress a (passY (passX (a .st) (x .n)) (y .n))) x
-
 module _ (z : Layout) (t : Inputs) (xs ys : List ℕ) where
+  -- Y's next record comes first, or X's; of equal keys the upper record is gathered, and the lower is passed over
   abbrev pub stepWith : Memory → Head → Head → ℕ → Memory
   stepWith a x y e =
-      if first y x then tookY z (t .bottom) a y x e
-      else if first x y then tookX z (t .bottom) a x y e
-      else tookBoth z (t .bottom) a x y
+      let p = a .st .x in
+      let q = a .st .y in
+      let wholeY = follows z (t .bottom) y x (a .st .buf .n) e in
+      let wholeX = follows z (t .bottom) x y (a .st .buf .n) e in
+      if first y x then emitted z (t .bottom) (moved a p (spotAfter q (y .n) wholeY)) y wholeY
+      else if first x y then emitted z (t .bottom) (moved a (spotAfter p (x .n) wholeX) q) x wholeX
+      else emitted z (t .bottom) (moved a (spotAfter p (x .n) false) (spotAfter q (y .n) false)) x false
 
   -- one step: a block is reused or a record is gathered
   unfoldable pub turn : Memory → Memory
   turn a =
       stepWith a
-      (headOf z (t .pages) (a .words) xs (a .st .xi) (a .st .xj) (t .x))
-      (headOf z false (a .words) ys (a .st .yi) (a .st .yj) (t .y))
+      (headOf z (t .pages) (a .words) xs (a .st .x .i) (a .st .x .j) (t .x))
+      (headOf z false (a .words) ys (a .st .y .i) (a .st .y .j) (t .y))
       (lastSize z (a .words) (a .out) (a .st .m))
 
   -- both sides are used up
   abbrev pub idle : Memory → Bool
-  idle a = leb (t .x) (a .st .xi) && leb (t .y) (a .st .yi)
+  idle a = leb (t .x) (a .st .x .i) && leb (t .y) (a .st .y .i)
 
   unfoldable pub turns : ℕ → Memory → Memory
   turns zero a = a

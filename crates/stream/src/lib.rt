@@ -4,18 +4,22 @@ ghost use mathlib.Core.Path.{_≡_};
 ghost use mathlib.Core.Bool.{false};
 ghost use Prim.Native.Nat.{ℕ, _+_, _^_, _≤_, _<_};
 ghost use Rattle.sides.specs.Sides.{HeadOk};
-ghost use Rattle.stream.specs.Machine.{Memory, Flushable, Gatherable, Movable, tookX, tookY, tookBoth, Ready, flushed, reused, gathered, skipX, skipY, passX, passY, turn, turns, idle};
+ghost use Rattle.stream.specs.Machine.{Memory, Flushable, Gatherable, Movable, Ready, flushed, reused, gathered, emitted, spotAfter, movedTo, turn, turns, idle};
 use blocks::Buffer;
 use blocks::Layout;
 use sides::Head;
 
-// Where the merge stands: the next block and record of X and of Y, the blocks listed so far, the
-// blocks written so far, the allocation cursor and the buffer.
+// Where a side stands: its next block, and the next record of that block.
+pub struct Spot {
+    pub i: usize,
+    pub j: usize,
+}
+
+// Where the merge stands: the spots of X and of Y, the blocks listed so far, the blocks written so
+// far, the allocation cursor and the buffer.
 pub struct Progress {
-    pub xi: usize,
-    pub xj: usize,
-    pub yi: usize,
-    pub yj: usize,
+    pub x: Spot,
+    pub y: Spot,
     pub m: usize,
     pub writes: usize,
     pub cursor: usize,
@@ -54,17 +58,12 @@ pub fn flush(
     used[q] = true;
     blocks::write_block(s, z, q, buf);
     out[m] = q as u32;
-    let fresh = blocks::empty();
-    Progress {
-        xi: w.xi,
-        xj: w.xj,
-        yi: w.yi,
-        yj: w.yj,
-        m: m + 1,
-        writes: w.writes + 1,
-        cursor: q,
-        buf: fresh,
-    }
+    let mut v = w;
+    v.m = m + 1;
+    v.writes = w.writes + 1;
+    v.cursor = q;
+    v.buf = blocks::empty();
+    v
 }
 
 // The buffer is written, and the block at place q follows as it stands.
@@ -106,140 +105,61 @@ pub fn gather(
     let more = buf.push(h.key, h.tombstone, h.pay);
     let n = more.n;
     let b = z.b;
-    let v = Progress {
-        xi: w.xi,
-        xj: w.xj,
-        yi: w.yi,
-        yj: w.yj,
-        m: w.m,
-        writes: w.writes,
-        cursor: w.cursor,
-        buf: more,
-    };
+    let mut v = w;
+    v.buf = more;
     if b <= n {
         return flush(s, used, out, z, v);
     }
     v
 }
 
+impl Spot {
+    // Past the whole block, or past one record of a block of n.
+    fn after(self, n: usize, whole: bool) -> Spot
+        requires { ⌜ (self .i < 4096) × (self .j < 16) ⌝ }
+        ensures { λ r. ⌜ r ≡ spotAfter self n whole ⌝ }
+    {
+        let j = self.j + 1;
+        if whole | (n <= j) {
+            return Spot {
+                i: self.i + 1,
+                j: 0,
+            };
+        }
+        Spot { i: self.i, j: j }
+    }
+}
+
 impl Progress {
-    fn skip_x(mut self) -> Progress
-        requires { ⌜ self .xi < 4096 ⌝ }
-        ensures { λ r. ⌜ r ≡ skipX self ⌝ }
+    // The same, with X and Y further on.
+    fn moved(mut self, x: Spot, y: Spot) -> Progress
+        ensures { λ r. ⌜ r ≡ movedTo self x y ⌝ }
     {
-        self.xi = self.xi + 1;
-        self.xj = 0;
-        self
-    }
-
-    fn skip_y(mut self) -> Progress
-        requires { ⌜ self .yi < 4096 ⌝ }
-        ensures { λ r. ⌜ r ≡ skipY self ⌝ }
-    {
-        self.yi = self.yi + 1;
-        self.yj = 0;
-        self
-    }
-
-    // Past one record of a block of n.
-    fn pass_x(mut self, n: usize) -> Progress
-        requires { ⌜ (self .xi < 4096) × (self .xj < 16) ⌝ }
-        ensures { λ r. ⌜ r ≡ passX self n ⌝ }
-    {
-        let j = self.xj + 1;
-        if n <= j {
-            return self.skip_x();
-        }
-        self.xj = j;
-        self
-    }
-
-    fn pass_y(mut self, n: usize) -> Progress
-        requires { ⌜ (self .yi < 4096) × (self .yj < 16) ⌝ }
-        ensures { λ r. ⌜ r ≡ passY self n ⌝ }
-    {
-        let j = self.yj + 1;
-        if n <= j {
-            return self.skip_y();
-        }
-        self.yj = j;
+        self.x = x;
+        self.y = y;
         self
     }
 }
 
-// The upper side's block is reused, or its next record is gathered.
-fn take_x(
+// The block of h follows as it stands, or its next record is gathered.
+fn emit(
     s: &mut [u32],
     used: &mut [bool; 8192],
     out: &mut [u32; 4096],
     z: Layout,
     bottom: bool,
     w: Progress,
-    x: Head,
-    y: Head,
-    e: usize,
+    h: Head,
+    whole: bool,
 ) -> Progress
-    requires { ⌜ Movable z (now s) (now used) w × HeadOk x × (w .xi < 4096) × (w .xj < 16) × (e < 2 ^ 32) ⌝ }
-    ensures { λ r. ⌜ _≡_ {A = Memory} (record { words = now (s .exit); used = now (used .exit); out = now (out .exit); st = r }) (tookX z bottom (record { words = now (s .entry); used = now (used .entry); out = now (out .entry); st = w }) x y e) ⌝ }
+    requires { ⌜ Movable z (now s) (now used) w × HeadOk h ⌝ }
+    ensures { λ r. ⌜ _≡_ {A = Memory} (record { words = now (s .exit); used = now (used .exit); out = now (out .exit); st = r }) (emitted z bottom (record { words = now (s .entry); used = now (used .entry); out = now (out .entry); st = w }) h whole) ⌝ }
 {
-    let buf = w.buf;
-    let n = buf.n;
-    if sides::reusable(z, bottom, x, y, n, e) {
-        let v = w.skip_x();
-        let q = x.place;
-        return reuse(s, used, out, z, v, q);
+    if whole {
+        let q = h.place;
+        return reuse(s, used, out, z, w, q);
     }
-    let size = x.n;
-    let v = w.pass_x(size);
-    gather(s, used, out, z, bottom, v, x)
-}
-
-// The lower side's block is reused, or its next record is gathered.
-fn take_y(
-    s: &mut [u32],
-    used: &mut [bool; 8192],
-    out: &mut [u32; 4096],
-    z: Layout,
-    bottom: bool,
-    w: Progress,
-    y: Head,
-    x: Head,
-    e: usize,
-) -> Progress
-    requires { ⌜ Movable z (now s) (now used) w × HeadOk y × (w .yi < 4096) × (w .yj < 16) × (e < 2 ^ 32) ⌝ }
-    ensures { λ r. ⌜ _≡_ {A = Memory} (record { words = now (s .exit); used = now (used .exit); out = now (out .exit); st = r }) (tookY z bottom (record { words = now (s .entry); used = now (used .entry); out = now (out .entry); st = w }) y x e) ⌝ }
-{
-    let buf = w.buf;
-    let n = buf.n;
-    if sides::reusable(z, bottom, y, x, n, e) {
-        let v = w.skip_y();
-        let q = y.place;
-        return reuse(s, used, out, z, v, q);
-    }
-    let size = y.n;
-    let v = w.pass_y(size);
-    gather(s, used, out, z, bottom, v, y)
-}
-
-// Of equal keys the upper record is gathered, and the lower is passed over.
-fn take_both(
-    s: &mut [u32],
-    used: &mut [bool; 8192],
-    out: &mut [u32; 4096],
-    z: Layout,
-    bottom: bool,
-    w: Progress,
-    x: Head,
-    y: Head,
-) -> Progress
-    requires { ⌜ Movable z (now s) (now used) w × HeadOk x × (w .xi < 4096) × (w .xj < 16) × (w .yi < 4096) × (w .yj < 16) ⌝ }
-    ensures { λ r. ⌜ _≡_ {A = Memory} (record { words = now (s .exit); used = now (used .exit); out = now (out .exit); st = r }) (tookBoth z bottom (record { words = now (s .entry); used = now (used .entry); out = now (out .entry); st = w }) x y) ⌝ }
-{
-    let xn = x.n;
-    let yn = y.n;
-    let u = w.pass_x(xn);
-    let v = u.pass_y(yn);
-    gather(s, used, out, z, bottom, v, x)
+    gather(s, used, out, z, bottom, w, h)
 }
 
 // One step of the merge: the block that stands next is reused, or its next record is gathered; of equal keys the upper record stands alone.
@@ -257,25 +177,30 @@ pub fn step(
     requires { ⌜ idle z t (now xs) (now ys) (record { words = now s; used = now used; out = now out; st = w }) ≡ false ⌝ }
     ensures { λ r. ⌜ _≡_ {A = Memory} (record { words = now (s .exit); used = now (used .exit); out = now (out .exit); st = r }) (turn z t (now (xs .entry)) (now (ys .entry)) (record { words = now (s .entry); used = now (used .entry); out = now (out .entry); st = w })) ⌝ }
 {
-    let xi = w.xi;
-    let xj = w.xj;
+    let p = w.x;
+    let q = w.y;
     let xe = t.x;
-    let pages = t.pages;
-    let x = sides::peek(s, z, pages, xs, xi, xj, xe);
-    let yi = w.yi;
-    let yj = w.yj;
     let ye = t.y;
-    let y = sides::peek(s, z, false, ys, yi, yj, ye);
+    let pages = t.pages;
+    let bottom = t.bottom;
+    let x = sides::peek(s, z, pages, xs, p.i, p.j, xe);
+    let y = sides::peek(s, z, false, ys, q.i, q.j, ye);
     let m = w.m;
     let e = sides::last_size(s, z, out, m);
-    let bottom = t.bottom;
+    let buf = w.buf;
+    let n = buf.n;
     if sides::before(y, x) {
-        return take_y(s, used, out, z, bottom, w, y, x, e);
+        let whole = sides::reusable(z, bottom, y, x, n, e);
+        let v = w.moved(p, q.after(y.n, whole));
+        return emit(s, used, out, z, bottom, v, y, whole);
     }
     if sides::before(x, y) {
-        return take_x(s, used, out, z, bottom, w, x, y, e);
+        let whole = sides::reusable(z, bottom, x, y, n, e);
+        let v = w.moved(p.after(x.n, whole), q);
+        return emit(s, used, out, z, bottom, v, x, whole);
     }
-    take_both(s, used, out, z, bottom, w, x, y)
+    let v = w.moved(p.after(x.n, false), q.after(y.n, false));
+    emit(s, used, out, z, bottom, v, x, false)
 }
 
 // The merge of the two sides, in at most `limit` steps.
@@ -297,9 +222,9 @@ pub fn stream(
     let xe = t.x;
     let ye = t.y;
     for k in 0..limit {
-        let xi = v.xi;
-        let yi = v.yi;
-        if (xe <= xi) & (ye <= yi) {
+        let p = v.x;
+        let q = v.y;
+        if (xe <= p.i) & (ye <= q.i) {
             return v;
         }
         v = step(s, used, out, xs, ys, z, t, v);

@@ -28,20 +28,20 @@ flush-requires : tie.Need-flush-requires
 flush-requires c κs = rw (c .before .before .before .join-after .ensures, c .before .before .before .before .before .before .join-left .ensures) (c .before .before .before .before .before .before .before .before .before .before .pre .flushable)
 
 copy-entries-requires : tie.Need-copy-entries-requires
-copy-entries-requires c κs = let e = ends (c .before .before .before) in rw e (c .before .before .before .before .before .before .before .before .before .before .before .before .before .before .pre .afters .end-high, c .before .before .before .before .before .before .before .before .before .before .before .before .before .before .pre .room)
+copy-entries-requires c κs = let e = ends (c .before .before .before .before) in rw e (c .before .before .before .before .before .before .before .before .before .before .before .before .before .before .before .pre .afters .end-high, c .before .before .before .before .before .before .before .before .before .before .before .before .before .before .before .pre .room)
 
 sub-v : tie.Need-sub-v
-sub-v c = let e = ends (c .before .before .before .before) in rw e (c .before .before .before .before .before .before .before .before .before .before .before .before .before .before .before .pre .yi-high)
+sub-v c = let e = ends (c .before .before .before .before .before) in rw e (c .before .before .before .before .before .before .before .before .before .before .before .before .before .before .before .before .pre .y-high)
 
 add-v : tie.Need-add-v
-add-v c = let e = ends (c .before .before .before .before) in let r = c .before .before .before .before .before .before .before .before .before .before .before .before .before .before .before .pre .room in let h : c .before .before .before .before .flush .result .m + (c .before .before .before .before .before .before .before .before .before .before .before .before .before .before .before .args .end - c .before .before .before .before .flush .result .yi) ≤ 4096 = rw e r in omega arith
+add-v c = let e = ends (c .before .before .before .before .before) in let r = c .before .before .before .before .before .before .before .before .before .before .before .before .before .before .before .before .pre .room in let h : c .before .before .before .before .before .flush .result .m + (c .before .before .before .before .before .before .before .before .before .before .before .before .before .before .before .before .args .end - c .before .before .before .before .before .flush .result .y .i) ≤ 4096 = rw e r in omega arith
 
 same-length : tie.Need-same-length
 same-length c = search needs
 
 returns : tie.Need-returns
 unfolding closed
-returns c = rw (c .copy-entries .ensures) (ap (λ (a : Memory). rested a (c .before .before .before .before .before .before .before .before .before .before .before .before .before .before .before .args .ys .now) (c .before .before .before .before .before .before .before .before .before .before .before .before .before .before .before .args .end)) (c .before .before .before .before .flush .ensures ∙ rw (c .before .before .before .before .before .before .before .before .join-after .ensures, c .before .before .before .before .before .before .before .before .before .before .before .join-left .ensures)))
+returns c = rw (c .copy-entries .ensures) (ap (λ (a : Memory). rested a (c .before .before .before .before .before .before .before .before .before .before .before .before .before .before .before .before .args .ys .now) (c .before .before .before .before .before .before .before .before .before .before .before .before .before .before .before .before .args .end)) (c .before .before .before .before .before .flush .ensures ∙ rw (c .before .before .before .before .before .before .before .before .before .join-after .ensures, c .before .before .before .before .before .before .before .before .before .before .before .before .join-left .ensures)))
 
 pub close-spec : {M : Type 1} → statement M
 close-spec =

@@ -35,21 +35,21 @@ mul-out c = search needs
 element-write-out : tie.Need-element-write-out
 element-write-out c = search needs
 
+add-v : tie.Need-add-v
+add-v c = search needs
+
+add-v-2 : tie.Need-add-v-2
+add-v-2 c = search needs
+
 empty-requires : tie.Need-empty-requires
 empty-requires c κs = search needs
-
-add-t21 : tie.Need-add-t21
-add-t21 c = search needs
-
-add-t24 : tie.Need-add-t24
-add-t24 c = search needs
 
 same-length : tie.Need-same-length
 same-length c = search needs
 
 returns-2 : tie.Need-returns-2
 unfolding flushed
-returns-2 c = rw (ne-eqb _ _ (c .before .before .before .before .before .before .before .before .if1 .left), c .before .empty .ensures, c .before .before .before .before .write-block .ensures .0, c .before .before .before .before .before .before .first-free .ensures)
+returns-2 c = rw (ne-eqb _ _ (c .before .before .before .before .before .before .before .before .if1 .left), c .empty .ensures, c .before .before .before .before .write-block .ensures .0, c .before .before .before .before .before .before .first-free .ensures)
 
 pub flush-spec : {M : Type 1} → statement M
 flush-spec =
@@ -62,8 +62,8 @@ flush-spec =
     cast-out
     mul-out
     element-write-out
+    add-v
+    add-v-2
     empty-requires
-    add-t21
-    add-t24
     same-length
     returns-2)

@@ -27,8 +27,8 @@ same-length c = omega arith
 
 returns : tie.Need-returns Inv-loop μ-loop
 returns c =
-    let l = c .before .before .loop in
-    let a = c .before .before .before .before .args in
+    let l = c .before .before .before .before .before .before .loop in
+    let a = c .before .before .before .before .before .before .before .before .args in
     let e = l .inv .1 .1 in
     let w : Memory = record { words = a .s .now; used = a .used .now; out = a .out .now; st = a .w } in
     let n : a .limit ≡ l .k + (a .limit - l .k) = omega arith in
@@ -37,9 +37,9 @@ returns c =
 
 step-requires : tie.Need-step-requires Inv-loop μ-loop
 step-requires c κs =
-    let e = c .before .before .before .before .before .loop .inv .1 .1 in
-    let a = c .before .before .before .before .before .before .before .args in
-    (subst (Ready (a .z) (a .t) (a .xs .now) (a .ys .now)) (sym e) (c .before .before .before .before .before .before .before .pre (c .before .before .before .before .before .loop .k) (omega arith)), c .before .before .before .if1 .left)
+    let e = c .before .before .before .before .before .before .before .before .before .loop .inv .1 .1 in
+    let a = c .before .before .before .before .before .before .before .before .before .before .before .args in
+    (subst (Ready (a .z) (a .t) (a .xs .now) (a .ys .now)) (sym e) (c .before .before .before .before .before .before .before .before .before .before .before .pre (c .before .before .before .before .before .before .before .before .before .loop .k) (omega arith)), c .before .before .before .if1 .left)
 
 add-k : tie.Need-add-k Inv-loop μ-loop
 add-k c = omega arith
@@ -49,8 +49,8 @@ loop-less c = omega arith
 
 loop-again : tie.Need-loop-again Inv-loop μ-loop
 loop-again c =
-    let l = c .before .before .before .before .before .before .before .before .loop in
-    let a = c .before .before .before .before .before .before .before .before .before .before .args in
+    let l = c .before .before .before .before .before .before .before .before .before .before .before .before .loop in
+    let a = c .before .before .before .before .before .before .before .before .before .before .before .before .before .before .args in
     let e = l .inv .1 .1 in
     let w : Memory = record { words = a .s .now; used = a .used .now; out = a .out .now; st = a .w } in
     let i : idle (a .z) (a .t) (a .xs .now) (a .ys .now) (turns (a .z) (a .t) (a .xs .now) (a .ys .now) (l .k) w) ≡ false = ap (idle (a .z) (a .t) (a .xs .now) (a .ys .now)) (sym e) ∙ c .before .before .before .before .before .before .if1 .left in
