@@ -12,10 +12,31 @@ use borrow.Author.Tests.{eq-eqb, ne-eqb}
 use Rattle.levels.specs.Basics.{if_then_else_}
 use Rattle.levels.specs.Record.{Rec}
 use Rattle.levels.specs.Map.{overlay, into, unmarked, firstFrom}
-use Rattle.chunks.specs.Peel.{taken, past, orList, Least, Peeled, liveBit}
+use Rattle.chunks.specs.Peel.{past, liveBit}
 use Rattle.levels.proofs.Laid.{overlay-length, kept-length}
 use Rattle.levels.proofs.Overlay.Way.{less, same, more}
 use Rattle.levels.proofs.Overlay.{into-below, into-same, into-above, Way, way}
+
+-- the first record, where its key is k
+unfoldable pub taken : ℕ → List Rec → List Rec
+taken k [] = []
+taken k (r ∷ rs) = if eqb (r .key) k then r ∷ [] else []
+
+-- the first of two lists that has something
+abbrev pub orList : List Rec → List Rec → List Rec
+orList [] ys = ys
+orList (x ∷ xs) ys = x ∷ xs
+
+-- the first key is not below k
+abbrev pub Least : ℕ → List Rec → Type 0
+Least k [] = Unit {0}
+Least k (r ∷ rs) = k ≤ r .key
+
+-- what an overlay begins with, where no first key is below k
+pub record Peeled (k : ℕ) (xs ys : List Rec) : Type 0 where
+  pub least : Least k (overlay xs ys)
+  pub takens : taken k (overlay xs ys) ≡ orList (taken k xs) (taken k ys)
+  pub pasts : past k (overlay xs ys) ≡ overlay (past k xs) (past k ys)
 
 -- the clauses of `taken` and `past`, as laws
 pub taken-nil : (k : ℕ) → taken k [] ≡ []

@@ -13,7 +13,7 @@ use Rattle.words.specs.Layout.{word, slotsAt}
 use Rattle.words.proofs.Slots.{shift-suc}
 use Rattle.chunks.specs.declared.Rise.{Rise}
 use Rattle.chunks.specs.declared.Rise.the-variants.{To, Broken}
-use Rattle.chunks.specs.Chunks.{zerosAt, nextLow, riseOf, cleanOf}
+use Rattle.chunks.specs.Chunks.{zerosAt, riseOf, cleanOf}
 
 -- one word of `zeros`
 module _ (ws : List ℕ) (start n i : ℕ) where
@@ -105,6 +105,11 @@ rise-clean ws m k v (suc n) low =
     go true false c x = refl
     go false false true x = refl
     go false false false x = refl
+
+-- the least key that may follow records that rise from `low` on
+unfoldable pub nextLow : ℕ → List Rec → ℕ
+nextLow low [] = low
+nextLow low (r ∷ rs) = nextLow (suc (r .key)) rs
 
 -- the pass says: keys rise strictly, payloads of tombstones are 0, and no bit is set past the count
 pub rise-is : (ws : List ℕ) (m k v n low : ℕ) → riseOf ws m k v n low ≡ (if rising low (slotsAt ws m k v n) && (cleanTombstones (slotsAt ws m k v n) && eqb (m / 2 ^ n) 0) then To (nextLow low (slotsAt ws m k v n)) else Broken)

@@ -20,11 +20,6 @@ pub record Inside (c : Chunk) (ws : List ℕ) : Type 0 where
   pub keys-end : c .keys + c .count ≤ length ws
   pub pays-end : c .pays + c .count ≤ length ws
 
--- the least key that may follow records that rise from `low` on
-unfoldable pub nextLow : ℕ → List Rec → ℕ
-nextLow low [] = low
-nextLow low (r ∷ rs) = nextLow (suc (r .key)) rs
-
 -- the n words from word i on are 0
 unfoldable pub zerosAt : List ℕ → ℕ → ℕ → Bool
 zerosAt ws i zero = true

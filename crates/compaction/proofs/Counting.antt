@@ -17,7 +17,7 @@ use Rattle.blocks.specs.declared.Layout.{Layout}
 use Rattle.blocks.specs.Blocks.{layoutOf, startOf}
 use Rattle.blocks.proofs.Laws.{sized-of, start-place}
 use Rattle.sides.specs.Sides.{blockChunk}
-use Rattle.merging.specs.Blocks.{recsFrom, countAt, storedAt, blocks}
+use Rattle.merging.proofs.Blocks.{recsFrom, countAt, storedAt, blocks}
 use Rattle.merging.proofs.Heads.{recs-length}
 use Rattle.merging.proofs.Begin.{no-blocks, blocks-snoc}
 use Rattle.merging.proofs.Decode.{blocks-listed}

@@ -16,8 +16,8 @@ use Rattle.sides.specs.declared.Head.{Head}
 use Rattle.sides.specs.Sides.{blockChunk, headAt}
 use Rattle.stream.specs.Machine.{Memory, gathered}
 use Rattle.merging.specs.Contract.{countMarks}
-use Rattle.merging.specs.Blocks.{recAt, recsFrom, countAt}
-use Rattle.merging.specs.Relation.{Holds, start}
+use Rattle.merging.proofs.Blocks.{recAt, recsFrom, countAt}
+use Rattle.merging.proofs.Relation.{Holds, start}
 use Rattle.merging.proofs.Words.{sized-on}
 use Rattle.merging.proofs.Frame.{Same, gather-kept, stored-agree, count-kept}
 use Rattle.merging.proofs.Heads.{recs-length}

@@ -18,8 +18,8 @@ use Rattle.blocks.proofs.Laws.{sized-of, start-place}
 use Rattle.sides.specs.Sides.{lastSize, blockChunk}
 use Rattle.stream.specs.Machine.{Memory, Flushable, flushed}
 use Rattle.stream.proofs.Laws.{flushed-m}
-use Rattle.merging.specs.Blocks.{recsFrom, countAt, blocks, layAll, layDone}
-use Rattle.merging.specs.Relation.{flashOf, start}
+use Rattle.merging.proofs.Blocks.{recsFrom, countAt, blocks, layAll, layDone}
+use Rattle.merging.proofs.Relation.{flashOf, start}
 use Rattle.merging.specs.Contract.{Leaves}
 use Rattle.merging.proofs.Heads.{recs-length}
 use Rattle.merging.proofs.Outs.{flush-holds}

@@ -18,12 +18,12 @@ use Rattle.words.specs.Layout.{word}
 use Rattle.chunks.specs.declared.Chunk.{Chunk}
 use Rattle.chunks.specs.declared.Rise.{Rise}
 use Rattle.chunks.specs.declared.Rise.the-variants.{To, Broken}
-use Rattle.chunks.specs.Chunks.{chunkRecs, riseOf, nextLow}
+use Rattle.chunks.specs.Chunks.{chunkRecs, riseOf}
 use Rattle.levels.proofs.Rising.{test-rising}
 use Rattle.words.proofs.Slots.{slots-length}
-use Rattle.chunks.proofs.Slots.{rise-is, rising-append}
+use Rattle.chunks.proofs.Slots.{nextLow, rise-is, rising-append}
 use Rattle.directory.specs.declared.Directory.{Directory}
-use Rattle.directory.specs.Directory.{pageOf, blockOf, startOf, chunkAt, recordsFrom, recordsOf, Within, keptOf, leanLevel, onRise, passOf, levelFormed, tidyChunk, tidyFrom, levelRules, Formed}
+use Rattle.directory.specs.Directory.{pageOf, blockOf, startOf, chunkAt, recordsFrom, recordsOf, Within, keptOf, leanLevel, onRise, passOf, levelFormed, Formed}
 
 -- a page ends where the next one starts
 pub page-end : (width i n : ℕ) → i < n → i * width + width ≤ n * width
@@ -74,6 +74,18 @@ module _ (ws : List ℕ) (d : Directory) (n i low before total : ℕ) (h : n ≤
   pub pass-end-listed : d .top ≡ false → passOf ws d i (n - i) low before total ≡ not (wasteful (d .width) (d .chunks) total)
   unfolding passOf
   pass-end-listed t = let p : n - i ≡ 0 = omega arith in rw (p, t)
+
+-- The pass of the code, rule by rule. A chunk after one of `before` records: its size, its slots, its mark word.
+abbrev pub tidyChunk : List ℕ → Directory → Chunk → ℕ → Bool
+tidyChunk ws d c before = keptOf ws d c before && (cleanTombstones (chunkRecs ws c) && eqb (c .marks / 2 ^ c .count) 0)
+
+unfoldable pub tidyFrom : List ℕ → Directory → ℕ → ℕ → ℕ → Bool
+tidyFrom ws d i zero before = true
+tidyFrom ws d i (suc n) before = tidyChunk ws d (chunkAt ws d i) before && tidyFrom ws d (suc i) n (chunkAt ws d i .count)
+
+-- every chunk tidy, keys rising strictly through the level, and the level rule
+abbrev pub levelRules : List ℕ → Directory → Bool
+levelRules ws d = tidyFrom ws d 0 (d .chunks) (d .width) && (rising 0 (recordsOf ws d) && leanLevel d (length (recordsOf ws d)))
 
 pub pass-start : (ws : List ℕ) (d : Directory) (n : ℕ) → passOf ws d 0 (n - 0) 0 (d .width) 0 ≡ passOf ws d 0 n 0 (d .width) 0
 pass-start ws d n = let p : n - 0 ≡ n = omega arith in rw p

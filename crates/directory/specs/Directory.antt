@@ -1,12 +1,12 @@
 -- Directories: the chunks of a level, its records, and the rules that it keeps.
-use Prim.Native.Nat.{ℕ, zero, suc, _+_, _-_, _*_, _/_, _^_, _≤_, _<_}
+use Prim.Native.Nat.{ℕ, zero, suc, _+_, _-_, _*_, _≤_, _<_}
 use mathlib.Core.Path.{_≡_}
 use mathlib.Core.Bool.{Bool, true, false, not, _&&_, _||_}
 use mathlib.Core.List.{List, [], _++_}
 use lib.Dec.{ltb, leb, eqb}
 use lib.ListN.{length}
 use Rattle.levels.specs.Basics.{if_then_else_}
-use Rattle.levels.specs.Record.{Rec, rising, cleanTombstones}
+use Rattle.levels.specs.Record.{Rec}
 use Rattle.levels.specs.Waste.{wasteful}
 use Rattle.levels.specs.Rising.{Rising}
 use Rattle.words.specs.Layout.{word}
@@ -85,18 +85,6 @@ passOf ws d i (suc n) low before total =
 
 unfoldable pub levelFormed : List ℕ → Directory → Bool
 levelFormed ws d = passOf ws d 0 (d .chunks) 0 (d .width) 0
-
--- The same, rule by rule. A chunk after one of `before` records: its size, its slots, its mark word.
-abbrev pub tidyChunk : List ℕ → Directory → Chunk → ℕ → Bool
-tidyChunk ws d c before = keptOf ws d c before && (cleanTombstones (chunkRecs ws c) && eqb (c .marks / 2 ^ c .count) 0)
-
-unfoldable pub tidyFrom : List ℕ → Directory → ℕ → ℕ → ℕ → Bool
-tidyFrom ws d i zero before = true
-tidyFrom ws d i (suc n) before = tidyChunk ws d (chunkAt ws d i) before && tidyFrom ws d (suc i) n (chunkAt ws d i .count)
-
--- every chunk tidy, keys rising strictly through the level, and the level rule
-abbrev pub levelRules : List ℕ → Directory → Bool
-levelRules ws d = tidyFrom ws d 0 (d .chunks) (d .width) && (rising 0 (recordsOf ws d) && leanLevel d (length (recordsOf ws d)))
 
 -- what the code above a formed level leans on
 pub record Formed (d : Directory) (ws : List ℕ) : Type 0 where

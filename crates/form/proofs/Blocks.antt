@@ -24,8 +24,8 @@ use Rattle.words.proofs.Each.{all-each-at}
 use Rattle.words.proofs.Slots.{slots-take}
 use Rattle.words.proofs.Blocks.{block-size}
 use Rattle.words.proofs.Lists.{level-length}
-use Rattle.directory.specs.Directory.{blockOf, chunkAt, recordsFrom, recordsOf, keptOf, leanLevel, tidyChunk, tidyFrom, levelFormed}
-use Rattle.directory.proofs.Laws.{formed-is, kept-count, pass-start, pass-end-listed}
+use Rattle.directory.specs.Directory.{blockOf, chunkAt, recordsFrom, recordsOf, keptOf, leanLevel, levelFormed}
+use Rattle.directory.proofs.Laws.{tidyChunk, tidyFrom, formed-is, kept-count, pass-start, pass-end-listed}
 use Rattle.form.specs.Form.{levelOf}
 use Rattle.form.proofs.Tests.{test-same, all-append}
 use Rattle.form.proofs.Parts.{wordsFrom, Listed, listed-words}

@@ -19,8 +19,8 @@ use Rattle.words.specs.Form.{blank, topUnusedZero}
 use Rattle.chunks.specs.Chunks.{zerosAt, chunkRecs}
 use Rattle.words.proofs.Each.{each-add}
 use Rattle.words.proofs.Slots.{slots-length, slots-take}
-use Rattle.directory.specs.Directory.{chunkAt, recordsFrom, recordsOf, keptOf, leanLevel, tidyChunk, tidyFrom, levelFormed}
-use Rattle.directory.proofs.Laws.{formed-is}
+use Rattle.directory.specs.Directory.{chunkAt, recordsFrom, recordsOf, keptOf, leanLevel, levelFormed}
+use Rattle.directory.proofs.Laws.{tidyChunk, tidyFrom, formed-is}
 use Rattle.form.specs.Form.{topOf, spareOk, Headed}
 use Rattle.form.proofs.Tests.{test-same, and-swap, all-append, range}
 use Rattle.form.proofs.Parts.{zeros-split}

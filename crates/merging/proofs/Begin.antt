@@ -12,8 +12,8 @@ use Rattle.blocks.specs.declared.Layout.{Layout}
 use Rattle.blocks.specs.Blocks.{emptyBuffer}
 use Rattle.sides.specs.Sides.{blockChunk, chunkOf, lastSize}
 use Rattle.stream.specs.Machine.{Memory}
-use Rattle.merging.specs.Relation.{headSize, Holds, LastIs, start}
-use Rattle.merging.specs.Blocks.{countAt, storedAt, blocks, Flash, layAll, layDone}
+use Rattle.merging.proofs.Relation.{headSize, Holds, LastIs, start}
+use Rattle.merging.proofs.Blocks.{countAt, storedAt, blocks, Flash, layAll, layDone}
 use Rattle.merging.proofs.Heads.{recs-length}
 use Rattle.merging.proofs.Close.{lay-blocks, entries, entries-snoc, empty-is}
 

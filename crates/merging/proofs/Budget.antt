@@ -18,8 +18,8 @@ use Rattle.stream.specs.Machine.{Memory, turn, idle, turns}
 use Rattle.levels.proofs.Basics.{if-either}
 use Rattle.stream.proofs.Laws.{idle-of}
 use Rattle.merging.specs.Contract.{countMarks}
-use Rattle.merging.specs.Relation.{Holds, Core, Budget, start}
-use Rattle.merging.specs.Relation as relation
+use Rattle.merging.proofs.Relation.{Holds, Core, Budget, start}
+use Rattle.merging.proofs.Relation as relation
 use Rattle.merging.proofs.Sim.{head-at, head-no}
 use Rattle.merging.proofs.Run.{sim-turns}
 use Rattle.merging.proofs.Paid.{Paid, upper-paid, lower-paid, both-paid, count-free}

@@ -26,8 +26,8 @@ use Rattle.stream.specs.Machine.{Memory, flushed, writtenAt, withProgress}
 use Rattle.levels.proofs.Basics.{if-either}
 use Rattle.stream.proofs.Laws.{flushed-m, flushed-y}
 use Rattle.joins.specs.Joins.{appended, pulled, leftJoined, afterTaken, afterJoined, restedOut, rested, closed}
-use Rattle.merging.specs.Relation.{Formed, headSize, nextFree, flashOf, Holds, LastIs}
-use Rattle.merging.specs.Blocks.{recsFrom, storedAt, countAt, blocks, Flash, lay, layAll, layDone}
+use Rattle.merging.proofs.Relation.{Formed, headSize, nextFree, flashOf, Holds, LastIs}
+use Rattle.merging.proofs.Blocks.{recsFrom, storedAt, countAt, blocks, Flash, lay, layAll, layDone}
 use Rattle.merging.proofs.Heads.{recs-length}
 use Rattle.merging.proofs.Outs.{Fit, flush-none, flush-some, written-holds}
 use Rattle.merging.proofs.Loads.{append-place, append-buffers}

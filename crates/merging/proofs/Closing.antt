@@ -22,8 +22,8 @@ use Rattle.levels.proofs.Basics.{if-either}
 use Rattle.stream.proofs.Laws.{flushed-m, flushed-y}
 use Rattle.joins.specs.Joins.{Clean, pulled, Lefts, leftJoined, afterTaken, Afters, afterJoined, joinedUp, Closable}
 use Rattle.joins.proofs.Laws.{last-pull, pulled-n, pulled-clean, pulled-y, appended-n}
-use Rattle.merging.specs.Relation.{Holds, Listed, Core, Budget}
-use Rattle.merging.specs.Blocks.{Flash}
+use Rattle.merging.proofs.Relation.{Holds, Listed, Core, Budget}
+use Rattle.merging.proofs.Blocks.{Flash}
 use Rattle.merging.proofs.Outs.{marks-low}
 
 -- what the joins leave of where the merge stands

@@ -17,7 +17,7 @@ use Rattle.blocks.specs.Blocks.{layoutOf}
 use Rattle.blocks.proofs.Laws.{start-place}
 use Rattle.sides.specs.declared.Chunk.{Chunk}
 use Rattle.sides.specs.Sides.{blockChunk, pageChunk, chunkOf}
-use Rattle.merging.specs.Blocks.{recsFrom, blockOf, storedAt, blocks}
+use Rattle.merging.proofs.Blocks.{recsFrom, blockOf, storedAt, blocks}
 use Rattle.merging.specs.Contract.{pageAt, blocksOf, runOf}
 
 halved : (m j : ℕ) → m / 2 ^ j / 2 ≡ m / 2 ^ suc j

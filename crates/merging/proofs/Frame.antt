@@ -21,9 +21,9 @@ use Rattle.stream.specs.declared.Spot.{Spot}
 use Rattle.stream.specs.declared.Progress.{Progress}
 use Rattle.stream.specs.Machine.{Memory, flushed, writtenAt, append, gathered, withProgress, withBuffer}
 use Rattle.levels.proofs.Basics.{if-either}
-use Rattle.merging.specs.Relation.{nextFree, Stands, Listed, SideAt}
+use Rattle.merging.proofs.Relation.{nextFree, Stands, Listed, SideAt}
 use Rattle.sides.specs.declared.Chunk.{Chunk}
-use Rattle.merging.specs.Blocks.{blockOf, storedAt, countAt, blocks, beginWith, side}
+use Rattle.merging.proofs.Blocks.{blockOf, storedAt, countAt, blocks, beginWith, side}
 use Rattle.merging.proofs.Words.{written-other, written-low, written-length, recs-agree}
 
 -- the words of places in use and those before the places are as they were

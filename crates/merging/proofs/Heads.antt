@@ -20,8 +20,8 @@ use Rattle.blocks.specs.declared.Layout.{Layout}
 use Rattle.sides.specs.declared.Chunk.{Chunk}
 use Rattle.sides.specs.declared.Head.{Head}
 use Rattle.sides.specs.Sides.{headAt, follows}
-use Rattle.merging.specs.Relation.{Formed, headSize}
-use Rattle.merging.specs.Blocks.{recsFrom, blockOf, begun}
+use Rattle.merging.proofs.Relation.{Formed, headSize}
+use Rattle.merging.proofs.Blocks.{recsFrom, blockOf, begun}
 
 pub recs-length : (ws : List ℕ) (c : Chunk) (j n : ℕ) → length (recsFrom ws c j n) ≡ n
 unfolding recsFrom

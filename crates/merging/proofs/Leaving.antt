@@ -10,8 +10,8 @@ use Rattle.levels.specs.Record.{Level}
 use Rattle.levels.specs.Place.{Allocation, settle, placesOf}
 use Rattle.blocks.specs.Blocks.{Sized, layoutOf, Marks}
 use Rattle.stream.specs.Machine.{Memory}
-use Rattle.merging.specs.Blocks.{Flash, layAll}
-use Rattle.merging.specs.Relation.{flashOf, start}
+use Rattle.merging.proofs.Blocks.{Flash, layAll}
+use Rattle.merging.proofs.Relation.{flashOf, start}
 use Rattle.merging.specs.Contract.{Leaves}
 use Rattle.merging.proofs.Settle.{NewFit, settle-laid, settle-placed}
 

@@ -14,7 +14,7 @@ use Rattle.joins.specs.Joins.{appended, joined}
 use Rattle.words.specs.Layout.{bit, markWord, pad}
 use Rattle.sides.specs.declared.Chunk.{Chunk}
 use Rattle.sides.specs.Sides.{blockChunk}
-use Rattle.merging.specs.Blocks.{recAt, recsFrom}
+use Rattle.merging.proofs.Blocks.{recAt, recsFrom}
 use Rattle.merging.proofs.Heads.{recs-length}
 use Rattle.merging.proofs.Outs.{buffer-push, bit-eqb}
 

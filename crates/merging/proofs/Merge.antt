@@ -24,9 +24,9 @@ use Rattle.stream.specs.Machine.{Memory, Ready, turns, idle}
 use Rattle.stream.proofs.Laws.{idle-of}
 use Rattle.joins.specs.Joins.{restedOut, joinedUp, closed, Closable}
 use Rattle.merging.specs.declared.Cut.{Cut}
-use Rattle.merging.specs.Blocks.{blockOf, blocks, side, layAll}
-use Rattle.merging.specs.Relation.{Stands, Listed, Holds, Core, Begun, flashOf, start, merged}
-use Rattle.merging.specs.Relation as relation
+use Rattle.merging.proofs.Blocks.{blockOf, blocks, side, layAll}
+use Rattle.merging.proofs.Relation.{Stands, Listed, Holds, Core, Begun, flashOf, start, merged}
+use Rattle.merging.proofs.Relation as relation
 use Rattle.merging.specs.Contract.{blocksOf, runOf, mergeOf, ListedBlock, FullPage, Mergeable, Leaves, inputsOf, beginOf, limitOf}
 use Rattle.merging.proofs.Heads.{recs-length}
 use Rattle.merging.proofs.Moves.{begin-zero, side-cons}

@@ -10,7 +10,7 @@ use Rattle.levels.specs.Merge.{flush, rest}
 use Rattle.blocks.specs.declared.Layout.{Layout}
 use Rattle.sides.specs.declared.Chunk.{Chunk}
 use Rattle.sides.specs.Sides.{chunkOf}
-use Rattle.merging.specs.Blocks.{recsFrom, blockOf, blocks, begun, beginWith, side}
+use Rattle.merging.proofs.Blocks.{recsFrom, blockOf, blocks, begun, beginWith, side}
 use Rattle.merging.proofs.Heads.{recs-drop}
 
 pub begin-zero : (l : Level) → beginWith 0 l ≡ l

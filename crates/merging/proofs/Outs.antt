@@ -23,9 +23,9 @@ use Rattle.blocks.proofs.Laws.{free-low}
 use Rattle.sides.specs.declared.Head.{Head}
 use Rattle.sides.specs.Sides.{lastSize}
 use Rattle.stream.specs.Machine.{Memory, flushed, writtenAt, append, gathered, withProgress, withBuffer}
-use Rattle.merging.specs.Relation.{nextFree, flashOf, Holds}
+use Rattle.merging.proofs.Relation.{nextFree, flashOf, Holds}
 use Rattle.words.specs.Layout.{bit, markWord, pad, keysOf, paysOf}
-use Rattle.merging.specs.Blocks.{Flash, lay, layDone, countAt}
+use Rattle.merging.proofs.Blocks.{Flash, lay, layDone, countAt}
 use Rattle.merging.proofs.Words.{written-count}
 
 pad-push : (n : ℕ) (xs : List ℕ) (v : ℕ) → length xs < n → set (pad n xs) (length xs) v ≡ pad n (xs ++ (v ∷ []))

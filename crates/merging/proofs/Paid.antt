@@ -23,7 +23,7 @@ use Rattle.stream.specs.Machine.{Memory, flushed, writtenAt, gathered, reused, 
 use Rattle.levels.proofs.Basics.{and-left, and-right, if-either}
 use Rattle.stream.proofs.Laws.{after-one}
 use Rattle.merging.specs.Contract.{countMarks}
-use Rattle.merging.specs.Relation.{nextFree}
+use Rattle.merging.proofs.Relation.{nextFree}
 
 bit-high : (t : Bool) → bit t ≤ 1
 bit-high true = omega arith

@@ -13,8 +13,8 @@ use Rattle.stream.specs.declared.Spot.{Spot}
 use Rattle.stream.specs.declared.Inputs.{Inputs}
 use Rattle.stream.specs.Machine.{Memory, Ready, turn, idle, turns}
 use Rattle.stream.proofs.Laws.{idle-ends}
-use Rattle.merging.specs.Relation.{Holds, SideAt, Core, Budget, Sim, Begun, start, first}
-use Rattle.merging.specs.Blocks.{Flash}
+use Rattle.merging.proofs.Relation.{Holds, SideAt, Core, Budget, Sim, Begun, start, first}
+use Rattle.merging.proofs.Blocks.{Flash}
 use Rattle.merging.proofs.Moves.{side-none}
 use Rattle.merging.proofs.Outs.{marks-low}
 use Rattle.merging.proofs.Sim.{Both, sim-step}

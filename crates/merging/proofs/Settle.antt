@@ -19,7 +19,7 @@ use Rattle.words.specs.Layout.{areaOf, writeBlock, writeBlocks}
 use Rattle.blocks.specs.Blocks.{Sized, layoutOf, freeMark, nextMark, Marks, bufferOf, written}
 use Rattle.blocks.proofs.Laws.{free-low}
 use Rattle.blocks.proofs.Written.{written-block}
-use Rattle.merging.specs.Blocks.{Flash, layAt, lay, layAll}
+use Rattle.merging.proofs.Blocks.{Flash, layAt, lay, layAll}
 use Rattle.merging.proofs.Words.{written-length, sized-on}
 
 -- a new block has at most B records

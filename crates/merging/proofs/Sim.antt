@@ -24,8 +24,8 @@ use Rattle.sides.specs.Sides.{blockChunk, chunkOf, headOf, headAt, noHead, last
 use Rattle.stream.specs.Machine.{Memory, flushed, append, gathered, reused, emitted, withProgress, withBuffer, spotAfter, moved, turn, idle}
 use Rattle.levels.proofs.Basics.{and-left, and-right}
 use Rattle.stream.proofs.Laws.{flushed-m, after-one, idle-of}
-use Rattle.merging.specs.Relation.{nextFree, Holds, Stands, SideAt, LastIs, Core, Budget, Sim}
-use Rattle.merging.specs.Blocks.{blockOf, storedAt, countAt, begun, side, Flash}
+use Rattle.merging.proofs.Relation.{nextFree, Holds, Stands, SideAt, LastIs, Core, Budget, Sim}
+use Rattle.merging.proofs.Blocks.{blockOf, storedAt, countAt, begun, side, Flash}
 use Rattle.merging.proofs.Words.{sized-on}
 use Rattle.merging.proofs.Heads.{recs-length, Shows, shows-at, Sees, nothing, block, follows-same}
 use Rattle.merging.proofs.Moves.{side-cons, side-none, rest-more, rest-last}

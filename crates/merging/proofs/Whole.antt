@@ -19,9 +19,9 @@ use Rattle.stream.specs.Machine.{Memory, reused, emitted, movedTo, moved, spotA
 use Rattle.levels.proofs.Basics.{if-either}
 use Rattle.stream.proofs.Laws.{idle-ends}
 use Rattle.joins.specs.Joins.{closed}
-use Rattle.merging.specs.Relation.{Formed, nextFree, flashOf, Stands, Listed, Begun, start}
-use Rattle.merging.specs.Relation as relation
-use Rattle.merging.specs.Blocks.{blocks, layAll}
+use Rattle.merging.proofs.Relation.{Formed, nextFree, flashOf, Stands, Listed, Begun, start}
+use Rattle.merging.proofs.Relation as relation
+use Rattle.merging.proofs.Blocks.{blocks, layAll}
 use Rattle.merging.proofs.Frame.{Same, same-from, flush-kept, gather-kept, stands-kept, blocks-same}
 use Rattle.merging.proofs.Run.{begun-turns}
 use Rattle.merging.proofs.Close.{close-laid}

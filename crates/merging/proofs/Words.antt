@@ -13,7 +13,7 @@ use Rattle.blocks.specs.declared.Buffer.{Buffer}
 use Rattle.blocks.specs.Blocks.{Sized, startOf, written}
 use Rattle.blocks.proofs.Laws.{in-store}
 use Rattle.sides.specs.declared.Chunk.{Chunk}
-use Rattle.merging.specs.Blocks.{recsFrom}
+use Rattle.merging.proofs.Blocks.{recsFrom}
 
 -- a word that is not among those stored
 sets-out : (xs : List ℕ) (a : ℕ) (ys : List ℕ) (k : ℕ) → (a ≤ k → a + length ys ≤ k) → getD (sets xs a ys) k 0 ≡ getD xs k 0

@@ -22,7 +22,7 @@ use Rattle.steps.specs.declared.Tally.{Tally}
 use Rattle.steps.specs.declared.Run.{Run}
 use Rattle.steps.specs.declared.One.{One}
 use Rattle.steps.specs.declared.Two.{Two}
-use Rattle.steps.specs.Running.{storeOf, Listed, Stands, Grown, Leaving, OneLeft, TwoLeft, anew, relisted}
+use Rattle.steps.specs.Running.{storeOf, Listed, Stands, Grown, Leaving, OneLeft, TwoLeft, anew, relisted, relistedTwo}
 use Rattle.steps.proofs.Standing.{stand}
 
 -- level 0 of what stands has room in its words
@@ -43,10 +43,6 @@ listed-at x j i list list' n n' new old = go (eqb j i) refl
     go : (b : Bool) → eqb j i ≡ b → Listed x i (if b then list' else list) (if b then n' else n)
     go true e = subst (λ (a : ℕ). Listed x a list' n') (eqb-true j i e) new
     go false e = old (λ z. eqb-false j i e (sym z))
-
--- the numbers of a run with those of levels j + 1 and j + 2 new
-abbrev pub relistedTwo : Run → ℕ → Two → Run
-relistedTwo r j d = relisted (relisted r j (record { n = d .a; cursor = d .cursor; tally = d .tally })) (suc j) (record { n = d .n; cursor = d .cursor; tally = d .tally })
 
 -- A change of the store t, which stands, to x.
 module _ (g : Geometry) (e t x : Store) (ws one two three : List ℕ) (r : Run) (s : Stands g t ws one two three r) (v : Valid g) (i : Inside g e x) (h : length (x .top) ≤ topCapacityOf g) (blocks : List Block) (f : ℕ → levels.Counts) (ws' : List ℕ) where

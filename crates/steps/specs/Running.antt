@@ -173,6 +173,10 @@ relisted r j d =
       tally = d .tally;
     }
 
+-- and those of levels j + 1 and j + 2
+abbrev pub relistedTwo : Run → ℕ → Two → Run
+relistedTwo r j d = relisted (relisted r j (record { n = d .a; cursor = d .cursor; tally = d .tally })) (suc j) (record { n = d .n; cursor = d .cursor; tally = d .tally })
+
 -- the counts of a merge without its step 5
 abbrev pub mergedCounts : Merge → ℕ → levels.Counts
 mergedCounts m j = record { merges = if eqb (suc (m .level)) j then 1 else 0; written = if eqb (suc (m .level)) j then blocksMerged m else 0; compacted = 0 }

@@ -16,7 +16,7 @@ ghost use Rattle.levels.specs.Store.{Store};
 ghost use Rattle.levels.specs.Call.{compactIfNeeded, afterCompactions, mergeLevel, afterMerge};
 ghost use Rattle.words.specs.Calls.{compactedBlocks};
 ghost use Rattle.blocks.specs.Blocks.{Marks};
-ghost use Rattle.steps.specs.Running.{namedIn, storeOf, Markable, sumOf, counted, Few, Small, Leaving, Running, compactedCounts, wastes, dueOf, OneReady, OneAsked, OneLeft, relisted, mergedCounts, TwoReady, TwoAsked, TwoLeft, PageReady, PageAsked, StepReady, stepCounts};
+ghost use Rattle.steps.specs.Running.{namedIn, storeOf, Markable, sumOf, counted, Few, Small, Leaving, Running, compactedCounts, wastes, dueOf, OneReady, OneAsked, OneLeft, relisted, relistedTwo, mergedCounts, TwoReady, TwoAsked, TwoLeft, PageReady, PageAsked, StepReady, stepCounts};
 use geometry::Geometry;
 use merging::Merged;
 
@@ -187,6 +187,26 @@ fn relist(r: Run, j: usize, d: One) -> Run
     }
 }
 
+// The numbers of levels j + 1 and j + 2 anew.
+fn relist_two(r: Run, j: usize, d: Two) -> Run
+    requires { ⌜ j ≤ 1 ⌝ }
+    ensures { λ u. ⌜ u ≡ relistedTwo r j d ⌝ }
+{
+    let tally = d.tally;
+    let upper = One {
+        n: d.a,
+        cursor: d.cursor,
+        tally: tally,
+    };
+    let lower = One {
+        n: d.n,
+        cursor: d.cursor,
+        tally: tally,
+    };
+    let v = relist(r, j, upper);
+    relist(v, j + 1, lower)
+}
+
 // A level, by its number, needs compacting.
 fn is_due(
     s: &[u32],
@@ -326,24 +346,10 @@ fn merge_level(
     }
     if level == 1 {
         let d = merge_two(s, &mut used, one, two, g, 1, r.n1, r.n2, cursor, tally);
-        let more = d.tally;
-        return Run {
-            n1: d.a,
-            n2: d.n,
-            n3: r.n3,
-            cursor: d.cursor,
-            tally: more,
-        };
+        return relist_two(r, 0, d);
     }
     let d = merge_two(s, &mut used, two, three, g, 2, r.n2, r.n3, cursor, tally);
-    let more = d.tally;
-    Run {
-        n1: r.n1,
-        n2: d.a,
-        n3: d.n,
-        cursor: d.cursor,
-        tally: more,
-    }
+    relist_two(r, 1, d)
 }
 
 // A merge out of a level, and its step 5: that level, if it is a listed one, then the next.

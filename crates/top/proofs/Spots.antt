@@ -17,7 +17,7 @@ use Rattle.levels.proofs.Overlay.{find-below}
 use Rattle.words.proofs.Slots.{blankRec}
 use Rattle.top.specs.declared.Spot.{Spot}
 use Rattle.top.specs.declared.Spot.the-variants.{Found, Gap}
-use Rattle.top.specs.Top.{spotOf, later, isFound}
+use Rattle.top.specs.Top.{spotOf, later}
 
 -- "a key found in level 0 is overwritten there; otherwise .. the record goes in"
 abbrev pub Entered : Rec → List Rec → Spot → Type 0
@@ -68,6 +68,11 @@ spot-gap k low (r ∷ rs) (suc i) h l a b =
     head-below : (i : ℕ) (ss : List Rec) → Rising (suc (r .key)) ss → i ≤ length ss → keyAt (r ∷ ss) i < k → r .key < k
     head-below zero ss h l a = a
     head-below (suc i) ss h l a = let q : keyAt ss i < k = a in omega (arith, rising-at (suc (r .key)) ss i h (omega arith))
+
+-- the key is there
+abbrev pub isFound : Spot → Bool
+isFound (Found i) = true
+isFound (Gap i) = false
 
 -- a key is found where it is there
 pub spot-is : (k low : ℕ) (rs : List Rec) → Rising low rs → isSome (find k rs) ≡ isFound (spotOf k rs)

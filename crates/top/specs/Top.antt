@@ -49,11 +49,6 @@ spotOf k (r ∷ rs) = elim (ltb k (r .key)) [
   | false ↦ elim (eqb k (r .key)) [ true ↦ Found 0 | false ↦ later (spotOf k rs) ]
 ]
 
--- the key is there
-abbrev pub isFound : Spot → Bool
-isFound (Found i) = true
-isFound (Gap i) = false
-
 -- there is room for the record: one is overwritten, or level 0 is not full
 abbrev pub Room : Geometry → List ℕ → Spot → Type 0
 Room g ws (Found i) = Unit {0}

@@ -14,8 +14,8 @@ use Rattle.levels.proofs.Rising.{below-append}
 use Rattle.levels.specs.Rising.{Below}
 use Rattle.levels.proofs.Overlay.{into-below, overlay-nil}
 use Rattle.words.specs.Layout.{word}
-use Rattle.chunks.specs.Peel.{Least, liveBit}
-use Rattle.chunks.proofs.Overlay.{live-cons}
+use Rattle.chunks.specs.Peel.{liveBit}
+use Rattle.chunks.proofs.Overlay.{Least, live-cons}
 use Rattle.directory.specs.declared.Directory.{Directory}
 use Rattle.directory.specs.Directory.{recordsFrom, recordsOf}
 use Rattle.walk.specs.declared.Cursor.{Cursor}

@@ -16,9 +16,9 @@ use Rattle.levels.specs.Map.{overlay, unmarked, firstFrom}
 use Rattle.words.specs.Layout.{word}
 use Rattle.chunks.specs.declared.Chunk.{Chunk}
 use Rattle.chunks.specs.Chunks.{chunkRecs}
-use Rattle.chunks.specs.Peel.{taken, past, orList, liveBit}
+use Rattle.chunks.specs.Peel.{past, liveBit}
 use Rattle.words.proofs.Slots.{slots-length}
-use Rattle.chunks.proofs.Overlay.{overlay-cut, live-cons, next-here, next-past, four-live-high}
+use Rattle.chunks.proofs.Overlay.{taken, orList, overlay-cut, live-cons, next-here, next-past, four-live-high}
 use Rattle.directory.specs.declared.Directory.{Directory}
 use Rattle.directory.specs.Directory.{Formed, recordsFrom, recordsOf, chunkAt}
 use Rattle.walk.specs.declared.Cursor.{Cursor}

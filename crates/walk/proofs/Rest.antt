@@ -11,9 +11,9 @@ use lib.ListN.{length}
 use Rattle.levels.specs.Record.{Rec}
 use Rattle.words.specs.Layout.{word, slotsAt}
 use Rattle.chunks.specs.declared.Chunk.{Chunk}
-use Rattle.chunks.specs.Peel.{taken, past, Least}
+use Rattle.chunks.specs.Peel.{past}
 use Rattle.chunks.proofs.Slots.{slots-first}
-use Rattle.chunks.proofs.Overlay.{taken-nil, past-nil, taken-here, taken-not, past-here, past-not}
+use Rattle.chunks.proofs.Overlay.{taken, Least, taken-nil, past-nil, taken-here, taken-not, past-here, past-not}
 use Rattle.directory.specs.declared.Directory.{Directory}
 use Rattle.directory.specs.Directory.{Formed, recordsFrom, chunkAt}
 use Rattle.directory.proofs.Laws.{chunk-room}

@@ -38,7 +38,11 @@ use Rattle.top.proofs.Spots.{spot-is}
 use Rattle.top.proofs.Laws.{with-top-words, top-count-back, top-back, words-ready, top-rises, set-live}
 use Rattle.steps.specs.declared.Tally.{Tally}
 use Rattle.cascade.specs.Cascade.{FullStore, MergedAll}
-use Rattle.writer.specs.Change.{hasRoom, roomAt, withEntered, Counted, Entered}
+use Rattle.writer.specs.Change.{roomAt, withEntered, Counted, Entered}
+
+-- level 0 need not be merged, by the key instead of its spot
+unfoldable pub hasRoom : Geometry → List ℕ → ℕ → Bool
+hasRoom g ws k = isSome (find k (topRecs g ws)) || ltb (topCountAt ws) (topCapacityOf g)
 
 -- all that is known of a store that passes
 pub holds : (ws : List ℕ) (g : Geometry) → checkedOf ws ≡ Ready g → Passed g ws

@@ -1,15 +1,13 @@
 -- Put and delete: what their parts do.
 use Prim.Native.Nat.{ℕ}
 use mathlib.Core.Path.{_≡_}
-use mathlib.Core.Bool.{Bool, true, false, not, _||_}
+use mathlib.Core.Bool.{Bool, true, false, not}
 use mathlib.Core.List.{List}
 use lib.Dec.{ltb}
 use lib.ListN.{set}
 use Rattle.geometry.specs.declared.Geometry.{Geometry}
 use Rattle.geometry.specs.Geometry.{topCapacityOf}
-use Rattle.levels.specs.Basics.{isSome}
 use Rattle.levels.specs.Record.{Rec}
-use Rattle.levels.specs.Map.{find}
 use Rattle.levels.specs.Call.{Merge, afterMerges}
 use Rattle.levels.specs.Put.{insert, mergesFor, withRecord}
 use Rattle.levels.specs.Count.{countsOf}
@@ -28,11 +26,8 @@ abbrev pub liveFound : Found → Bool
 liveFound found.Absent = false
 liveFound (found.Here m v) = not m
 
--- "a key found in level 0 is overwritten there; otherwise, if c = K(0)×B, level 0 is merged first": it need not be
-unfoldable pub hasRoom : Geometry → List ℕ → ℕ → Bool
-hasRoom g ws k = isSome (find k (topRecs g ws)) || ltb (topCountAt ws) (topCapacityOf g)
-
--- the same, of the spot where the key stands in level 0
+-- "a key found in level 0 is overwritten there; otherwise, if c = K(0)×B, level 0 is merged first": it need not be, where
+-- its key stands at this spot of level 0
 unfoldable pub roomAt : Geometry → List ℕ → Spot → Bool
 roomAt g ws (spot.Found i) = true
 roomAt g ws (spot.Gap i) = ltb (topCountAt ws) (topCapacityOf g)

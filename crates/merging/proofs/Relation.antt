@@ -14,7 +14,7 @@ use Rattle.stream.specs.declared.Spot.{Spot}
 use Rattle.stream.specs.declared.Inputs.{Inputs}
 use Rattle.sides.specs.Sides.{chunkOf, lastSize}
 use Rattle.stream.specs.Machine.{Memory, turns}
-use Rattle.merging.specs.Blocks.{storedAt, blocks, side, Flash, layDone}
+use Rattle.merging.proofs.Blocks.{storedAt, blocks, side, Flash, layDone}
 
 -- a chunk of 1 to B records, with no bits but theirs in its mark word
 pub record Formed (z : Layout) (ws : List ℕ) (c : Chunk) : Type 0 where
