@@ -11,6 +11,7 @@ use Rattle.geometry.specs.declared.Geometry.{Geometry}
 use Rattle.geometry.specs.Geometry.{placesStart, blockWidth}
 use Rattle.levels.specs.Record.{Rec}
 use Rattle.words.specs.Layout.{pad, keysOf, paysOf, markWord, blockWords, writeBlock}
+use Rattle.levels.proofs.Lists.{take-replicate}
 use Rattle.words.proofs.Parts.{pad-length}
 use Rattle.blocks.specs.declared.Layout.{Layout}
 use Rattle.blocks.specs.declared.Buffer.{Buffer}
@@ -36,12 +37,8 @@ written-is z xs q buf k v h =
 take-pad : (b : ℕ) (xs : List ℕ) → length xs ≤ b → b ≤ 16 → take b (pad 16 xs) ≡ pad b xs
 take-pad b xs h l =
     let e : b ≡ length xs + (b - length xs) = omega arith in
-    ap (λ (n : ℕ). take n (pad 16 xs)) e ∙ take-append-add xs (replicate (16 - length xs) 0) (b - length xs) ∙ ap (λ (ys : List ℕ). xs ++ ys) (few (b - length xs) (16 - length xs) (omega arith))
-  where
-    few : (n m : ℕ) → n ≤ m → take {A = ℕ} n (replicate m 0) ≡ replicate n 0
-    few zero m h = refl
-    few (suc n) zero h = absurd (omega arith)
-    few (suc n) (suc m) h = ap (λ (ys : List ℕ). 0 ∷ ys) (few n m (omega arith))
+    let f : 16 - length xs ≡ b - length xs + (16 - b) = omega arith in
+    ap (λ (n : ℕ). take n (pad 16 xs)) e ∙ take-append-add xs (replicate (16 - length xs) 0) (b - length xs) ∙ ap (λ (ys : List ℕ). xs ++ ys) (ap (λ (m : ℕ). take (b - length xs) (replicate m 0)) f ∙ take-replicate (b - length xs) (16 - b) 0)
 
 -- a buffer that holds rs writes a block of rs
 pub written-block : (g : Geometry) (xs : List ℕ) (q : ℕ) (rs : List Rec) → Sized (layoutOf g) xs → q < g .p → length rs ≤ g .b → written (layoutOf g) xs q (bufferOf rs) ≡ withBlock g xs q rs

@@ -14,6 +14,7 @@ use Rattle.geometry.specs.Geometry.{within, listStart, placeStart, blockWidth}
 use Rattle.levels.specs.Basics.{all, ceilDiv}
 use Rattle.levels.specs.Record.{Rec, Block, Level, size, records, rising, hasTombstone, cleanTombstones}
 use Rattle.levels.specs.Waste.{pairRule, wasteful, needsCompact}
+use Rattle.levels.proofs.Every.{all-joined}
 use Rattle.words.specs.Layout.{word, slotsAt, countAt, listedAt, recordCount, markWordAt, blockSlots, blockAt, levelAt}
 use Rattle.words.specs.Form.{blank}
 use Rattle.chunks.specs.declared.Chunk.{Chunk}
@@ -27,7 +28,7 @@ use Rattle.words.proofs.Lists.{level-length}
 use Rattle.directory.specs.Directory.{blockOf, chunkAt, recordsFrom, recordsOf, keptOf, leanLevel, levelFormed}
 use Rattle.directory.proofs.Laws.{tidyChunk, tidyFrom, formed-is, kept-count, pass-start, pass-end-listed}
 use Rattle.form.specs.Form.{levelOf}
-use Rattle.form.proofs.Tests.{test-same, all-append}
+use Rattle.form.proofs.Tests.{test-same}
 use Rattle.form.proofs.Parts.{wordsFrom, Listed, listed-words}
 use Rattle.form.proofs.Unused.{unused-is, unmarked-is}
 
@@ -169,7 +170,7 @@ module _ (g : Geometry) (ws : List ℕ) where
           block-size g ws p f,
           block-recs p f,
           has-append rs ss,
-          all-append (λ (r : Rec). not (r .tombstone) || eqb (r .pay) 0) rs ss,
+          all-joined (λ (r : Rec). not (r .tombstone) || eqb (r .pay) 0) rs ss,
         )
         (go
         (eqb i (g .h)) (ltb (g .b) (before + recordCount g ws p)) (hasTombstone rs) (blockUnused g ws p) (cleanTombstones rs)

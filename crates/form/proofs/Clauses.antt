@@ -15,6 +15,7 @@ use Rattle.levels.specs.Map.{find, overlay, view, unmarked, mapOf, liveCount, d
 use Rattle.levels.specs.Store.{rows}
 use Rattle.levels.proofs.Basics.{or-none}
 use Rattle.levels.proofs.Overlay.{overlay-nil}
+use Rattle.levels.proofs.Every.{all-joined}
 use Rattle.words.proofs.Each.{each-add, map-each, all-each}
 use Rattle.words.proofs.Form.{clauses-formed, formed-clauses}
 use Rattle.words.specs.Layout.{liveAt, topRecs, recordCount, levelAt, each, storeAt}
@@ -24,7 +25,7 @@ use Rattle.directory.specs.Directory.{Formed, recordsOf, levelFormed}
 use Rattle.directory.proofs.Laws.{formed-all}
 use Rattle.walk.specs.Walk.{four, layered}
 use Rattle.form.specs.Form.{topOf, levelOf, headerOk, listsOk, spareOk, passed, Headed}
-use Rattle.form.proofs.Tests.{test-same, range, all-append, all-and, all-same, all-at, all-true, all-three}
+use Rattle.form.proofs.Tests.{test-same, range, all-and, all-same, all-at, all-true, all-three}
 use Rattle.form.proofs.Parts.{listed-each}
 use Rattle.form.proofs.Sizes.{header-tests, count-none, lists-in, lists-is, within-top, within-level}
 use Rattle.form.proofs.Top.{top-recs, top-unused, top-formed}
@@ -64,7 +65,7 @@ unmarked-each g ws h =
     let l : 1 + n ≡ g .h = omega arith in
     let above : all (unmarkedAt g ws) (range 1 n) ≡ true = all-true (unmarkedAt g ws) 1 n (λ j a b. rw (ne-eqb j (g .h) (λ q. omega arith))) in
     sym (ap (λ (m : ℕ). all (unmarkedAt g ws) (range 1 m)) (sym e)
-    ∙ rw (each-add (λ (j : ℕ). j) 1 n 1, all-append (unmarkedAt g ws) (range 1 n) (range (1 + n) 1), above, l, eq-eqb (g .h) (g .h) refl, and-true (not (hasTombstone (records (levelAt g ws (g .h)))))))
+    ∙ rw (each-add (λ (j : ℕ). j) 1 n 1, all-joined (unmarkedAt g ws) (range 1 n) (range (1 + n) 1), above, l, eq-eqb (g .h) (g .h) refl, and-true (not (hasTombstone (records (levelAt g ws (g .h)))))))
 
 -- empty levels below the others change nothing
 view-empties : (ls : List (List Rec)) (n : ℕ) → view (ls ++ replicate n []) ≡ view ls

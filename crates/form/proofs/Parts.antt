@@ -9,11 +9,12 @@ use lib.Seq.{take-at, drop-at}
 use Rattle.geometry.specs.declared.Geometry.{Geometry}
 use Rattle.geometry.specs.Geometry.{capacityOf, listStart}
 use Rattle.levels.specs.Basics.{all}
+use Rattle.levels.proofs.Every.{all-joined}
 use Rattle.words.specs.Layout.{word, each, countAt, listAt, listedAt}
 use Rattle.words.specs.Form.{isZero, listedPlaces}
 use Rattle.words.proofs.Each.{length-each, each-add, each-part}
 use Rattle.chunks.specs.Chunks.{zerosAt}
-use Rattle.form.proofs.Tests.{all-append, range}
+use Rattle.form.proofs.Tests.{range}
 
 -- n words from word i on
 abbrev pub wordsFrom : List ℕ → ℕ → ℕ → List ℕ
@@ -26,7 +27,7 @@ words-zero ws i zero = refl
 words-zero ws i (suc n) = rw (words-zero ws (suc i) n)
 
 pub zeros-split : (ws : List ℕ) (i m n : ℕ) → zerosAt ws i (m + n) ≡ (zerosAt ws i m && zerosAt ws (i + m) n)
-zeros-split ws i m n = sym (words-zero ws i (m + n)) ∙ rw (each-add (word ws) i m n, all-append isZero (wordsFrom ws i m) (wordsFrom ws (i + m) n), words-zero ws i m, words-zero ws (i + m) n)
+zeros-split ws i m n = sym (words-zero ws i (m + n)) ∙ rw (each-add (word ws) i m n, all-joined isZero (wordsFrom ws i m) (wordsFrom ws (i + m) n), words-zero ws i m, words-zero ws (i + m) n)
 
 -- the list of level i lies within the words, and the level lists no more places than it may
 pub record Listed (g : Geometry) (ws : List ℕ) (i : ℕ) : Type 0 where
@@ -53,4 +54,4 @@ module _ (g : Geometry) (ws : List ℕ) (i : ℕ) (l : Listed g ws i) where
 pub listed-each : (t : ℕ → Bool) (g : Geometry) (ws : List ℕ) (i n : ℕ) → all t (listedPlaces g ws i n) ≡ all (λ (j : ℕ). all t (listedAt g ws j)) (range i n)
 unfolding listedPlaces
 listed-each t g ws i zero = refl
-listed-each t g ws i (suc n) = rw (all-append t (listedAt g ws i) (listedPlaces g ws (suc i) n), listed-each t g ws (suc i) n)
+listed-each t g ws i (suc n) = rw (all-joined t (listedAt g ws i) (listedPlaces g ws (suc i) n), listed-each t g ws (suc i) n)

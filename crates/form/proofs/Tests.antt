@@ -1,8 +1,8 @@
 -- Laws of tests: of two that hold together, of `all`, and of a test of every number of a range.
 use Prim.Native.Nat.{ℕ, zero, suc, _+_, _-_, _≤_, _<_}
 use mathlib.Core.Path.{_≡_, sym, ap, _∙_, refl}
-use mathlib.Core.Bool.{Bool, true, false, _&&_, and-assoc, and-true}
-use mathlib.Core.List.{List, [], _∷_, _++_}
+use mathlib.Core.Bool.{Bool, true, false, _&&_, and-true}
+use mathlib.Core.List.{List, [], _∷_}
 use native.Mathlib.Omega.{arith}
 use Rattle.levels.specs.Basics.{all}
 use Rattle.words.specs.Layout.{each}
@@ -24,10 +24,6 @@ and-swap true true c d = sym (go c)
 and-swap true false true d = refl
 and-swap true false false d = refl
 and-swap false b c d = refl
-
-pub all-append : {A : Type 0} (t : A → Bool) (xs ys : List A) → all t (xs ++ ys) ≡ (all t xs && all t ys)
-all-append t [] ys = refl
-all-append t (x ∷ xs) ys = rw (all-append t xs ys) (sym (and-assoc (t x) (all t xs) (all t ys)))
 
 -- two tests of each are the one of each and the other of each
 pub all-and : {A : Type 0} (t u : A → Bool) (xs : List A) → all (λ (x : A). t x && u x) xs ≡ (all t xs && all u xs)

@@ -14,6 +14,7 @@ use Rattle.geometry.specs.declared.Geometry.{Geometry}
 use Rattle.geometry.specs.Geometry.{capacityOf, marksStart, keysStart, paysStart}
 use Rattle.levels.specs.Basics.{if_then_else_, all}
 use Rattle.levels.specs.Record.{Rec, rising, cleanTombstones}
+use Rattle.levels.proofs.Every.{all-joined}
 use Rattle.words.specs.Layout.{word, slotsAt, pageSlots, topSlots, topRecs, topCountAt}
 use Rattle.words.specs.Form.{blank, topUnusedZero}
 use Rattle.chunks.specs.Chunks.{zerosAt, chunkRecs}
@@ -22,7 +23,7 @@ use Rattle.words.proofs.Slots.{slots-length, slots-take}
 use Rattle.directory.specs.Directory.{chunkAt, recordsFrom, recordsOf, keptOf, leanLevel, levelFormed}
 use Rattle.directory.proofs.Laws.{tidyChunk, tidyFrom, formed-is}
 use Rattle.form.specs.Form.{topOf, spareOk, Headed}
-use Rattle.form.proofs.Tests.{test-same, and-swap, all-append, range}
+use Rattle.form.proofs.Tests.{test-same, and-swap, range}
 use Rattle.form.proofs.Parts.{zeros-split}
 use Rattle.form.proofs.Unused.{unused-is}
 use Rattle.form.proofs.Sizes.{top-paged}
@@ -114,7 +115,7 @@ module _ (g : Geometry) (ws : List ℕ) where
         slots-length ws m k v (g .b),
         drop-least ws m k v r (g .b),
         page-left i,
-        all-append blank (drop (pageCount g ws i) (pageAt g ws i (g .b))) (drop (topCountAt ws - suc i * g .b) (pageSlots g ws (suc i) n)),
+        all-joined blank (drop (pageCount g ws i) (pageAt g ws i (g .b))) (drop (topCountAt ws - suc i * g .b) (pageSlots g ws (suc i) n)),
         and-swap (all blank (drop (pageCount g ws i) (pageAt g ws i (g .b)))) (all blank (drop (topCountAt ws - suc i * g .b) (pageSlots g ws (suc i) n))) (ltb m (2 ^ g .b)) (all (λ (j : ℕ). ltb (word ws (marksStart g + j)) (2 ^ g .b)) (range (suc i) n)),
         unused-is ws m k v (pageCount g ws i) (g .b) (count-high r (g .b)),
         pages-unused (suc i) n,
@@ -188,7 +189,7 @@ module _ (g : Geometry) (ws : List ℕ) where
         page-tidy i before b (omega arith),
         pages-tidy (suc i) n (chunkAt ws (topOf g ws) i .count) b (omega arith),
         page-chunk i,
-        all-append (λ (r : Rec). not (r .tombstone) || eqb (r .pay) 0) (pageAt g ws i (pageCount g ws i)) (recordsFrom ws (topOf g ws) (suc i) n),
+        all-joined (λ (r : Rec). not (r .tombstone) || eqb (r .pay) 0) (pageAt g ws i (pageCount g ws i)) (recordsFrom ws (topOf g ws) (suc i) n),
       )
       (and-swap (pageUnused g ws i) (cleanTombstones (pageAt g ws i (pageCount g ws i))) (all (pageUnused g ws) (range (suc i) n)) (cleanTombstones (recordsFrom ws (topOf g ws) (suc i) n)))
 
@@ -218,7 +219,7 @@ module _ (g : Geometry) (ws : List ℕ) (z : Headed g ws) where
       let o : 0 + n ≡ n = omega arith in
       rw e at (pages-unused g ws 0 (capacityOf g 0))
       ∙ ap (λ (m : ℕ). all (pageUnused g ws) (range 0 m)) k
-      ∙ rw (each-add (λ (j : ℕ). j) 0 n (capacityOf g 0 - n), all-append (pageUnused g ws) (range 0 n) (range (0 + n) (capacityOf g 0 - n)), o, spare-pages g ws n (capacityOf g 0 - n) b (p .enough))
+      ∙ rw (each-add (λ (j : ℕ). j) 0 n (capacityOf g 0 - n), all-joined (pageUnused g ws) (range 0 n) (range (0 + n) (capacityOf g 0 - n)), o, spare-pages g ws n (capacityOf g 0 - n) b (p .enough))
 
   -- the code's pass over level 0
   pub top-formed : levelFormed ws (topOf g ws) ≡ ((all (pageUnused g ws) (range 0 (topOf g ws .chunks)) && cleanTombstones (topRecs g ws)) && rising 0 (topRecs g ws))

@@ -29,8 +29,7 @@ use Rattle.levels.proofs.Levels.{sized-most, test-pairs, pairs-test}
 use Rattle.levels.proofs.Places.{total-inside, takes-inside}
 use Rattle.levels.proofs.Stays.{all-placed}
 use Rattle.levels.proofs.Fits.{Within}
-use Rattle.levels.proofs.Laid.{all-append, all-left, all-right}
-use Rattle.levels.proofs.Every.{every-split, every-append}
+use Rattle.levels.proofs.Every.{every-split, every-append, all-append, all-left, all-right}
 use Rattle.levels.proofs.StoreRows.{row-blocks}
 
 -- what is said of every block of all levels is said of each level's

@@ -140,24 +140,7 @@ kept-all p true (r ∷ rs) h = go (r .tombstone) refl (kept-all p true rs (and-r
     go true e i = rw (unmarked-drop r rs e) i
     go false e i = rw (unmarked-keep r rs e) (and-both (p r) _ (and-left (p r) _ h) i)
 
--- of all records of two lists end to end, and of each list
-pub all-append : {A : Type 0} (p : A → Bool) (xs ys : List A) → all p xs ≡ true → all p ys ≡ true → all p (xs ++ ys) ≡ true
-all-append p [] ys a b = b
-all-append p (x ∷ xs) ys a b = and-both (p x) _ (and-left (p x) _ a) (all-append p xs ys (and-right (p x) _ a) b)
-
-pub all-left : {A : Type 0} (p : A → Bool) (xs ys : List A) → all p (xs ++ ys) ≡ true → all p xs ≡ true
-all-left p [] ys h = refl
-all-left p (x ∷ xs) ys h = and-both (p x) _ (and-left (p x) _ h) (all-left p xs ys (and-right (p x) _ h))
-
-pub all-right : {A : Type 0} (p : A → Bool) (xs ys : List A) → all p (xs ++ ys) ≡ true → all p ys ≡ true
-all-right p [] ys h = h
-all-right p (x ∷ xs) ys h = all-right p xs ys (and-right (p x) _ h)
-
 -- tombstones of two lists end to end
 pub has-append : (xs ys : List Rec) → hasTombstone (xs ++ ys) ≡ (hasTombstone xs || hasTombstone ys)
 has-append [] ys = refl
-has-append (x ∷ xs) ys = ap (λ (t : Bool). x .tombstone || t) (has-append xs ys) ∙ go (x .tombstone)
-  where
-    go : (t : Bool) → (t || (hasTombstone xs || hasTombstone ys)) ≡ ((t || hasTombstone xs) || hasTombstone ys)
-    go true = refl
-    go false = refl
+has-append (x ∷ xs) ys = ap (λ (t : Bool). x .tombstone || t) (has-append xs ys) ∙ sym (mathlib.Core.Bool.or-assoc (x .tombstone) (hasTombstone xs) (hasTombstone ys))

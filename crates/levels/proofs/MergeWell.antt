@@ -72,6 +72,18 @@ rest-sized B (b ∷ bs) s = go (b .recs) (s .1)
     go (r ∷ []) h = s .2
     go (r ∷ t ∷ rs) h = (omega arith, omega arith, s .2)
 
+-- X and Y turned round
+abbrev pub turned : State → State
+turned s = record { upper = s .lower; lower = s .upper; out = s .out }
+
+-- what a step that reads X gives, and X and Y turned round keep, a step that reads Y gives too
+pub lower-step : (P : State → Type 0) → ((s : State) → P s → P (turned s)) → (B : ℕ) (bottom : Bool) (y : Block) (ys u : Level) (o : Out) → P (fromUpper B bottom y ys u o) → P (fromLower B bottom y ys u o)
+lower-step P turn B bottom y ys u o = go (reusable B bottom o u y) (record { upper = ys; lower = u; out = reuse y o }) (record { upper = rest (y ∷ ys); lower = u; out = gather B bottom (headRec y) o })
+  where
+    go : (t : Bool) (a b : State) → P (if t then a else b) → P (if t then turned a else turned b)
+    go true a b p = turn a p
+    go false a b p = turn b p
+
 -- what a step keeps
 pub record Keeps (B : ℕ) (s : State) : Type 0 where
   pub sizedU : Sized B (s .upper)
@@ -87,11 +99,7 @@ module _ (B : ℕ) (bottom : Bool) (o : Out) (g : Good B o) where
       go false e = record { sizedU = rest-sized B (x ∷ xs) su; sizedL = sl; good = gather-good B bottom (headRec x) o g }
 
   lower-keeps : (y : Block) (ys u : Level) → Sized B u → Sized B (y ∷ ys) → Keeps B (fromLower B bottom y ys u o)
-  lower-keeps y ys u su sl = go (reusable B bottom o u y) refl
-    where
-      go : (t : Bool) → reusable B bottom o u y ≡ t → Keeps B (if t then record { upper = u; lower = ys; out = reuse y o } else record { upper = u; lower = rest (y ∷ ys); out = gather B bottom (headRec y) o })
-      go true e = record { sizedU = su; sizedL = sl .2; good = reuse-good B y o (sl .0) (sl .1) (reusable-says B bottom o u y e .3) g }
-      go false e = record { sizedU = su; sizedL = rest-sized B (y ∷ ys) sl; good = gather-good B bottom (headRec y) o g }
+  lower-keeps y ys u su sl = lower-step (Keeps B) (λ s k. record { sizedU = k .sizedL; sizedL = k .sizedU; good = k .good }) B bottom y ys u o (upper-keeps y ys u sl su)
 
   both-keeps : (x : Block) (xs : Level) (l : Level) → Sized B (x ∷ xs) → Sized B l → Keeps B (fromBoth B bottom x xs l o)
   both-keeps x xs l su sl = record { sizedU = rest-sized B (x ∷ xs) su; sizedL = rest-sized B l sl; good = gather-good B bottom (headRec x) o g }

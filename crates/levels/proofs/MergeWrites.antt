@@ -20,7 +20,7 @@ use Rattle.levels.proofs.Lists.{length-snoc}
 use Rattle.levels.proofs.Levels.{well-nil}
 use Rattle.levels.proofs.Fresh.{weight, weights, olds, count-all, reverse-fresh, reverse-weights}
 use Rattle.levels.proofs.MergeRecords.{reusable-says}
-use Rattle.levels.proofs.MergeWell.{Keeps, step-keeps, reverse-before}
+use Rattle.levels.proofs.MergeWell.{lower-step, Keeps, step-keeps, reverse-before}
 
 -- what an input block can still pay: B as long as it has a place, else its records
 abbrev pub cap : ℕ → Block → ℕ
@@ -125,16 +125,9 @@ module _ (f : ℕ → ℕ) (B M Q : ℕ) (bottom : Bool) (o : Out) (p : 1 ≤ B)
 
   lower-paid : (y : Block) (ys u : Level) → Sized B (y ∷ ys) → B * fresh (o .done) + length (o .buffer) + caps B u + caps B (y ∷ ys) ≤ B * M
       → weights f (o .done) + weights f u + weights f (y ∷ ys) ≤ Q → Paid f B M Q (fromLower B bottom y ys u o)
-  lower-paid y ys u sl h k = go (reusable B bottom o u y) refl
-    where
-      go : (t : Bool) → reusable B bottom o u y ≡ t → Paid f B M Q (if t then record { upper = u; lower = ys; out = reuse y o } else record { upper = u; lower = rest (y ∷ ys); out = gather B bottom (headRec y) o })
-      go true e =
-          let q = reusable-says B bottom o u y e .1 in
-          let r = reuse-paid f B y o p q in
-          record { pot = omega (arith, r .cost); spare = λ z. reused-spare y (caps B ys + caps B u) q (omega arith); stay = omega (arith, r .same) }
-      go false e =
-          let r = gather-paid f B M bottom (headRec y) o room sp in
-          record { pot = omega (arith, r .cost, rest-caps B y ys (sl .0) (sl .1)); spare = r .spare; stay = omega (arith, r .same, rest-weights f (y ∷ ys)) }
+  lower-paid y ys u sl h k =
+      lower-step (Paid f B M Q) (λ s q. record { pot = omega (arith, q .pot); spare = q .spare; stay = omega (arith, q .stay) }) B bottom y ys u o
+      (upper-paid y ys u sl (omega (arith, h)) (omega (arith, k)))
 
   both-paid : (x : Block) (xs l : Level) → Sized B (x ∷ xs) → Sized B l → B * fresh (o .done) + length (o .buffer) + caps B (x ∷ xs) + caps B l ≤ B * M
       → weights f (o .done) + weights f (x ∷ xs) + weights f l ≤ Q → Paid f B M Q (fromBoth B bottom x xs l o)

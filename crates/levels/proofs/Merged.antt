@@ -24,7 +24,8 @@ use Rattle.levels.proofs.Fresh.{weights, fresh-append, weights-append, 
 use Rattle.levels.proofs.MergeRecords.{kept, merge-records, close-records}
 use Rattle.levels.proofs.MergeWell.{merge-well, close-well}
 use Rattle.levels.proofs.MergeWrites.{merge-writes, merge-places, merge-length, close-writes, close-places, close-length}
-use Rattle.levels.proofs.Laid.{laid-rising, kept-rising-in, present-kept, find-laid, find-moved, overlay-length, kept-length, overlay-all, kept-all, all-append, all-left, all-right, has-append}
+use Rattle.levels.proofs.Every.{all-append, all-left, all-right}
+use Rattle.levels.proofs.Laid.{laid-rising, kept-rising-in, present-kept, find-laid, find-moved, overlay-length, kept-length, overlay-all, kept-all, has-append}
 
 -- what a cut leaves of level i (step 2), and level i + 1 after steps 3 and 4
 abbrev pub upperOf : ℕ → ℕ → Cut → Level

@@ -19,9 +19,9 @@ use Rattle.chunks.proofs.Overlay.{Least, live-cons}
 use Rattle.directory.specs.declared.Directory.{Directory}
 use Rattle.directory.specs.Directory.{recordsFrom, recordsOf}
 use Rattle.walk.specs.declared.Cursor.{Cursor}
-use Rattle.walk.specs.Walk.{rest, Good, Skims, four, layered, Smaller}
+use Rattle.walk.specs.Walk.{rest, Good, Skims, four, layered, Smaller, LeastOf}
 use Rattle.walk.proofs.Rest.{headOf, more, rest-alive, alive-of, least-of, more-chunk, more-last, step-chunk}
-use Rattle.walk.proofs.Four.{Abreast, rests}
+use Rattle.walk.proofs.Four.{Abreast, rests, least-row}
 
 -- records below the first key of the upper list stand before the overlay
 overlay-before : (b : ℕ) (us xs ys : List Rec) → Least b us → Below b xs → overlay us (xs ++ ys) ≡ xs ++ overlay us ys
@@ -84,27 +84,42 @@ module _ (ws : List ℕ) (d : Directory) (c : Cursor) (bound : ℕ) (after : Cur
     skims-last e n g q = skims-on e g (q ∙ sym (more-last ws d after n))
 
   -- no more records are left than before
-  pub skims-length : length (rest ws d after) ≤ length (rest ws d c)
+  skims-length : length (rest ws d after) ≤ length (rest ws d c)
   skims-length = rw (k .joined) (let e = length-append (k .between) (rest ws d after) in omega arith)
 
 -- a cursor's key is a key, or the first number above
 key-high : (ws : List ℕ) (d : Directory) (c : Cursor) → Good ws d c → c .key ≤ 4294967296
 key-high ws d c g = dite (decLt 0 (c .chunk .count)) (λ y. omega (arith, g .alive y .1)) (λ n. omega (arith, g .ended (omega arith) .0))
 
--- four cursors, the last of which skims up to the least key of the others
+-- Four cursors, the last of which has skimmed from c3 on up to y, the least key of the others: n of t live keys are counted.
+pub record Skimmed (ws : List ℕ) (d0 d1 d2 d3 : Directory) (c0 c1 c2 c3 e : Cursor) (y n t : ℕ) : Type 0 where
+  pub abreast : Abreast ws d0 d1 d2 d3 c0 c1 c2 e
+  pub counted : n + length (unmarked (rests ws d0 d1 d2 d3 c0 c1 c2 e)) ≡ t
+  pub shorter : length (rest ws d3 e) ≤ length (rest ws d3 c3)
+  pub least : (r : ℕ) → Smaller y (e .key) r → LeastOf (c0 .key) (c1 .key) (c2 .key) (e .key) r
+
 module _ (ws : List ℕ) (d0 d1 d2 d3 : Directory) (c0 c1 c2 c3 : Cursor) (g : Abreast ws d0 d1 d2 d3 c0 c1 c2 c3) (x y : ℕ) (p : Smaller (c0 .key) (c1 .key) x) (q : Smaller x (c2 .key) y) where
   pub bound-high : y ≤ 4294967296
   bound-high = omega (arith, q .low1, key-high ws d2 c2 (g .good2))
 
   module _ (e : Cursor) (live : ℕ) (k : Skims ws d3 c3 y e live) where
-    pub skimmed : Abreast ws d0 d1 d2 d3 c0 c1 c2 e
+    skimmed : Abreast ws d0 d1 d2 d3 c0 c1 c2 e
     skimmed = record { good0 = g .good0; good1 = g .good1; good2 = g .good2; good3 = k .good }
 
-    pub skimmed-live : length (unmarked (rests ws d0 d1 d2 d3 c0 c1 c2 c3)) ≡ live + length (unmarked (rests ws d0 d1 d2 d3 c0 c1 c2 e))
+    skimmed-live : length (unmarked (rests ws d0 d1 d2 d3 c0 c1 c2 c3)) ≡ live + length (unmarked (rests ws d0 d1 d2 d3 c0 c1 c2 e))
     skimmed-live =
         rw (k .joined, k .counted)
         (four-before y (rest ws d0 c0) (rest ws d1 c1) (rest ws d2 c2) (k .between) (rest ws d3 e)
         (least-of ws d0 c0 (g .good0) y (omega (arith, p .low0, q .low0))) (least-of ws d1 c1 (g .good1) y (omega (arith, p .low1, q .low0))) (least-of ws d2 c2 (g .good2) y (q .low1)) (k .below))
+
+    pub skimmed-all : (n t : ℕ) → n + length (unmarked (rests ws d0 d1 d2 d3 c0 c1 c2 c3)) ≡ t → Skimmed ws d0 d1 d2 d3 c0 c1 c2 c3 e y (n + live) t
+    skimmed-all n t h =
+        record {
+          abreast = skimmed;
+          counted = omega (arith, skimmed-live);
+          shorter = skims-length ws d3 c3 y e live k;
+          least = λ r s. least-row (c0 .key) (c1 .key) (c2 .key) (e .key) x y r p q s;
+        }
 
 -- an empty list changes nothing, first or last
 four-around : (a b c d : List Rec) → d ≡ [] → four a b c d ≡ four d a b c

@@ -11,7 +11,7 @@ use Rattle.geometry.specs.Geometry.{Valid, capacityOf, topCapacityOf, blockWidt
 use Rattle.levels.specs.Basics.{all}
 use Rattle.levels.specs.Record.{Level}
 use Rattle.levels.specs.Store.{emptyStore}
-use Rattle.levels.proofs.Laid.{all-append}
+use Rattle.levels.proofs.Every.{all-append}
 use Rattle.levels.proofs.Empty.{empty-blocks, empty-fits, empty-sound}
 use Rattle.words.specs.Layout.{pad, headerWords, topWords, listWords, storeWords}
 use Rattle.words.specs.Form.{isZero, reasonOf}

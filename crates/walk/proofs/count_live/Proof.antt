@@ -1,14 +1,14 @@
 use native.Mathlib.Omega.{arith}
 use native.Mathlib.Nat.{zero-add}
-use Prim.Native.Nat.{_+_}
+use Prim.Native.Nat.{_+_, _≤_}
 use mathlib.Core.Path.{_≡_, _∙_, ap}
 use mathlib.Core.List.{List}
 use lib.ListN.{length}
 use Rattle.levels.specs.Record.{Rec}
 use Rattle.levels.specs.Map.{unmarked}
 use Rattle.walk.specs.Walk.{rest, layered}
-use Rattle.walk.proofs.Four.{Abreast, rests, load, rests-start, live-turn, live-end, live-count-high, walk-less, least-row}
-use Rattle.walk.proofs.Between.{bound-high, skimmed, skimmed-live, skims-length}
+use Rattle.walk.proofs.Four.{Abreast, rests, load, rests-start, live-turn, live-end, live-count-high, walk-less}
+use Rattle.walk.proofs.Between.{bound-high, Skimmed, skimmed-all}
 use Rattle.walk.proofs.count_live.Statement.{statement}
 use Rattle.walk.proofs.count_live.Tie as tie
 use Rattle.walk.proofs.count_live.Reads as reads
@@ -25,6 +25,21 @@ Inv-loop s d0 d1 d2 d3 c0₀ c1₀ c2₀ c3₀ n₀ c0 c1 c2 c3 n = Abreast s d0
 
 abbrev μ-loop : tie.MeasureT-loop
 μ-loop s d0 d1 d2 d3 c0₀ c1₀ c2₀ c3₀ n₀ c0 c1 c2 c3 n = load (rest s d0 c0) (rest s d1 c1) (rest s d2 c2) (rest s d3 c3)
+
+-- what the skimming of a turn gives
+skims : (c : tie.After-skim Inv-loop μ-loop)
+    → let a = c .before .before .before .before .before .before .before .before .before .args in
+    let l = c .before .before .before .loop in
+    Skimmed (a .s .now) (a .d0) (a .d1) (a .d2) (a .d3) (l .c0) (l .c1) (l .c2) (l .c3) (c .skim .result .cursor) (c .before .smaller2 .result) (l .n + c .skim .result .live) (length (unmarked (layered (a .s .now) (a .d0) (a .d1) (a .d2) (a .d3))))
+skims c =
+    let i = c .before .before .before .loop .inv in
+    skimmed-all _ _ _ _ _ _ _ _ _ (i .0) _ _ (c .before .before .smaller .ensures) (c .before .smaller2 .ensures) _ _ (c .skim .ensures) _ _ (i .1)
+
+-- all live keys of the four levels are few enough to be counted
+few : (c : tie.After-skim Inv-loop μ-loop)
+    → let a = c .before .before .before .before .before .before .before .before .before .args in
+    length (unmarked (layered (a .s .now) (a .d0) (a .d1) (a .d2) (a .d3))) ≤ 65536
+few c = let p = c .before .before .before .before .before .before .before .before .before .pre in live-count-high _ _ _ _ _ (p .0) (p .1 .0) (p .1 .1 .0) (p .1 .1 .1)
 
 refill-requires : tie.Need-refill-requires Inv-loop μ-loop
 refill-requires c κs = (c .before .pre .0, omega arith)
@@ -59,31 +74,17 @@ skim-requires c κs =
 
 add-n : tie.Need-add-n Inv-loop μ-loop
 add-n c =
-    let k = c in
-    let s1 = k .before .before .before .before .smaller .ensures in
-    let s2 = k .before .before .before .smaller2 .ensures in
-    let i = k .before .before .before .before .before .loop .inv in
-    let e = skimmed-live _ _ _ _ _ _ _ _ _ (i .0) _ _ s1 s2 _ _ (k .before .before .skim .ensures) in
-    let p = k .before .before .before .before .before .before .before .before .before .before .before .pre in
-    let t = live-count-high _ _ _ _ _ (p .0) (p .1 .0) (p .1 .1 .0) (p .1 .1 .1) in
-    let f = i .1 in
-    omega arith
+    let t = skims (c .before .before) .counted in
+    omega (arith, t, few (c .before .before))
 
 smaller-requires-3 : tie.Need-smaller-requires-3 Inv-loop μ-loop
 smaller-requires-3 c κs = tt
 
 returns : tie.Need-returns Inv-loop μ-loop
 returns c =
-    let k = c .before .before in
-    let s1 = k .before .before .before .before .smaller .ensures in
-    let s2 = k .before .before .before .smaller2 .ensures in
-    let i = k .before .before .before .before .before .loop .inv in
-    let g = skimmed _ _ _ _ _ _ _ _ _ (i .0) _ _ s1 s2 _ _ (k .before .before .skim .ensures) in
-    let e = skimmed-live _ _ _ _ _ _ _ _ _ (i .0) _ _ s1 s2 _ _ (k .before .before .skim .ensures) in
-    let m = least-row _ _ _ _ _ _ _ s1 s2 (c .before .smaller3 .ensures) in
-    let f = i .1 in
-    let z = live-end _ _ _ _ _ _ _ _ _ g _ m (c .if1 .taken) in
-    omega arith
+    let t = skims (c .before .before .before .before) in
+    let z = live-end _ _ _ _ _ _ _ _ _ (t .abreast) _ (t .least _ (c .before .smaller3 .ensures)) (c .if1 .taken) in
+    omega (arith, z, t .counted)
 
 upper-requires : tie.Need-upper-requires Inv-loop μ-loop
 upper-requires c κs = tt
@@ -93,19 +94,10 @@ live-bit-requires c κs = tt
 
 add-n-2 : tie.Need-add-n-2 Inv-loop μ-loop
 add-n-2 c =
-    let k = c .before .before .before .before in
-    let s1 = k .before .before .before .before .smaller .ensures in
-    let s2 = k .before .before .before .smaller2 .ensures in
-    let i = k .before .before .before .before .before .loop .inv in
-    let g = skimmed _ _ _ _ _ _ _ _ _ (i .0) _ _ s1 s2 _ _ (k .before .before .skim .ensures) in
-    let e = skimmed-live _ _ _ _ _ _ _ _ _ (i .0) _ _ s1 s2 _ _ (k .before .before .skim .ensures) in
-    let m = least-row _ _ _ _ _ _ _ s1 s2 (c .before .before .before .smaller3 .ensures) in
-    let p = k .before .before .before .before .before .before .before .before .before .before .before .pre in
-    let t = live-count-high _ _ _ _ _ (p .0) (p .1 .0) (p .1 .1 .0) (p .1 .1 .1) in
-    let f = i .1 in
-    let u = live-turn _ _ _ _ _ _ _ _ _ g _ m (c .before .before .if1 .left) _ (c .before .upper .ensures) in
-    let b = c .live-bit .ensures in
-    omega arith
+    let k = c .before .before .before .before .before .before in
+    let t = skims k in
+    let u = live-turn _ _ _ _ _ _ _ _ _ (t .abreast) _ (t .least _ (c .before .before .before .smaller3 .ensures)) (c .before .before .if1 .left) _ (c .before .upper .ensures) in
+    omega (arith, t .counted, few k, u, c .live-bit .ensures)
 
 step-requires : tie.Need-step-requires Inv-loop μ-loop
 step-requires c κs = (c .before .before .before .before .before .before .before .before .before .loop .inv .0 .good0, c .before .before .if1 .left)
@@ -121,27 +113,18 @@ step-requires-4 c κs = (c .before .before .before .before .before .before .befo
 
 loop-less : tie.Need-loop-less Inv-loop μ-loop
 loop-less c =
-    let k = c .before .before .before .before .before .before .before .before in
-    let s1 = k .before .before .before .before .smaller .ensures in
-    let s2 = k .before .before .before .smaller2 .ensures in
-    let i = k .before .before .before .before .before .loop .inv in
-    let g = skimmed _ _ _ _ _ _ _ _ _ (i .0) _ _ s1 s2 _ _ (k .before .before .skim .ensures) in
-    let m = least-row _ _ _ _ _ _ _ s1 s2 (c .before .before .before .before .before .before .before .smaller3 .ensures) in
-    let q = skims-length _ _ _ _ _ _ (k .before .before .skim .ensures) in
-    let w = walk-less _ _ _ _ _ _ _ _ _ g _ m (c .before .before .before .before .before .before .if1 .left) in
+    let t = skims (c .before .before .before .before .before .before .before .before .before .before) in
+    let m = t .least _ (c .before .before .before .before .before .before .before .smaller3 .ensures) in
+    let q = t .shorter in
+    let w = walk-less _ _ _ _ _ _ _ _ _ (t .abreast) _ m (c .before .before .before .before .before .before .if1 .left) in
     rw (c .before .before .before .step .ensures .1, c .before .before .step2 .ensures .1, c .before .step3 .ensures .1, c .step4 .ensures .1) (omega arith)
 
 loop-again : tie.Need-loop-again Inv-loop μ-loop
 loop-again c =
-    let k = c .before .before .before .before .before .before .before .before in
-    let s1 = k .before .before .before .before .smaller .ensures in
-    let s2 = k .before .before .before .smaller2 .ensures in
-    let i = k .before .before .before .before .before .loop .inv in
-    let g = skimmed _ _ _ _ _ _ _ _ _ (i .0) _ _ s1 s2 _ _ (k .before .before .skim .ensures) in
-    let e = skimmed-live _ _ _ _ _ _ _ _ _ (i .0) _ _ s1 s2 _ _ (k .before .before .skim .ensures) in
-    let m = least-row _ _ _ _ _ _ _ s1 s2 (c .before .before .before .before .before .before .before .smaller3 .ensures) in
-    let f = i .1 in
-    let u = live-turn _ _ _ _ _ _ _ _ _ g _ m (c .before .before .before .before .before .before .if1 .left) _ (c .before .before .before .before .before .upper .ensures) in
+    let t = skims (c .before .before .before .before .before .before .before .before .before .before) in
+    let m = t .least _ (c .before .before .before .before .before .before .before .smaller3 .ensures) in
+    let f = t .counted in
+    let u = live-turn _ _ _ _ _ _ _ _ _ (t .abreast) _ m (c .before .before .before .before .before .before .if1 .left) _ (c .before .before .before .before .before .upper .ensures) in
     let b = c .before .before .before .before .live-bit .ensures in
     (record { good0 = c .before .before .before .step .ensures .0; good1 = c .before .before .step2 .ensures .0; good2 = c .before .step3 .ensures .0; good3 = c .step4 .ensures .0 }, rw (c .before .before .before .step .ensures .1, c .before .before .step2 .ensures .1, c .before .step3 .ensures .1, c .step4 .ensures .1) (omega arith))
 
