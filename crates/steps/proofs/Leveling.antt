@@ -15,9 +15,9 @@ use Rattle.blocks.specs.Blocks.{Marks}
 use Rattle.steps.specs.declared.Run.{Run}
 use Rattle.steps.specs.declared.One.{One}
 use Rattle.steps.specs.declared.Two.{Two}
-use Rattle.steps.specs.Running.{namedIn, storeOf, Listed, Markable, Leaving, mergedCounts, OneLeft, TwoReady, TwoLeft, PageReady, StepReady, anew, relisted}
+use Rattle.steps.specs.Running.{namedIn, storeOf, Listed, Markable, Leaving, mergedCounts, OneLeft, TwoReady, TwoLeft, PageReady, StepReady, anew, relisted, relistedTwo}
 use Rattle.steps.proofs.Standing.{used-is, markable}
-use Rattle.steps.proofs.Relisting.{top-fits, relistedTwo, one-leaves, two-leaves}
+use Rattle.steps.proofs.Relisting.{top-fits, one-leaves, two-leaves}
 use Rattle.steps.proofs.Merging.{start-inside}
 use Rattle.steps.proofs.Paging.{gap-short}
 
