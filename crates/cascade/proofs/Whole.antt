@@ -23,12 +23,12 @@ use Rattle.levels.proofs.CallMerges.{from-is, first-facts, from-facts, from-end
 use Rattle.levels.proofs.CallCounts.{steps-high}
 use Rattle.words.specs.Layout.{countAt, listedAt, cursorAt, storeAt, areaOf, storeWords, writeBlocks}
 use Rattle.words.specs.Calls.{compactedBlocks, writtenBlocks, leftWords}
-use Rattle.words.proofs.State.{Holds, words-hold, cursor-held, top-count-held}
+use Rattle.words.proofs.State.{Holds, words-hold, cursor-held, top-count-held, count-held}
 use Rattle.words.specs.Form.{roomOf}
 use Rattle.words.proofs.Form.{room-level}
 use Rattle.lists.specs.Lists.{withLists}
 use Rattle.lists.proofs.Laws.{placesIn, but-held, lists-back}
-use Rattle.lists.proofs.Arrays.{three-places, count-held, count-room, places-listed}
+use Rattle.lists.proofs.Arrays.{three-places, count-room, places-listed}
 use Rattle.steps.specs.declared.Tally.{Tally}
 use Rattle.steps.specs.declared.Run.{Run}
 use Rattle.steps.specs.Running.{storeOf, Listed, Stands, numbersOf, plus, Few, Small, Leaving, StepReady, stepCounts}

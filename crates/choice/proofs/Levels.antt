@@ -14,7 +14,6 @@ use Rattle.levels.proofs.Rising.{test-rising}
 use Rattle.levels.proofs.Levels as levels
 use Rattle.choice.proofs.Lists.{map-of-map}
 use Rattle.levels.proofs.Levels.{Filled}
-pub use Rattle.levels.proofs.Levels.{Filled}
 
 runs-fences : (w : ℕ) (l : Level) → fenceRuns w (map fenceOf l) ≡ map (map fenceOf) (runs w l)
 unfolding fenceRuns

@@ -9,8 +9,6 @@ use lib.ListN.{length, getD, drop, set, List·getD-append}
 use lib.Seq.{set-at, drop-cons, append-snoc}
 use Rattle.words.specs.Layout.{each}
 use Rattle.words.proofs.Each.{length-each, getD-each, each-more, each-same}
-pub use Rattle.levels.proofs.Lists.{map-take, map-drop}
-pub use Rattle.words.proofs.Each.{length-each, each-take, each-drop}
 use Rattle.choice.specs.Fences.{fill}
 
 -- one more entry filled in

@@ -22,12 +22,13 @@ use Rattle.merging.proofs.Words.{sized-on}
 use Rattle.merging.proofs.Frame.{Same, gather-kept, stored-agree, count-kept}
 use Rattle.merging.proofs.Heads.{recs-length}
 use Rattle.merging.proofs.Loads.{recs-none, recs-snoc}
-use Rattle.merging.proofs.Outs.{marks-low, gather-holds}
+use Rattle.merging.proofs.Outs.{gather-holds}
 use Rattle.merging.proofs.Paid.{count-free, gather-spent}
 use Rattle.merging.proofs.Steps.{Fit, gather-fit}
 use Rattle.merging.proofs.Whole.{same-next}
 use Rattle.compaction.specs.Machine.{recordsGathered, chunkGathered, Roomy, Gathering}
 use Rattle.compaction.proofs.Packing.{nothing, kept, kept-snoc}
+use Rattle.words.proofs.Slots.{mark-small}
 
 -- memory a, after the records rs have been gathered from memory s on
 pub record Going (z : Layout) (s : Memory) (rs : List Rec) (a : Memory) : Type 0 where
@@ -71,7 +72,7 @@ module _ (z : Layout) (s : Memory) (n : ℕ) (few : n ≤ 2048) (free : countMar
         let w = written-few in
         record {
           flushable = record { sized = k .sized; cursor = k .cursor; full = omega arith; room = omega arith; count = omega arith; free = some-free };
-          gatherable = record { few = f; bits = rw (k .holds .buf) (marks-low (kept (z .b) rs nothing .buffer)) };
+          gatherable = record { few = f; bits = rw (k .holds .buf) (mark-small (kept (z .b) rs nothing .buffer)) };
         }
 
     -- one record more

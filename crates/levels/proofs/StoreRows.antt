@@ -6,7 +6,6 @@ use mathlib.Core.List.{List, [], _∷_, map}
 use native.Mathlib.Omega.{arith}
 use native.Mathlib.Nat.{mul-le-mul-left, mul-le-mul-right}
 use lib.ListN.{length, getD, set, length-set, length-map, List·getD-map}
-use lib.Seq.{getD-set-same}
 use Rattle.geometry.specs.declared.Geometry.{Geometry}
 use Rattle.levels.specs.Basics.{all, total}
 use Rattle.levels.specs.Record.{Rec, Level, records}
@@ -24,10 +23,6 @@ set-at d P (c ∷ ls) zero l zero a b = a refl
 set-at d P (c ∷ ls) zero l (suc i) a b = b
 set-at d P (c ∷ ls) (suc j) l zero a b = b
 set-at d P (c ∷ ls) (suc j) l (suc i) a b = set-at d P ls j l i (λ e. a (ap suc e)) b
-
--- the element at index j is the one put there
-pub set-here : {A : Type 0} (d : A) (ls : List A) (j : ℕ) (l : A) → j < length ls → getD (set ls j l) j d ≡ l
-set-here d ls j l h = getD-set-same ls j l d h
 
 -- the records of level i are row i; of level 0, of its pages
 pub row-blocks : (g : Geometry) (i : ℕ) (s : Store) → records (blocksOf g i s) ≡ getD (rows s) i []

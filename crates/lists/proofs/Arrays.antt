@@ -16,7 +16,6 @@ use Rattle.words.specs.Layout.{countAt, listedAt, levelAt, placeOf}
 use Rattle.words.proofs.Each.{getD-each}
 use Rattle.words.proofs.Lists.{level-places}
 use Rattle.words.proofs.State.{Holds, count-held, levels-held}
-pub use Rattle.words.proofs.State.{count-held}
 use Rattle.words.specs.Form.{roomOf}
 use Rattle.words.proofs.Form.{room-level}
 use Rattle.lists.proofs.Laws.{placesIn}

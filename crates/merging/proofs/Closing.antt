@@ -24,7 +24,7 @@ use Rattle.joins.specs.Joins.{Clean, pulled, Lefts, leftJoined, afterTaken, Aft
 use Rattle.joins.proofs.Laws.{last-pull, pulled-n, pulled-clean, pulled-y, appended-n}
 use Rattle.merging.proofs.Relation.{Holds, Listed, Core, Budget}
 use Rattle.merging.proofs.Blocks.{Flash}
-use Rattle.merging.proofs.Outs.{marks-low}
+use Rattle.words.proofs.Slots.{mark-small}
 
 -- what the joins leave of where the merge stands
 pub record Joined (w v : Progress) : Type 0 where
@@ -160,7 +160,7 @@ closable z t xs ys end d o a c h g all he hy r =
     n = ap (λ (b : Buffer). b .n) (h .buf)
 
     clean : Clean (a .st .buf)
-    clean = record { bits = rw (h .buf) (marks-low (o .buffer)) }
+    clean = record { bits = rw (h .buf) (mark-small (o .buffer)) }
 
     lf : Lefts z (a .words) (a .out) (a .st)
     lf = record { sized = c .sized; m-high = omega arith; few = omega (arith, n, c .few, c .sized .b-high); places = c .listed }

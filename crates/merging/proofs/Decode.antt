@@ -7,7 +7,7 @@ use mathlib.Core.Option.{some}
 use native.Mathlib.Numerals.{add-one}
 use native.Mathlib.Omega.{arith}
 use lib.Pow.{shr-shr}
-use lib.ListN.{length, getD, take}
+use lib.ListN.{length, getD}
 use lib.Seq.{drop-cons}
 use Rattle.geometry.specs.declared.Geometry.{Geometry}
 use Rattle.geometry.specs.Geometry.{placeStart}
@@ -19,6 +19,7 @@ use Rattle.sides.specs.declared.Chunk.{Chunk}
 use Rattle.sides.specs.Sides.{blockChunk, pageChunk, chunkOf}
 use Rattle.merging.proofs.Blocks.{recsFrom, blockOf, storedAt, blocks}
 use Rattle.merging.specs.Contract.{pageAt, blocksOf, runOf}
+use Rattle.words.proofs.Slots.{slots-take}
 
 halved : (m j : ℕ) → m / 2 ^ j / 2 ≡ m / 2 ^ suc j
 halved m j = shr-shr m j 1 ∙ ap (λ (k : ℕ). m / 2 ^ k) (add-one j)
@@ -39,19 +40,13 @@ chunk-slots ws c n =
     let v : c .pays + 0 ≡ c .pays = omega arith in
     rw (m, k, v) at (slots-recs ws c 0 n)
 
-take-slots : (ws : List ℕ) (m k v n b : ℕ) → n ≤ b → take n (slotsAt ws m k v b) ≡ slotsAt ws m k v n
-unfolding slotsAt
-take-slots ws m k v zero b h = refl
-take-slots ws m k v (suc n) zero h = absurd (omega arith)
-take-slots ws m k v (suc n) (suc b) h = rw (take-slots ws (m / 2) (suc k) (suc v) n b (omega arith))
-
 -- the block at a place
 pub stored-block : (g : Geometry) (ws : List ℕ) (q : ℕ) → recordCount g ws q ≤ g .b → storedAt (layoutOf g) ws q ≡ blockAt g ws q
 unfolding blockAt blockSlots
 stored-block g ws q h =
     let e = start-place g q in
     let c = chunk-slots ws (blockChunk (layoutOf g) ws q) (recordCount g ws q) in
-    rw (e, take-slots ws (markWordAt g ws q) (placeStart g q + 2) (placeStart g q + 2 + g .b) (recordCount g ws q) (g .b) h) (ap (λ (rs : List Rec). record { place = some q; recs = rs }) (sym (rw e at c)))
+    rw (e, slots-take ws (markWordAt g ws q) (placeStart g q + 2) (placeStart g q + 2 + g .b) (recordCount g ws q) (g .b) h) (ap (λ (rs : List Rec). record { place = some q; recs = rs }) (sym (rw e at c)))
 
 -- a page of level 0
 page-block : (g : Geometry) (ws : List ℕ) (i : ℕ) → blockOf ws (pageChunk (layoutOf g) i) ≡ pageAt g ws i

@@ -1,7 +1,7 @@
 -- What a head shows of a side, and that the tests on heads are the definitions' tests on blocks.
 use Prim.Native.Nat.{ℕ, zero, suc, _+_, _-_, _/_, _%_, _^_, _≤_, _<_}
 use mathlib.Core.Path.{_≡_, sym, ap, _∙_, refl}
-use mathlib.Core.Bool.{Bool, true, false, not, _&&_, _||_, true≢false}
+use mathlib.Core.Bool.{Bool, true, false, not, _&&_, _||_, true≢false, and-false}
 use mathlib.Core.List.{List, [], _∷_}
 use mathlib.Core.Option.{none, some}
 use mathlib.Core.Logic.{dite}
@@ -113,15 +113,11 @@ shows-at z ws c zero f l = go (c .n) (c .listed) refl refl (f .low)
 shows-at z ws c (suc j) f l =
     rw recs-drop (go (c .n - suc j) refl)
   where
-    and-none : (t : Bool) → (t && false) ≡ false
-    and-none true = refl
-    and-none false = refl
-
     go : (n : ℕ) → c .n - suc j ≡ n → Shows (headAt ws c (suc j)) (new (recsFrom ws c (0 + suc j) n))
     go zero e = absurd (omega arith)
     go (suc n) e =
         let v : 0 + suc j ≡ suc j = omega arith in
-        let u : (c .listed && eqb (suc j) 0) ≡ false = rw (ne-eqb (suc j) 0 (λ g. omega arith)) (and-none (c .listed)) in
+        let u : (c .listed && eqb (suc j) 0) ≡ false = rw (ne-eqb (suc j) 0 (λ g. omega arith)) (and-false (c .listed)) in
         rw v (record {
           there = refl;
           whole = u;

@@ -42,15 +42,6 @@ unfolding markWord
 marks-push [] r = rw (pow-zero 2) (omega arith)
 marks-push (s ∷ rs) r = rw (marks-push rs r, pow-suc 2 (length rs)) (let e : bit (r .tombstone) * (2 ^ length rs * 2) ≡ bit (r .tombstone) * 2 ^ length rs * 2 = sym (mul-assoc _ _ _) in omega arith)
 
-pub marks-low : (rs : List Rec) → markWord rs < 2 ^ length rs
-unfolding markWord
-marks-low [] = rw (pow-zero 2) (omega arith)
-marks-low (r ∷ rs) = rw (pow-suc 2 (length rs)) (go (r .tombstone) (marks-low rs))
-  where
-    go : (t : Bool) → markWord rs < 2 ^ length rs → bit t + 2 * markWord rs < 2 ^ length rs * 2
-    go true h = omega arith
-    go false h = omega arith
-
 -- one record more
 pub buffer-push : (rs : List Rec) (r : Rec) (m : ℕ) → length rs < 16 → bit (r .tombstone) ≡ m → pushed (bufferOf rs) (r .key) m (r .pay) ≡ bufferOf (rs ++ (r ∷ []))
 unfolding bufferOf

@@ -24,10 +24,7 @@ use Rattle.levels.proofs.Basics.{and-left, and-right, if-either}
 use Rattle.stream.proofs.Laws.{after-one}
 use Rattle.merging.specs.Contract.{countMarks}
 use Rattle.merging.proofs.Relation.{nextFree}
-
-bit-high : (t : Bool) → bit t ≤ 1
-bit-high true = omega arith
-bit-high false = omega arith
+use Rattle.words.proofs.Slots.{bit-small}
 
 count-out : (n : ℕ) (used : List Bool) (q : ℕ) → n ≤ q → countMarks n (set used q true) ≡ countMarks n used
 unfolding countMarks
@@ -41,7 +38,7 @@ count-set zero used q = omega arith
 count-set (suc n) used q = go (ℕ-discrete n q) (count-set n used q)
   where
     go : Dec (n ≡ q) → countMarks n (set used q true) ≤ countMarks n used + 1 → countMarks n (set used q true) + bit (getD (set used q true) n false) ≤ (countMarks n used + bit (getD used n false)) + 1
-    go (yes e) ih = let c = count-out n used q (omega arith) in let b = bit-high (getD (set used q true) n false) in omega arith
+    go (yes e) ih = let c = count-out n used q (omega arith) in let b = bit-small (getD (set used q true) n false) in omega arith
     go (no e) ih = rw (getD-set-other used q n true false e) (omega arith)
 
 -- fewer marks than places leave a place free

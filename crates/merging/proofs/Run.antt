@@ -16,9 +16,9 @@ use Rattle.stream.proofs.Laws.{idle-ends}
 use Rattle.merging.proofs.Relation.{Holds, SideAt, Core, Budget, Sim, Begun, start, first}
 use Rattle.merging.proofs.Blocks.{Flash}
 use Rattle.merging.proofs.Moves.{side-none}
-use Rattle.merging.proofs.Outs.{marks-low}
 use Rattle.merging.proofs.Sim.{Both, sim-step}
 use Rattle.merging.proofs.Steps.{step-idle}
+use Rattle.words.proofs.Slots.{mark-small}
 
 iterate-end : {A : Type 0} (n : ℕ) (f : A → A) (a : A) → iterate (suc n) f a ≡ f (iterate n f a)
 iterate-end zero f a = refl
@@ -42,7 +42,7 @@ module _ (z : Layout) (t : Inputs) (xs ys : List ℕ) (d : Flash) where
         lower = side-readable (c .sized) hy (c .lower);
         movable = record {
           flushable = record { sized = c .sized; cursor = c .cursor; full = rw (h .buf) (omega arith); room = omega arith; count = g .count; free = g .free };
-          gatherable = record { few = rw (h .buf) f; bits = rw (h .buf) (marks-low (o .buffer)) };
+          gatherable = record { few = rw (h .buf) f; bits = rw (h .buf) (mark-small (o .buffer)) };
           room = omega arith;
         };
         listed = c .listed;

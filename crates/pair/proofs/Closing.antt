@@ -13,7 +13,7 @@ use Rattle.levels.specs.Record.{Level}
 use Rattle.levels.specs.Merge.{close}
 use Rattle.levels.specs.Place.{Allocation, settle}
 use Rattle.words.specs.Layout.{blockAt}
-use Rattle.choice.proofs.Lists.{map-drop}
+use Rattle.levels.proofs.Lists.{map-drop}
 use Rattle.joins.specs.Joins.{restedOut}
 use Rattle.merging.specs.declared.Cut.{Cut}
 use Rattle.merging.specs.declared.Merged.{Merged}

@@ -12,7 +12,7 @@ use Rattle.levels.specs.Choose.{choose}
 use Rattle.levels.specs.Merge.{merge}
 use Rattle.levels.specs.Place.{Settled}
 use Rattle.words.specs.Layout.{blockAt}
-use Rattle.choice.proofs.Lists.{map-take, map-drop}
+use Rattle.levels.proofs.Lists.{map-take, map-drop}
 use Rattle.joins.specs.Joins.{restedOut}
 use Rattle.merging.specs.declared.Cut.{Cut}
 use Rattle.merging.specs.declared.Merged.{Merged}

@@ -23,8 +23,9 @@ use Rattle.words.proofs.Slots.{slots-length}
 use Rattle.words.proofs.Top.{top-slots-length}
 use Rattle.choice.specs.Fences.{Ordered, Fenced, fenceOf, fencesOf, fill, pageFence}
 use Rattle.choice.proofs.Keys.{level-fenced}
-use Rattle.choice.proofs.Levels.{Filled, level-ordered}
-use Rattle.choice.proofs.Lists.{length-each, each-take, each-drop}
+use Rattle.levels.proofs.Levels.{Filled}
+use Rattle.choice.proofs.Levels.{level-ordered}
+use Rattle.words.proofs.Each.{length-each, each-take, each-drop}
 use Rattle.choice.proofs.Words.{page-fences}
 use Rattle.blocks.specs.Blocks.{Marks}
 use Rattle.merging.specs.declared.Cut.{Cut}

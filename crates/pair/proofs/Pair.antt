@@ -6,7 +6,7 @@ use mathlib.Core.List.{List, [], _∷_, _++_, map}
 use native.Mathlib.Omega.{arith}
 use lib.Dec.{eqb}
 use lib.ListN.{length, getD, take, drop, length-append}
-use lib.Seq.{length-take-le, take-take}
+use lib.Seq.{take-take}
 use Rattle.geometry.specs.declared.Geometry.{Geometry}
 use Rattle.geometry.specs.Geometry.{windowOf, placesStart}
 use Rattle.geometry.proofs.Laws.{window-low}
@@ -19,11 +19,11 @@ use Rattle.levels.specs.Taking.{fresh}
 use Rattle.levels.proofs.Fresh.{count-all}
 use Rattle.levels.proofs.Settling.{written-length, settle-length}
 use Rattle.words.specs.Layout.{recordCount, blockSlots, blockAt, areaOf, writeBlocks}
-use Rattle.words.proofs.Slots.{slots-length}
-use Rattle.words.proofs.Blocks.{writes-append}
+use Rattle.words.proofs.Blocks.{writes-append, block-size}
 use Rattle.choice.specs.Fences.{Ordered, fenceOf}
-use Rattle.choice.proofs.Levels.{Filled, level-ordered}
-use Rattle.choice.proofs.Lists.{map-take, map-drop}
+use Rattle.levels.proofs.Levels.{Filled}
+use Rattle.choice.proofs.Levels.{level-ordered}
+use Rattle.levels.proofs.Lists.{map-take, map-drop}
 use Rattle.blocks.specs.Blocks.{Marks}
 use Rattle.merging.specs.declared.Cut.{Cut}
 use Rattle.merging.specs.declared.Merged.{Merged}
@@ -38,11 +38,6 @@ use Rattle.pair.proofs.Below.{met-merge}
 use Rattle.pair.proofs.Room.{count-few}
 use Rattle.pair.proofs.Merges.{lower-leaves, part-is, level-length}
 use Rattle.pair.proofs.After.{listed-fresh, close-fit, close-one, after-long, after-cursor, after-in-use, after-count, after-block, after-level}
-
--- a listed block holds as many records as its count says
-block-size : (g : Geometry) (ws : List ℕ) (q : ℕ) → recordCount g ws q ≤ g .b → size (blockAt g ws q) ≡ recordCount g ws q
-unfolding blockAt blockSlots
-block-size g ws q h = length-take-le (recordCount g ws q) _ (rw slots-length h)
 
 stored-filled : (g : Geometry) (ws : List ℕ) (used : List Bool) (list : List ℕ) (n : ℕ) → ((k : ℕ) → k < n → ListedBlock g ws used (getD list k 0)) → Filled (levelOf g ws list n)
 stored-filled g ws used list zero f = tt

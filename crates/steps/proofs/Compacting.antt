@@ -7,6 +7,7 @@ use native.Mathlib.Nat.{add-zero}
 use native.Mathlib.Omega.{arith}
 use lib.Dec.{eqb}
 use lib.ListN.{length, take, getD}
+use lib.Seq.{getD-set-same}
 use Rattle.geometry.specs.declared.Geometry.{Geometry}
 use Rattle.levels.specs.Basics.{if_then_else_}
 use Rattle.levels.specs.Record.{Level}
@@ -21,7 +22,6 @@ use Rattle.levels.specs.Every.{Every, allBlocks}
 use Rattle.levels.specs.Sound.{BlockFits}
 use Rattle.levels.specs.InCall.{CompactionFacts}
 use Rattle.levels.proofs.Entry.{inside-fit, blocks-at}
-use Rattle.levels.proofs.StoreRows.{set-here}
 use Rattle.levels.proofs.Room.{compact-room-numbers}
 use Rattle.levels.proofs.Inside.{inside-used}
 use Rattle.levels.proofs.CompactInside.{compact-facts, compaction-newly}
@@ -169,7 +169,7 @@ module _ (e t : Store) (g : Geometry) (ws : List ℕ) (used : List Bool) (list :
     one-left r u eu er =
         let area : List ℕ = writeBlocks g (areaOf g ws) (st .written) in
         let held : HoldsBut g ws' (c .finish) = rw (left-is .words) (but-area g ws area t (c .finish) (k .valid) (k .held) refl refl (laid-compaction g e c (areaOf g ws) facts (k .held .laid))) in
-        let here : getD (c .finish .levels) j [] ≡ st .level = set-here [] (t .levels) j (st .level) (omega (arith, k .inside .many, k .level)) in
+        let here : getD (c .finish .levels) j [] ≡ st .level = getD-set-same (t .levels) j (st .level) [] (omega (arith, k .inside .many, k .level)) in
         let fits = blocks-at (BlockFits g) (c .finish .levels) j (inside-fit g e (c .finish) (facts .finish-inside)) in
         let one : j + 1 ≡ suc j = omega arith in
         let w : blocksCompacted c ≡ m .writes = compaction-newly g e c facts ∙ sym (left-is .writes) in

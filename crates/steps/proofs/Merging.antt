@@ -6,6 +6,7 @@ use mathlib.Core.List.{List, []}
 use native.Mathlib.Omega.{arith}
 use lib.Dec.{eqb}
 use lib.ListN.{length, getD, set, length-set}
+use lib.Seq.{getD-set-same}
 use Rattle.geometry.specs.declared.Geometry.{Geometry}
 use Rattle.geometry.specs.Geometry.{Valid, windowOf}
 use Rattle.geometry.proofs.Laws.{level-high}
@@ -27,7 +28,7 @@ use Rattle.levels.proofs.Overlap.{window-fits, choose-window}
 use Rattle.levels.proofs.Rising.{rising-test}
 use Rattle.levels.proofs.Room.{merge-room-numbers}
 use Rattle.levels.proofs.Entry.{inside-fit, blocks-at}
-use Rattle.levels.proofs.StoreRows.{set-at, set-here}
+use Rattle.levels.proofs.StoreRows.{set-at}
 use Rattle.levels.proofs.Inside.{inside-used}
 use Rattle.levels.proofs.MergeBounds.{merge-written}
 use Rattle.words.specs.Layout.{areaOf, writeBlocks}
@@ -42,6 +43,7 @@ use Rattle.steps.specs.declared.Two.{Two}
 use Rattle.steps.specs.Running.{Listed, counted, Grown, mergedCounts, TwoReady, TwoLeft}
 use Rattle.steps.proofs.Standing.{inside-short, listed-block, listed-level}
 use Rattle.steps.proofs.Compacting.{grown-counted, listed-new}
+use Rattle.levels.proofs.InCall.{merge-level}
 
 -- Of a merge out of level i of the store t that is due: what the choice and its numbers say.
 module _ (g : Geometry) (e t : Store) (i : ℕ) (v : Valid g) (f : MergeFacts g e (mergeLevel g i t)) where
@@ -82,16 +84,12 @@ module _ (g : Geometry) (e t : Store) (i : ℕ) (v : Valid g) (f : MergeFacts g 
   pub merged-few : length (mergeLevel g i t .written) ≤ 8192
   merged-few = omega (arith, f .room, v .places-high)
 
-  merge-level-is : mergeLevel g i t .level ≡ i
-  unfolding mergeLevel mergeRun
-  merge-level-is = refl
-
   -- the counts of the merge
   pub merged-grown : (tally u : Tally) (k n : ℕ) → k ≡ suc i → n ≡ length (mergeLevel g i t .written) → u ≡ counted tally k (record { merges = 1; written = n; compacted = 0 }) → Grown (mergedCounts (mergeLevel g i t)) tally u
   merged-grown tally u k n ek en eu =
       let b : blocksMerged (mergeLevel g i t) ≡ n = merge-written g e (mergeLevel g i t) v f ∙ sym en in
       grown-counted (mergedCounts (mergeLevel g i t)) tally u k (record { merges = 1; written = n; compacted = 0 }) (omega (arith, ek)) (omega (arith, ek, level-low, v .ranged .h-high)) eu
-      (λ x. ap (λ (y : ℕ). of y (blocksMerged (mergeLevel g i t)) x) (ap suc merge-level-is ∙ sym ek) ∙ ap (λ (y : ℕ). of k y x) b ∙ pick (eqb k x) n)
+      (λ x. ap (λ (y : ℕ). of y (blocksMerged (mergeLevel g i t)) x) (ap suc (merge-level g i t) ∙ sym ek) ∙ ap (λ (y : ℕ). of k y x) b ∙ pick (eqb k x) n)
     where
       of : ℕ → ℕ → ℕ → levels.Counts
       of l n x = record { merges = if eqb l x then 1 else 0; written = if eqb l x then n else 0; compacted = 0 }
@@ -180,8 +178,8 @@ module _ (e t : Store) (j : ℕ) (g : Geometry) (ws : List ℕ) (used : List Boo
         let ls : Settled = lowerAfter g (suc j) (us .allocation) (cutOf g (suc j) (getD (t .levels) j []) (getD (t .levels) (suc j) [])) in
         let low = level-low g e t (suc j) v (k .facts) in
         let f = inside-fit g e x (k .facts .finish-inside) in
-        let ha : getD (x .levels) j [] ≡ us .level = set-at [] (λ l. l ≡ us .level) (set (t .levels) j (us .level)) (suc j) (ls .level) j (λ z. absurd (omega (arith, z))) (set-here [] (t .levels) j (us .level) (omega (arith, inside .many))) in
-        let hu : getD (x .levels) (suc j) [] ≡ ls .level = set-here [] (set (t .levels) j (us .level)) (suc j) (ls .level) (omega (arith, inside .many, length-set (t .levels) j (us .level))) in
+        let ha : getD (x .levels) j [] ≡ us .level = set-at [] (λ l. l ≡ us .level) (set (t .levels) j (us .level)) (suc j) (ls .level) j (λ z. absurd (omega (arith, z))) (getD-set-same (t .levels) j (us .level) [] (omega (arith, inside .many))) in
+        let hu : getD (x .levels) (suc j) [] ≡ ls .level = getD-set-same (set (t .levels) j (us .level)) (suc j) (ls .level) [] (omega (arith, inside .many, length-set (t .levels) j (us .level))) in
         rw eu
         (record {
           held = rw (left-is .words) (but-area g ws area t x v (k .held) refl refl (laid-merge g e (mergeLevel g (suc j) t) (areaOf g ws) (k .facts) (k .held .laid)));

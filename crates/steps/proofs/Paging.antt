@@ -1,5 +1,5 @@
 -- A merge out of level 0 without its step 5, on words and lists.
-use Prim.Native.Nat.{ℕ, zero, suc, _+_, _*_, _^_, _≤_, _<_}
+use Prim.Native.Nat.{ℕ, _+_, _*_, _^_, _≤_, _<_}
 use mathlib.Core.Path.{_≡_, refl, sym, ap, _∙_, subst}
 use mathlib.Core.Bool.{Bool, true}
 use mathlib.Core.List.{List, [], _∷_, _++_}
@@ -7,6 +7,7 @@ use native.Mathlib.Nat.{add-zero, mul-le-mul-right}
 use native.Mathlib.Omega.{arith}
 use lib.Dec.{ltb}
 use lib.ListN.{length, take, drop, getD, set, length-append, length-take, length-drop}
+use lib.Seq.{getD-set-same, take-set-lt}
 use borrow.Author.Tests.{ltb-true}
 use Rattle.geometry.specs.declared.Geometry.{Geometry}
 use Rattle.geometry.specs.Geometry.{Valid, capacityOf, topCapacityOf, windowOf, marksStart, listStart, placesStart}
@@ -21,12 +22,10 @@ use Rattle.levels.specs.Call.{mergeCut, mergeRun, mergeLevel}
 use Rattle.levels.specs.Every.{Every, allBlocks}
 use Rattle.levels.specs.Sound.{BlockFits}
 use Rattle.levels.specs.Inside.{Inside}
-use Rattle.levels.proofs.Basics.{and-left, and-right}
 use Rattle.levels.proofs.Compaction.{pages-full}
 use Rattle.levels.proofs.Rising.{rising-test}
 use Rattle.levels.proofs.Rows.{risings-at}
 use Rattle.levels.proofs.Entry.{inside-fit, blocks-at}
-use Rattle.levels.proofs.StoreRows.{set-here}
 use Rattle.words.specs.Layout.{word, topCountAt, topSlots, topRecs, each, areaOf, topWords, writeBlocks, topLength}
 use Rattle.words.specs.Form.{topUnusedZero}
 use Rattle.words.proofs.Slots.{padRecs, pad-blank}
@@ -52,18 +51,7 @@ use Rattle.steps.specs.Running.{counted, mergedCounts, OneLeft, PageRead
 use Rattle.steps.proofs.Standing.{inside-short, listed-block, listed-level, but-top-read}
 use Rattle.steps.proofs.Compacting.{listed-new}
 use Rattle.steps.proofs.Merging.{start-due, start-inside, due-free, due-room, merged-few, merged-grown}
-
--- a test of the numbers from i on
-all-each : (p : ℕ → Bool) (i n k : ℕ) → all p (each (λ (x : ℕ). x) i n) ≡ true → k < n → p (i + k) ≡ true
-all-each p i zero k h l = absurd (omega arith)
-all-each p i (suc n) zero h l = rw add-zero (and-left (p i) _ h)
-all-each p i (suc n) (suc k) h l = let z : i + suc k ≡ suc i + k = omega arith in rw z (all-each p (suc i) n k (and-right (p i) _ h) (omega arith))
-
-take-set : (m : ℕ) (xs : List ℕ) (i v : ℕ) → take m (set xs i v) ≡ set (take m xs) i v
-take-set zero xs i v = refl
-take-set (suc m) [] i v = refl
-take-set (suc m) (x ∷ xs) zero v = refl
-take-set (suc m) (x ∷ xs) (suc i) v = ap (λ (ys : List ℕ). x ∷ ys) (take-set m xs i v)
+use Rattle.words.proofs.Each.{all-each-at}
 
 -- Words that hold t, whose level 0 has room, are ready for level 0's edits.
 module _ (g : Geometry) (ws : List ℕ) (t : Store) (v : Valid g) (k : HoldsBut g ws t) (fits : length (t .top) ≤ topCapacityOf g) where
@@ -82,7 +70,7 @@ module _ (g : Geometry) (ws : List ℕ) (t : Store) (v : Valid g) (k : HoldsBut 
   pub mark-bits : (i : ℕ) → i < capacityOf g 0 → word ws (marksStart g + i) < 2 ^ g .b
   mark-bits i h =
       let z : 0 + i ≡ i = omega arith in
-      ltb-true _ _ (subst (λ (x : ℕ). ltb (word ws (marksStart g + x)) (2 ^ g .b) ≡ true) z (all-each (λ (i : ℕ). ltb (word ws (marksStart g + i)) (2 ^ g .b)) 0 (capacityOf g 0) i marks-low h))
+      ltb-true _ _ (subst (λ (x : ℕ). ltb (word ws (marksStart g + x)) (2 ^ g .b) ≡ true) z (all-each-at (λ (i : ℕ). ltb (word ws (marksStart g + i)) (2 ^ g .b)) (λ (i : ℕ). i) 0 (capacityOf g 0) marks-low i h))
 
   top-is : Every (BlockFits g) (allBlocks (t .levels)) → topRecs g ws ≡ t .top
   top-is f = but-top-read g ws t v f k fits
@@ -106,7 +94,7 @@ module _ (g : Geometry) (ws : List ℕ) (t : Store) (v : Valid g) (k : HoldsBut 
       let s = store-length-low g v in
       let us : List ℕ = putAt 8 (length rs ∷ []) ws in
       let u : us ≡ set ws 8 (length rs) = sym (set-put 8 (length rs) ws (omega arith)) in
-      let a : take 12 us ≡ set (take 12 ws) 8 (length rs) = ap (take 12) u ∙ take-set 12 ws 8 (length rs) in
+      let a : take 12 us ≡ set (take 12 ws) 8 (length rs) = ap (take 12) u ∙ take-set-lt 12 ws 8 (length rs) (omega arith) in
       let e = top-end g in
       let z : 12 + length (topWords g rs) ≡ listStart g 1 = omega arith in
       let d : drop (12 + length (topWords g rs)) us ≡ drop (listStart g 1) ws = put-drop 8 (12 + length (topWords g rs)) (length rs ∷ []) ws (omega arith) (omega arith) ∙ ap (λ (x : ℕ). drop x ws) z in
@@ -234,7 +222,7 @@ module _ (e t : Store) (g : Geometry) (ws : List ℕ) (used : List Bool) (list :
         let ls : Settled = lowerAfter g 0 (allocationOf t) (cutOf g 0 (blocksOf g 0 t) (blocksOf g 1 t)) in
         let s = same-top g ws' between v held-between top-fits (x .top) gap-short in
         let q = words-are w ws2 ew e2 in
-        let hu : getD (x .levels) 0 [] ≡ ls .level = set-here [] (t .levels) 0 (ls .level) (omega (arith, within .many, v .ranged .h-low)) in
+        let hu : getD (x .levels) 0 [] ≡ ls .level = getD-set-same (t .levels) 0 (ls .level) [] (omega (arith, within .many, v .ranged .h-low)) in
         let f = inside-fit g e x (k .facts .finish-inside) in
         rw eu
         (record {

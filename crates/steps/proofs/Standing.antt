@@ -4,14 +4,13 @@ use mathlib.Core.Path.{_≡_, refl, sym, ap, _∙_, subst}
 use mathlib.Core.Bool.{Bool}
 use mathlib.Core.List.{List, [], _∷_, _++_, map, List·Memᴰ}
 use mathlib.Core.Logic.{dite}
-use mathlib.Core.Option.{some}
 use native.Mathlib.Decide.{decLt}
 use native.Mathlib.Omega.{arith}
 use lib.ListN.{length, take, getD, length-map, List·getD-eq-default}
-use lib.Seq.{take-append-seam}
+use lib.Seq.{take-append-seam, getD-take}
 use Rattle.geometry.specs.declared.Geometry.{Geometry}
 use Rattle.geometry.specs.Geometry.{Valid, topCapacityOf}
-use Rattle.geometry.proofs.Laws.{level-high, place-inside}
+use Rattle.geometry.proofs.Laws.{level-high}
 use Rattle.levels.specs.Basics.{member}
 use Rattle.levels.specs.Record.{Block, Level}
 use Rattle.levels.specs.Place.{placesOf, inUse}
@@ -23,11 +22,11 @@ use Rattle.levels.proofs.Every.{every-at, every-make, every-turn, every-both}
 use Rattle.levels.proofs.Entry.{blocks-at, inside-fit}
 use Rattle.words.specs.Layout.{recordCount, topSlots, topRecs, blockAt, placeOf, blockWords, areaOf, placeWords}
 use Rattle.words.proofs.Slots.{mark-low, padRecs}
-use Rattle.words.proofs.Blocks.{place-words, place-of, place-below, count-read, mark-read, block-read}
+use Rattle.words.proofs.Blocks.{place-words, place-below, count-read, mark-read}
 use Rattle.words.proofs.Top.{top-read}
 use Rattle.words.proofs.Lists.{blocks-back}
 use Rattle.words.proofs.Laid.{places-are, in-use-are, member-map}
-use Rattle.words.proofs.State.{top-inside}
+use Rattle.words.proofs.State.{top-inside, blocks-standing}
 use Rattle.lists.specs.Holds.{HoldsBut}
 use Rattle.lists.proofs.Laws.{placesIn}
 use Rattle.lists.proofs.Arrays.{three-places}
@@ -46,12 +45,6 @@ every-entry P (x ∷ xs) h (suc k) l = every-entry P xs (h .1) k (omega arith)
 every-places : (P : ℕ → Type 0) (bs : Level) → Every (λ b. P (placeOf b)) bs → Every P (map placeOf bs)
 every-places P [] h = tt
 every-places P (b ∷ bs) h = (h .0, every-places P bs (h .1))
-
-take-word : (n : ℕ) (xs : List ℕ) (k : ℕ) → k < n → getD (take n xs) k 0 ≡ getD xs k 0
-take-word zero xs k h = absurd (omega arith)
-take-word (suc n) [] k h = refl
-take-word (suc n) (x ∷ xs) zero h = refl
-take-word (suc n) (x ∷ xs) (suc k) h = take-word n xs k (omega arith)
 
 levels-back : (g : Geometry) (ws : List ℕ) (ls : List Level) → Every (λ b. blockAt g ws (placeOf b) ≡ b) (allBlocks ls) → map (λ (l : List ℕ). map (blockAt g ws) l) (placesIn ls) ≡ ls
 levels-back g ws ls h = go ls (λ j. blocks-at (λ b. blockAt g ws (placeOf b) ≡ b) ls j h)
@@ -73,14 +66,8 @@ used-three (p ∷ q ∷ r ∷ s ∷ ls) x y z l a b c = absurd (omega arith)
 
 -- Words that hold t but for lists and counts.
 module _ (g : Geometry) (ws : List ℕ) (t : Store) (v : Valid g) (f : Every (BlockFits g) (allBlocks (t .levels))) (k : HoldsBut g ws t) where
-  standing-at : (b : Block) → BlockFits g b → placeWords g (areaOf g ws) (placeOf b) ≡ blockWords g (b .recs) → blockAt g ws (placeOf b) ≡ b
-  standing-at b h e =
-      block-read g ws (placeOf b) (b .recs) (h .fits) (sym (place-words g ws (placeOf b)) ∙ e) (rw (k .long) (place-inside g (place-below b h)))
-      ∙ (let p = ap some (place-of b h) ∙ sym (h .placed-at) in λ i. record { place = p i; recs = b .recs })
-
-  pub but-blocks : Every (λ b. blockAt g ws (placeOf b) ≡ b) (allBlocks (t .levels))
-  but-blocks =
-      every-both (BlockFits g) (λ b. placeWords g (areaOf g ws) (placeOf b) ≡ blockWords g (b .recs)) (λ b. blockAt g ws (placeOf b) ≡ b) (allBlocks (t .levels)) standing-at f (k .laid .standing)
+  but-blocks : Every (λ b. blockAt g ws (placeOf b) ≡ b) (allBlocks (t .levels))
+  but-blocks = blocks-standing g ws (k .long) (allBlocks (t .levels)) f (k .laid .standing)
 
   -- level 0's records are read back
   pub but-top-read : length (t .top) ≤ topCapacityOf g → topRecs g ws ≡ t .top
@@ -95,7 +82,7 @@ module _ (g : Geometry) (ws : List ℕ) (t : Store) (v : Valid g) (f : Every (Bl
       let b = every-places P (getD (t .levels) j []) (blocks-at (λ b. P (placeOf b)) (t .levels) j a) in
       let c : Every P (take n list) = rw (l .places) b in
       let w : n ≡ length (take n list) = l .count ∙ sym (ap length (l .places) ∙ length-map (getD (t .levels) j []) placeOf) in
-      subst P (take-word n list i h) (every-entry P (take n list) c i (omega (arith, w)))
+      subst P (getD-take n list i 0 h) (every-entry P (take n list) c i (omega (arith, w)))
 
   -- each listed block can be read and merged
   module _ (used : List Bool) (m : Marks used (usedIn t)) where
