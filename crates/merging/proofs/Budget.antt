@@ -12,9 +12,10 @@ use Rattle.blocks.specs.declared.Layout.{Layout}
 use Rattle.blocks.specs.declared.Buffer.{Buffer}
 use Rattle.blocks.specs.Blocks.{bufferOf}
 use Rattle.sides.specs.declared.Chunk.{Chunk}
+use Rattle.stream.specs.declared.Move.{Move}
 use Rattle.stream.specs.declared.Inputs.{Inputs}
 use Rattle.sides.specs.Sides.{chunkOf, headAt, noHead, lastSize, first}
-use Rattle.stream.specs.Machine.{Memory, turn, idle, turns}
+use Rattle.stream.specs.Machine.{Memory, chosen, emitted, turn, idle, turns}
 use Rattle.levels.proofs.Basics.{if-either}
 use Rattle.stream.proofs.Laws.{idle-of}
 use Rattle.merging.specs.Contract.{countMarks}
@@ -26,7 +27,7 @@ use Rattle.merging.proofs.Paid.{Paid, upper-paid, lower-paid, both-paid
 
 -- a step keeps the potential
 pub turn-paid : (z : Layout) (t : Inputs) (xs ys : List ℕ) (s : Memory) (o : Out) (a : Memory) → Core z t xs ys o a → Paid z t s a → idle z t xs ys a ≡ false → Paid z t s (turn z t xs ys a)
-unfolding turn
+unfolding turn chosen
 turn-paid z t xs ys s o a c p idles = go (decLt (a .st .x .i) (t .x)) (decLt (a .st .y .i) (t .y))
   where
     x : Chunk
@@ -37,6 +38,9 @@ turn-paid z t xs ys s o a c p idles = go (decLt (a .st .x .i) (t .x)) (decLt (a 
 
     e : ℕ
     e = lastSize z (a .words) (a .out) (a .st .m)
+
+    Pays : Move → Type 0
+    Pays m = Paid z t s (emitted z (t .bottom) a m)
 
     go : Dec (a .st .x .i < t .x) → Dec (a .st .y .i < t .y) → Paid z t s (turn z t xs ys a)
     go (no nx) (no ny) = absurd (true≢false (sym (idle-of z t xs ys a (omega arith) (omega arith)) ∙ idles))
@@ -52,8 +56,8 @@ turn-paid z t xs ys s o a c p idles = go (decLt (a .st .x .i) (t .x)) (decLt (a 
         let kx = headAt (a .words) x (a .st .x .j) in
         let ky = headAt (a .words) y (a .st .y .j) in
         rw (head-at z (t .pages) (a .words) xs (a .st .x .i) (a .st .x .j) (t .x) gx, head-at z false (a .words) ys (a .st .y .i) (a .st .y .j) (t .y) gy)
-        (if-either (Paid z t s) (first ky kx) _ _ (lower-paid z t s a p (t .bottom) y kx e hy gy (c .lower .inside gy))
-        (if-either (Paid z t s) (first kx ky) _ _ (upper-paid z t s a p (t .bottom) x ky e hx gx (c .upper .inside gx))
+        (if-either Pays (first ky kx) _ _ (lower-paid z t s a p (t .bottom) y kx e hy gy (c .lower .inside gy))
+        (if-either Pays (first kx ky) _ _ (upper-paid z t s a p (t .bottom) x ky e hx gx (c .upper .inside gx))
         (both-paid z t s a p (t .bottom) x y kx hx hy gx (c .upper .inside gx) gy (c .lower .inside gy))))
 
 -- what a merge starts with: nothing written, nothing begun, room and free places for its inputs

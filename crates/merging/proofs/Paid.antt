@@ -9,7 +9,7 @@ use native.Mathlib.Omega.{arith}
 use lib.Dec.{ltb, leb, eqb}
 use lib.ListN.{getD, set}
 use lib.Seq.{getD-set-other}
-use borrow.Author.Tests.{leb-true, leb-false, eqb-true}
+use borrow.Author.Tests.{leb-true, eqb-true}
 use Rattle.levels.specs.Basics.{if_then_else_}
 use Rattle.words.specs.Layout.{bit}
 use Rattle.blocks.specs.declared.Layout.{Layout}
@@ -106,10 +106,10 @@ onList b r = if r then 2 * b else 1
 abbrev onPlaces : ℕ → Bool → ℕ
 onPlaces b r = if r then b else 1
 
-emit-spent : (z : Layout) (a : Memory) (bottom : Bool) (h : Head) (r : Bool) → Spent z a (emitted z bottom a h r) (onList (z .b) r) (onPlaces (z .b) r)
+emit-spent : (z : Layout) (a : Memory) (bottom : Bool) (x y : Spot) (h : Head) (r : Bool) → Spent z (moved a x y) (emitted z bottom a (record { x = x; y = y; head = h; whole = r })) (onList (z .b) r) (onPlaces (z .b) r)
 unfolding emitted
-emit-spent z a bottom h true = reuse-spent z a (h .place)
-emit-spent z a bottom h false = gather-spent z a bottom h
+emit-spent z a bottom x y h true = reuse-spent z (moved a x y) (h .place)
+emit-spent z a bottom x y h false = gather-spent z (moved a x y) bottom h
 
 -- what has been paid for since memory s
 pub record Paid (z : Layout) (t : Inputs) (s a : Memory) : Type 0 where
@@ -168,26 +168,26 @@ module _ (z : Layout) (t : Inputs) (s a : Memory) (p : Paid z t s a) where
 
   module _ (bottom : Bool) where
     pub upper-paid : (c : Chunk) (o : Head) (e : ℕ) → c .n ≤ z .b → a .st .x .i < t .x → a .st .x .j < c .n → let h = headAt (a .words) c (a .st .x .j) in let r = follows z bottom h o (a .st .buf .n) e in
-        Paid z t s (emitted z bottom (moved a (spotAfter (a .st .x) (c .n) r) (a .st .y)) h r)
+        Paid z t s (emitted z bottom a (record { x = spotAfter (a .st .x) (c .n) r; y = a .st .y; head = h; whole = r }))
     upper-paid c o e hi g j =
         let h = headAt (a .words) c (a .st .x .j) in
         let r = follows z bottom h o (a .st .buf .n) e in
         let v = spotAfter (a .st .x) (c .n) r in
-        paid-by v (a .st .y) (emitted z bottom (moved a v (a .st .y)) h r) (onList (z .b) r) (onPlaces (z .b) r) (onList (z .b) r) (onPlaces (z .b) r) 0 0
-        (after-far (z .b) (t .x) (a .st .x) (c .n) r g j hi (follows-start z bottom (a .words) c (a .st .x .j) o (a .st .buf .n) e)) (stay-far (z .b) (t .y) (a .st .y) (p .y-end)) (omega arith) (omega arith) (emit-spent z (moved a v (a .st .y)) bottom h r)
+        paid-by v (a .st .y) _ (onList (z .b) r) (onPlaces (z .b) r) (onList (z .b) r) (onPlaces (z .b) r) 0 0
+        (after-far (z .b) (t .x) (a .st .x) (c .n) r g j hi (follows-start z bottom (a .words) c (a .st .x .j) o (a .st .buf .n) e)) (stay-far (z .b) (t .y) (a .st .y) (p .y-end)) (omega arith) (omega arith) (emit-spent z a bottom v (a .st .y) h r)
 
     pub lower-paid : (c : Chunk) (o : Head) (e : ℕ) → c .n ≤ z .b → a .st .y .i < t .y → a .st .y .j < c .n → let h = headAt (a .words) c (a .st .y .j) in let r = follows z bottom h o (a .st .buf .n) e in
-        Paid z t s (emitted z bottom (moved a (a .st .x) (spotAfter (a .st .y) (c .n) r)) h r)
+        Paid z t s (emitted z bottom a (record { x = a .st .x; y = spotAfter (a .st .y) (c .n) r; head = h; whole = r }))
     lower-paid c o e hi g j =
         let h = headAt (a .words) c (a .st .y .j) in
         let r = follows z bottom h o (a .st .buf .n) e in
         let v = spotAfter (a .st .y) (c .n) r in
-        paid-by (a .st .x) v (emitted z bottom (moved a (a .st .x) v) h r) (onList (z .b) r) (onPlaces (z .b) r) 0 0 (onList (z .b) r) (onPlaces (z .b) r)
-        (stay-far (z .b) (t .x) (a .st .x) (p .x-end)) (after-far (z .b) (t .y) (a .st .y) (c .n) r g j hi (follows-start z bottom (a .words) c (a .st .y .j) o (a .st .buf .n) e)) (omega arith) (omega arith) (emit-spent z (moved a (a .st .x) v) bottom h r)
+        paid-by (a .st .x) v _ (onList (z .b) r) (onPlaces (z .b) r) 0 0 (onList (z .b) r) (onPlaces (z .b) r)
+        (stay-far (z .b) (t .x) (a .st .x) (p .x-end)) (after-far (z .b) (t .y) (a .st .y) (c .n) r g j hi (follows-start z bottom (a .words) c (a .st .y .j) o (a .st .buf .n) e)) (omega arith) (omega arith) (emit-spent z a bottom (a .st .x) v h r)
 
-    pub both-paid : (c d : Chunk) (h : Head) → c .n ≤ z .b → d .n ≤ z .b → a .st .x .i < t .x → a .st .x .j < c .n → a .st .y .i < t .y → a .st .y .j < d .n → Paid z t s (emitted z bottom (moved a (spotAfter (a .st .x) (c .n) false) (spotAfter (a .st .y) (d .n) false)) h false)
+    pub both-paid : (c d : Chunk) (h : Head) → c .n ≤ z .b → d .n ≤ z .b → a .st .x .i < t .x → a .st .x .j < c .n → a .st .y .i < t .y → a .st .y .j < d .n → Paid z t s (emitted z bottom a (record { x = spotAfter (a .st .x) (c .n) false; y = spotAfter (a .st .y) (d .n) false; head = h; whole = false }))
     both-paid c d h hc hd gx jx gy jy =
         let v = spotAfter (a .st .x) (c .n) false in
         let w = spotAfter (a .st .y) (d .n) false in
-        paid-by v w (emitted z bottom (moved a v w) h false) 1 1 1 1 1 1
-        (after-far (z .b) (t .x) (a .st .x) (c .n) false gx jx hc (λ e. absurd (true≢false (sym e)))) (after-far (z .b) (t .y) (a .st .y) (d .n) false gy jy hd (λ e. absurd (true≢false (sym e)))) (omega arith) (omega arith) (emit-spent z (moved a v w) bottom h false)
+        paid-by v w _ 1 1 1 1 1 1
+        (after-far (z .b) (t .x) (a .st .x) (c .n) false gx jx hc (λ e. absurd (true≢false (sym e)))) (after-far (z .b) (t .y) (a .st .y) (d .n) false gy jy hd (λ e. absurd (true≢false (sym e)))) (omega arith) (omega arith) (emit-spent z a bottom v w h false)

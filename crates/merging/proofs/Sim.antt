@@ -9,7 +9,7 @@ use native.Mathlib.Omega.{arith}
 use lib.Dec.{ltb, leb, eqb}
 use lib.ListN.{length, getD, set, length-append}
 use lib.Seq.{getD-set-same}
-use borrow.Author.Tests.{le-leb, lt-leb, leb-true, leb-false, eqb-true, eqb-false, ltb-true, ltb-false}
+use borrow.Author.Tests.{le-leb, lt-leb, leb-true, eqb-true, eqb-false, ltb-true, ltb-false}
 use Rattle.levels.specs.Basics.{if_then_else_}
 use Rattle.levels.specs.Record.{Rec, Block, Level, new, size, placed}
 use Rattle.levels.specs.Merge.{Out, State, headRec, reusable, flush, rest, reuse, gather, fromUpper, fromLower, fromBoth, step}
@@ -19,9 +19,10 @@ use Rattle.blocks.proofs.Laws.{free-found}
 use Rattle.sides.specs.declared.Chunk.{Chunk}
 use Rattle.sides.specs.declared.Head.{Head}
 use Rattle.stream.specs.declared.Spot.{Spot}
+use Rattle.stream.specs.declared.Move.{Move}
 use Rattle.stream.specs.declared.Inputs.{Inputs}
 use Rattle.sides.specs.Sides.{blockChunk, chunkOf, headOf, headAt, noHead, lastSize, follows}
-use Rattle.stream.specs.Machine.{Memory, flushed, append, gathered, reused, emitted, withProgress, withBuffer, spotAfter, moved, turn, idle}
+use Rattle.stream.specs.Machine.{Memory, flushed, append, gathered, reused, emitted, withProgress, withBuffer, spotAfter, moved, chosen, turn, idle}
 use Rattle.levels.proofs.Basics.{and-left, and-right}
 use Rattle.stream.proofs.Laws.{flushed-m, after-one, idle-of}
 use Rattle.merging.proofs.Relation.{nextFree, Holds, Stands, SideAt, LastIs, Core, Budget, Sim}
@@ -38,7 +39,7 @@ moved-holds : (z : Layout) (d : Flash) (o : Out) (a : Memory) (x y : Spot) → H
 moved-holds z d o a x y h = record { buf = h .buf; flash = h .flash; last = h .last }
 
 -- the side that comes first, in both readings
-three : (P : State → Memory → Type 0) (fx fy kx ky : ℕ) → kx ≡ fx → ky ≡ fy → (sl su sb : State) (wl wu wb : Memory) → P sl wl → P su wu → P sb wb
+three : (P : State → Move → Type 0) (fx fy kx ky : ℕ) → kx ≡ fx → ky ≡ fy → (sl su sb : State) (wl wu wb : Move) → P sl wl → P su wu → P sb wb
     → P (if ltb fy fx then sl else if eqb fy fx then sb else su) (if ltb ky kx then wl else if ltb kx ky then wu else wb)
 three P fx fy kx ky ex ey sl su sb wl wu wb pl pu pb = rw (ex, ey) (go (ltb fy fx) (eqb fy fx) (ltb fx fy) refl refl refl)
   where
@@ -201,7 +202,8 @@ module _ (z : Layout) (t : Inputs) (xs ys : List ℕ) (d : Flash) where
           (append-holds z d b q (flush (o .buffer) (o .done)) f room (ap (λ (e : Block). e .place) (p .is)) (count-kept z here f (c .sized) (kf .same) q (p .taken) ∙ n) (flush-holds z d o here fit (moved-holds z d o a x y hs)))
 
       -- the block is reused if r, else its next record is gathered
-      emit-step : (r : Bool) → (r ≡ true → Placed z (a .words) (a .used) (h .place) b) → h .tombstone < 2 → Both (record { upper = u; lower = l; out = put (z .b) bottom r b o }) (emitted z bottom here h r)
+      emit-step : (r : Bool) → (r ≡ true → Placed z (a .words) (a .used) (h .place) b) → h .tombstone < 2
+          → Both (record { upper = u; lower = l; out = put (z .b) bottom r b o }) (emitted z bottom a (record { x = x; y = y; head = h; whole = r }))
       unfolding emitted
       emit-step true p m = reuse-step (h .place) (p refl)
       emit-step false p m = gather-step m
@@ -217,30 +219,30 @@ module _ (z : Layout) (t : Inputs) (xs ys : List ℕ) (d : Flash) where
 
     module _ (gx : a .st .x .i < t .x) where
       upper-step : (i : Head) (l : Level) → l ≡ side z false (a .words) ys (a .st .y .i) (a .st .y .j) (t .y) → Sees i l → let h = head (c .upper) gx in let r = whole h i in
-          Both (fromUpper (z .b) (t .bottom) (top (c .upper) gx) (behind (c .upper) gx) l o) (emitted z (t .bottom) (moved a (spotAfter (a .st .x) (h .n) r) (a .st .y)) h r)
+          Both (fromUpper (z .b) (t .bottom) (top (c .upper) gx) (behind (c .upper) gx) l o) (emitted z (t .bottom) a (record { x = spotAfter (a .st .x) (h .n) r; y = a .st .y; head = h; whole = r }))
       upper-step i l el e =
           let k = c .upper in
           let h = head k gx in
           let b = top k gx in
           let r = reusable (z .b) (t .bottom) o l b in
           rw (test h i b l (shows k gx) e)
-          (subst (λ (s : State). Both s (emitted z (t .bottom) (moved a (spotAfter (a .st .x) (h .n) r) (a .st .y)) h r)) (sym (from-upper (z .b) (t .bottom) b (behind k gx) l o))
+          (subst (λ (s : State). Both s (emitted z (t .bottom) a (record { x = spotAfter (a .st .x) (h .n) r; y = a .st .y; head = h; whole = r }))) (sym (from-upper (z .b) (t .bottom) b (behind k gx) l o))
           (emit-step o a (spotAfter (a .st .x) (h .n) r) (a .st .y) c g hs (after-at k gx r) (c .lower) (t .bottom) h b (shows k gx) (past r b (behind k gx)) l (after-side k gx r) el r (λ f. found k gx (placed-of (z .b) (t .bottom) o l b f)) (bit-low k gx)))
 
     module _ (gy : a .st .y .i < t .y) where
       lower-step : (i : Head) (l : Level) → l ≡ side z (t .pages) (a .words) xs (a .st .x .i) (a .st .x .j) (t .x) → Sees i l → let h = head (c .lower) gy in let r = whole h i in
-          Both (fromLower (z .b) (t .bottom) (top (c .lower) gy) (behind (c .lower) gy) l o) (emitted z (t .bottom) (moved a (a .st .x) (spotAfter (a .st .y) (h .n) r)) h r)
+          Both (fromLower (z .b) (t .bottom) (top (c .lower) gy) (behind (c .lower) gy) l o) (emitted z (t .bottom) a (record { x = a .st .x; y = spotAfter (a .st .y) (h .n) r; head = h; whole = r }))
       lower-step i l el e =
           let k = c .lower in
           let h = head k gy in
           let b = top k gy in
           let r = reusable (z .b) (t .bottom) o l b in
           rw (test h i b l (shows k gy) e)
-          (subst (λ (s : State). Both s (emitted z (t .bottom) (moved a (a .st .x) (spotAfter (a .st .y) (h .n) r)) h r)) (sym (from-lower (z .b) (t .bottom) b (behind k gy) l o))
+          (subst (λ (s : State). Both s (emitted z (t .bottom) a (record { x = a .st .x; y = spotAfter (a .st .y) (h .n) r; head = h; whole = r }))) (sym (from-lower (z .b) (t .bottom) b (behind k gy) l o))
           (emit-step o a (a .st .x) (spotAfter (a .st .y) (h .n) r) c g hs (c .upper) (after-at k gy r) (t .bottom) h b (shows k gy) l (past r b (behind k gy)) el (after-side k gy r) r (λ f. found k gy (placed-of (z .b) (t .bottom) o l b f)) (bit-low k gy)))
 
     both-step : (gx : a .st .x .i < t .x) (gy : a .st .y .i < t .y) → let h = head (c .upper) gx in let i = head (c .lower) gy in
-        Both (fromBoth (z .b) (t .bottom) (top (c .upper) gx) (behind (c .upper) gx) (top (c .lower) gy ∷ behind (c .lower) gy) o) (emitted z (t .bottom) (moved a (spotAfter (a .st .x) (h .n) false) (spotAfter (a .st .y) (i .n) false)) h false)
+        Both (fromBoth (z .b) (t .bottom) (top (c .upper) gx) (behind (c .upper) gx) (top (c .lower) gy ∷ behind (c .lower) gy) o) (emitted z (t .bottom) a (record { x = spotAfter (a .st .x) (h .n) false; y = spotAfter (a .st .y) (i .n) false; head = h; whole = false }))
     both-step gx gy =
         let k = c .upper in
         let l = c .lower in
@@ -249,7 +251,7 @@ module _ (z : Layout) (t : Inputs) (xs ys : List ℕ) (d : Flash) where
 
   -- one step on words is one step on blocks
   pub sim-step : (s : State) (a : Memory) → Core z t xs ys (s .out) a → Budget z a → Sim z t xs ys d s a → idle z t xs ys a ≡ false → Both (step (z .b) (t .bottom) s) (turn z t xs ys a)
-  unfolding turn
+  unfolding turn chosen
   sim-step s a c g m idles = go (decLt (a .st .x .i) (t .x)) (decLt (a .st .y .i) (t .y))
     where
       go : Dec (a .st .x .i < t .x) → Dec (a .st .y .i < t .y) → Both (step (z .b) (t .bottom) s) (turn z t xs ys a)
@@ -270,7 +272,7 @@ module _ (z : Layout) (t : Inputs) (xs ys : List ℕ) (d : Flash) where
           let wx = shows (c .upper) gx in
           let wy = shows (c .lower) gy in
           rw (m .upper ∙ cu, m .lower ∙ cl, head-at z (t .pages) (a .words) xs (a .st .x .i) (a .st .x .j) (t .x) gx, head-at z false (a .words) ys (a .st .y .i) (a .st .y .j) (t .y) gy)
-          (three Both _ _ _ _ (wx .key) (wy .key) _ _ _ _ _ _
+          (three (λ (r : State) (m : Move). Both r (emitted z (t .bottom) a m)) _ _ _ _ (wx .key) (wy .key) _ _ _ _ _ _
           (lower-step (s .out) a c g (m .out) gy _ _ (sym cu) (block wx))
           (upper-step (s .out) a c g (m .out) gx _ _ (sym cl) (block wy))
           (both-step (s .out) a c g (m .out) gx gy))

@@ -11,11 +11,10 @@ use Rattle.levels.specs.Merge.{Out, step, joinLeft, join}
 use Rattle.blocks.specs.declared.Layout.{Layout}
 use Rattle.blocks.specs.Blocks.{Free}
 use Rattle.blocks.proofs.Laws.{free-found}
-use Rattle.sides.specs.declared.Head.{Head}
-use Rattle.stream.specs.declared.Spot.{Spot}
+use Rattle.stream.specs.declared.Move.{Move}
 use Rattle.stream.specs.declared.Inputs.{Inputs}
-use Rattle.sides.specs.Sides.{blockChunk, chunkOf, first, follows, headOf, lastSize}
-use Rattle.stream.specs.Machine.{Memory, reused, emitted, movedTo, moved, spotAfter, turn, idle, turns}
+use Rattle.sides.specs.Sides.{blockChunk, chunkOf}
+use Rattle.stream.specs.Machine.{Memory, gathered, reused, emitted, movedTo, moved, turn, idle, turns}
 use Rattle.levels.proofs.Basics.{if-either}
 use Rattle.stream.proofs.Laws.{idle-ends}
 use Rattle.joins.specs.Joins.{closed}
@@ -30,30 +29,18 @@ pub same-next : (z : Layout) (a b c : Memory) → Same z a b → Same z b c → 
 same-next z a b c k l =
     record { words = λ q u j h. l .words q (k .used q u) j h ∙ k .words q u j h; low = λ i h. l .low i h ∙ k .low i h; used = λ q u. l .used q (k .used q u) }
 
-emit-same : (z : Layout) (bottom : Bool) (a : Memory) (h : Head) (r : Bool) → Free (a .used) (nextFree z a) → Same z a (emitted z bottom a h r)
+emit-same : (z : Layout) (bottom : Bool) (a : Memory) (c : Move) → Free (a .used) (nextFree z a) → Same z a (emitted z bottom a c)
 unfolding emitted reused
-emit-same z bottom a h true f = let k = flush-kept z a f .same in record { words = k .words; low = k .low; used = k .used }
-emit-same z bottom a h false f = gather-kept z bottom a h f .same
+emit-same z bottom a c f =
+    let b : Memory = moved a (c .x) (c .y) in
+    let k = flush-kept z b f .same in
+    if-either (Same z a) (c .whole) (reused z b (c .head .place)) (gathered z bottom b (c .head)) (record { words = k .words; low = k .low; used = k .used })
+    (same-from z a (gathered z bottom b (c .head)) (movedTo (a .st) (c .x) (c .y)) (gather-kept z bottom b (c .head) f .same))
 
 module _ (z : Layout) (t : Inputs) (xs ys : List ℕ) where
   turn-same : (a : Memory) → Free (a .used) (nextFree z a) → Same z a (turn z t xs ys a)
   unfolding turn
-  turn-same a f =
-      if-either (Same z a) (first y x) _ _ (on (a .st .x) (spotAfter (a .st .y) (y .n) (whole y x)) y (whole y x))
-      (if-either (Same z a) (first x y) _ _ (on (spotAfter (a .st .x) (x .n) (whole x y)) (a .st .y) x (whole x y))
-      (on (spotAfter (a .st .x) (x .n) false) (spotAfter (a .st .y) (y .n) false) x false))
-    where
-      x : Head
-      x = headOf z (t .pages) (a .words) xs (a .st .x .i) (a .st .x .j) (t .x)
-
-      y : Head
-      y = headOf z false (a .words) ys (a .st .y .i) (a .st .y .j) (t .y)
-
-      whole : Head → Head → Bool
-      whole h o = follows z (t .bottom) h o (a .st .buf .n) (lastSize z (a .words) (a .out) (a .st .m))
-
-      on : (p q : Spot) (h : Head) (r : Bool) → Same z a (emitted z (t .bottom) (moved a p q) h r)
-      on p q h r = same-from z a (emitted z (t .bottom) (moved a p q) h r) (movedTo (a .st) p q) (emit-same z (t .bottom) (moved a p q) h r f)
+  turn-same a f = emit-same z (t .bottom) a _ f
 
   pub turns-same : (n : ℕ) (a : Memory) → ((i : ℕ) → i < n → Free (turns z t xs ys i a .used) (nextFree z (turns z t xs ys i a))) → Same z a (turns z t xs ys n a)
   unfolding turns

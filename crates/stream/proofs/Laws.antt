@@ -11,11 +11,12 @@ use Rattle.levels.proofs.Basics.{and-left, and-right, if-either}
 use Rattle.blocks.specs.declared.Layout.{Layout}
 use Rattle.blocks.specs.Blocks.{nextMark}
 use Rattle.sides.specs.declared.Head.{Head}
-use Rattle.sides.specs.Sides.{headOf, lastSize, first, follows}
+use Rattle.sides.specs.Sides.{HeadOk, first}
 use Rattle.stream.specs.declared.Spot.{Spot}
 use Rattle.stream.specs.declared.Progress.{Progress}
+use Rattle.stream.specs.declared.Move.{Move}
 use Rattle.stream.specs.declared.Inputs.{Inputs}
-use Rattle.stream.specs.Machine.{Memory, Movable, spotAfter, movedTo, moved, flushed, writtenAt, emitted, stepWith, turn, turns, idle}
+use Rattle.stream.specs.Machine.{Memory, Movable, spotAfter, movedTo, chosen, flushed, writtenAt, turn, turns, idle}
 
 pub flushed-m : (z : Layout) (a : Memory) → flushed z a .st .m ≤ a .st .m + 1
 unfolding flushed
@@ -81,18 +82,6 @@ moved-movable z xs used w x y k =
       room = k .room;
     }
 
--- A step, by the side that comes first: x and y are what the two sides read, e is the size of the last block, r says whether the block is reused.
-module _ (z : Layout) (t : Inputs) (xs ys : List ℕ) (a : Memory) (x y : Head) (e : ℕ)
-    (ex : x ≡ headOf z (t .pages) (a .words) xs (a .st .x .i) (a .st .x .j) (t .x)) (ey : y ≡ headOf z false (a .words) ys (a .st .y .i) (a .st .y .j) (t .y)) (ee : e ≡ lastSize z (a .words) (a .out) (a .st .m)) where
-  turn-with : stepWith z t xs ys a x y e ≡ turn z t xs ys a
-  unfolding turn
-  turn-with = rw (ex, ey, ee)
-
-  pub turn-lower : (r : Bool) → r ≡ follows z (t .bottom) y x (a .st .buf .n) e → first y x ≡ true → emitted z (t .bottom) (moved a (a .st .x) (spotAfter (a .st .y) (y .n) r)) y r ≡ turn z t xs ys a
-  turn-lower r er f = rw er (sym (if-true (first y x) _ _ f) ∙ turn-with)
-
-  pub turn-upper : (r : Bool) → r ≡ follows z (t .bottom) x y (a .st .buf .n) e → first y x ≡ false → first x y ≡ true → emitted z (t .bottom) (moved a (spotAfter (a .st .x) (x .n) r) (a .st .y)) x r ≡ turn z t xs ys a
-  turn-upper r er f g = rw er (sym (if-false (first y x) _ _ f ∙ if-true (first x y) _ _ g) ∙ turn-with)
-
-  pub turn-both : first y x ≡ false → first x y ≡ false → emitted z (t .bottom) (moved a (spotAfter (a .st .x) (x .n) false) (spotAfter (a .st .y) (y .n) false)) x false ≡ turn z t xs ys a
-  turn-both f g = sym (if-false (first y x) _ _ f ∙ if-false (first x y) _ _ g) ∙ turn-with
+pub chosen-ok : (z : Layout) (bottom : Bool) (p q : Spot) (x y : Head) (n e : ℕ) → HeadOk x → HeadOk y → HeadOk (chosen z bottom p q x y n e .head)
+unfolding chosen
+chosen-ok z bottom p q x y n e kx ky = if-either (λ (c : Move). HeadOk (c .head)) (first y x) _ _ ky (if-either (λ (c : Move). HeadOk (c .head)) (first x y) _ _ kx kx)

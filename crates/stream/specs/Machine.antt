@@ -1,6 +1,7 @@
 -- The merge as a machine over the words, the marks, the new list and a few numbers: what the code does, step by step.
 use Prim.Native.Nat.{ℕ, zero, suc, _+_, _^_, _≤_, _<_}
-use mathlib.Core.Bool.{Bool, true, false, _&&_, _||_}
+use mathlib.Core.Path.{_≡_}
+use mathlib.Core.Bool.{Bool, true, false, not, _&&_, _||_}
 use mathlib.Core.List.{List}
 use lib.Dec.{leb, eqb}
 use lib.ListN.{getD, set}
@@ -9,9 +10,10 @@ use Rattle.blocks.specs.declared.Layout.{Layout}
 use Rattle.blocks.specs.declared.Buffer.{Buffer}
 use Rattle.blocks.specs.Blocks.{Sized, SomeFree, nextMark, pushed, emptyBuffer, written}
 use Rattle.sides.specs.declared.Head.{Head}
-use Rattle.sides.specs.Sides.{Readable, headOf, lastSize, first, follows}
+use Rattle.sides.specs.Sides.{Readable, HeadOk, headOf, lastSize, first, follows}
 use Rattle.stream.specs.declared.Spot.{Spot}
 use Rattle.stream.specs.declared.Progress.{Progress}
+use Rattle.stream.specs.declared.Move.{Move}
 use Rattle.stream.specs.declared.Inputs.{Inputs}
 
 -- the words, the marks of places in use, the new list, and where the merge stands
@@ -84,9 +86,30 @@ movedTo w x y = record { x = x; y = y; m = w .m; writes = w .writes; cursor = w 
 abbrev pub moved : Memory → Spot → Spot → Memory
 moved a x y = withProgress a (movedTo (a .st) x y)
 
--- the block of h follows as it stands, or its next record is gathered
-unfoldable pub emitted : Layout → Bool → Memory → Head → Bool → Memory
-emitted z bottom a h whole = if whole then reused z a (h .place) else gathered z bottom a h
+-- The side whose record comes first moves on; of equal keys the upper record comes, and the lower is passed over.
+-- The buffer has n records, the last block e.
+unfoldable pub chosen : Layout → Bool → Spot → Spot → Head → Head → ℕ → ℕ → Move
+chosen z bottom p q x y n e =
+    let wholeX = follows z bottom x y n e in
+    let wholeY = follows z bottom y x n e in
+    if first y x then record { x = p; y = spotAfter q (y .n) wholeY; head = y; whole = wholeY }
+    else if first x y then record { x = spotAfter p (x .n) wholeX; y = q; head = x; whole = wholeX }
+    else record { x = spotAfter p (x .n) false; y = spotAfter q (y .n) false; head = x; whole = false }
+
+-- some side has a record, and stands at it
+pub record Choosable (z : Layout) (p q : Spot) (x y : Head) (n e : ℕ) : Type 0 where
+  pub cap : z .b ≤ 16
+  pub few : n ≤ 16
+  pub last : e < 2 ^ 32
+  pub upper : HeadOk x
+  pub lower : HeadOk y
+  pub in-x : x .some ≡ true → (p .i < 4096) × (p .j < 16)
+  pub in-y : y .some ≡ true → (q .i < 4096) × (q .j < 16)
+  pub either : (not (x .some) && not (y .some)) ≡ false
+
+-- the sides move on, and the block follows as it stands, or its next record is gathered
+unfoldable pub emitted : Layout → Bool → Memory → Move → Memory
+emitted z bottom a c = let b = moved a (c .x) (c .y) in if c .whole then reused z b (c .head .place) else gathered z bottom b (c .head)
 
 -- the merge can write and gather
 pub record Movable (z : Layout) (xs : List ℕ) (used : List Bool) (w : Progress) : Type 0 where
@@ -102,16 +125,8 @@ pub record Ready (z : Layout) (t : Inputs) (xs ys : List ℕ) (a : Memory) : Typ
   pub listed : (i : ℕ) → i < a .st .m → getD (a .out) i 0 < z .p
 
 module _ (z : Layout) (t : Inputs) (xs ys : List ℕ) where
-  -- Y's next record comes first, or X's; of equal keys the upper record is gathered, and the lower is passed over
   abbrev pub stepWith : Memory → Head → Head → ℕ → Memory
-  stepWith a x y e =
-      let p = a .st .x in
-      let q = a .st .y in
-      let wholeY = follows z (t .bottom) y x (a .st .buf .n) e in
-      let wholeX = follows z (t .bottom) x y (a .st .buf .n) e in
-      if first y x then emitted z (t .bottom) (moved a p (spotAfter q (y .n) wholeY)) y wholeY
-      else if first x y then emitted z (t .bottom) (moved a (spotAfter p (x .n) wholeX) q) x wholeX
-      else emitted z (t .bottom) (moved a (spotAfter p (x .n) false) (spotAfter q (y .n) false)) x false
+  stepWith a x y e = emitted z (t .bottom) a (chosen z (t .bottom) (a .st .x) (a .st .y) x y (a .st .buf .n) e)
 
   -- one step: a block is reused or a record is gathered
   unfoldable pub turn : Memory → Memory

@@ -2,9 +2,9 @@
 
 ghost use mathlib.Core.Path.{_≡_};
 ghost use mathlib.Core.Bool.{false};
-ghost use Prim.Native.Nat.{ℕ, _+_, _^_, _≤_, _<_};
+ghost use Prim.Native.Nat.{ℕ, _+_, _≤_, _<_};
 ghost use Rattle.sides.specs.Sides.{HeadOk};
-ghost use Rattle.stream.specs.Machine.{Memory, Flushable, Gatherable, Movable, Ready, flushed, reused, gathered, emitted, spotAfter, movedTo, turn, turns, idle};
+ghost use Rattle.stream.specs.Machine.{Memory, Flushable, Gatherable, Movable, Choosable, Ready, flushed, reused, gathered, spotAfter, movedTo, chosen, emitted, turn, turns, idle};
 use blocks::Buffer;
 use blocks::Layout;
 use sides::Head;
@@ -24,6 +24,15 @@ pub struct Progress {
     pub writes: usize,
     pub cursor: usize,
     pub buf: Buffer,
+}
+
+// What a step does: where X and Y stand then, the record that comes, and whether its whole block
+// follows as it stands.
+pub struct Move {
+    pub x: Spot,
+    pub y: Spot,
+    pub head: Head,
+    pub whole: bool,
 }
 
 // The ends of X and of Y in their lists, whether X is pages of level 0, whether the merge is into
@@ -141,7 +150,44 @@ impl Progress {
     }
 }
 
-// The block of h follows as it stands, or its next record is gathered.
+// The side whose record comes first moves on; of equal keys the upper record comes, and the lower is
+// passed over. The buffer has n records, the last block e.
+fn choose(z: Layout, bottom: bool, p: Spot, q: Spot, x: Head, y: Head, n: usize, e: usize) -> Move
+    requires { ⌜ Choosable z p q x y n e ⌝ }
+    ensures { λ r. ⌜ r ≡ chosen z bottom p q x y n e ⌝ }
+{
+    if sides::before(y, x) {
+        let whole = sides::reusable(z, bottom, y, x, n, e);
+        let v = q.after(y.n, whole);
+        return Move {
+            x: p,
+            y: v,
+            head: y,
+            whole: whole,
+        };
+    }
+    if sides::before(x, y) {
+        let whole = sides::reusable(z, bottom, x, y, n, e);
+        let u = p.after(x.n, whole);
+        return Move {
+            x: u,
+            y: q,
+            head: x,
+            whole: whole,
+        };
+    }
+    let u = p.after(x.n, false);
+    let v = q.after(y.n, false);
+    Move {
+        x: u,
+        y: v,
+        head: x,
+        whole: false,
+    }
+}
+
+// The sides move on, and the block follows as it stands, or its next record is gathered. A step
+// calls this at one place only, so that it is compiled into the loop.
 fn emit(
     s: &mut [u32],
     used: &mut [bool; 8192],
@@ -149,17 +195,20 @@ fn emit(
     z: Layout,
     bottom: bool,
     w: Progress,
-    h: Head,
-    whole: bool,
+    c: Move,
 ) -> Progress
-    requires { ⌜ Movable z (now s) (now used) w × HeadOk h ⌝ }
-    ensures { λ r. ⌜ _≡_ {A = Memory} (record { words = now (s .exit); used = now (used .exit); out = now (out .exit); st = r }) (emitted z bottom (record { words = now (s .entry); used = now (used .entry); out = now (out .entry); st = w }) h whole) ⌝ }
+    requires { ⌜ Movable z (now s) (now used) w × HeadOk (c .head) ⌝ }
+    ensures { λ r. ⌜ _≡_ {A = Memory} (record { words = now (s .exit); used = now (used .exit); out = now (out .exit); st = r }) (emitted z bottom (record { words = now (s .entry); used = now (used .entry); out = now (out .entry); st = w }) c) ⌝ }
 {
-    if whole {
+    let x = c.x;
+    let y = c.y;
+    let h = c.head;
+    let v = w.moved(x, y);
+    if c.whole {
         let q = h.place;
-        return reuse(s, used, out, z, w, q);
+        return reuse(s, used, out, z, v, q);
     }
-    gather(s, used, out, z, bottom, w, h)
+    gather(s, used, out, z, bottom, v, h)
 }
 
 // One step of the merge: the block that stands next is reused, or its next record is gathered; of equal keys the upper record stands alone.
@@ -189,18 +238,8 @@ pub fn step(
     let e = sides::last_size(s, z, out, m);
     let buf = w.buf;
     let n = buf.n;
-    if sides::before(y, x) {
-        let whole = sides::reusable(z, bottom, y, x, n, e);
-        let v = w.moved(p, q.after(y.n, whole));
-        return emit(s, used, out, z, bottom, v, y, whole);
-    }
-    if sides::before(x, y) {
-        let whole = sides::reusable(z, bottom, x, y, n, e);
-        let v = w.moved(p.after(x.n, whole), q);
-        return emit(s, used, out, z, bottom, v, x, whole);
-    }
-    let v = w.moved(p.after(x.n, false), q.after(y.n, false));
-    emit(s, used, out, z, bottom, v, x, false)
+    let c = choose(z, bottom, p, q, x, y, n, e);
+    emit(s, used, out, z, bottom, w, c)
 }
 
 // The merge of the two sides, in at most `limit` steps.

@@ -1,33 +1,50 @@
 use mathlib.Core.Path.{_∙_}
-use Rattle.stream.specs.Machine.{emitted}
+use Rattle.stream.specs.Machine.{Movable, emitted}
+use Rattle.stream.proofs.Laws.{moved-movable}
 use borrow.Author.Needs.{needs}
 use Rattle.stream.proofs.emit.Statement.{statement}
 use Rattle.stream.proofs.emit.Tie as tie
 use Rattle.stream.proofs.emit.Reads as reads
 use Rattle.stream.proofs.emit.Lts as lts
+use Rattle.stream.proofs.Progress.moved.Reads as moved-reads
 use Rattle.stream.proofs.gather.Reads as gather-reads
 use Rattle.stream.proofs.reuse.Reads as reuse-reads
 
+moved-requires : tie.Need-moved-requires
+moved-requires c κs = search needs
+
+-- the sides may move on
+can : (c : tie.After-moved) → Movable (c .before .before .before .before .before .args .z) (c .before .before .before .before .before .args .s .now) (c .before .before .before .before .before .args .used .now) (c .moved .result)
+can c = rw (c .moved .ensures) (moved-movable _ _ _ (c .before .before .before .before .before .args .w) (c .before .before .before .before .before .args .c .x) (c .before .before .before .before .before .args .c .y) (c .before .before .before .before .before .pre .0))
+
 reuse-requires : tie.Need-reuse-requires
-reuse-requires c κs = search needs
+reuse-requires c κs = let k = can (c .before .before .before .before) in (k .flushable, k .room, c .before .before .before .before .before .before .before .before .before .pre .1 .place)
 
 same-length : tie.Need-same-length
 same-length c = search needs
 
 returns : tie.Need-returns
 unfolding emitted
-returns c = c .before .before .reuse .ensures ∙ rw (c .before .before .before .before .before .before .if1 .taken)
+returns c = c .before .before .reuse .ensures ∙ rw (c .before .before .before .before .before .before .before .moved .ensures, c .before .before .before .before .before .before .if1 .taken)
 
 gather-requires : tie.Need-gather-requires
-gather-requires c κs = search needs
+gather-requires c κs = let k = can (c .before .before .before .before) in (k .flushable, k .gatherable, c .before .before .before .before .before .before .before .before .before .pre .1 .tombstone)
 
 same-length-2 : tie.Need-same-length-2
 same-length-2 c = search needs
 
 returns-2 : tie.Need-returns-2
 unfolding emitted
-returns-2 c = c .before .before .gather .ensures ∙ rw (c .before .before .before .before .before .before .if1 .left)
+returns-2 c = c .before .before .gather .ensures ∙ rw (c .before .before .before .before .before .before .before .moved .ensures, c .before .before .before .before .before .before .if1 .left)
 
 pub emit-spec : {M : Type 1} → statement M
 emit-spec =
-    tie.close (tie.spec reuse-requires same-length returns gather-requires same-length-2 returns-2)
+    tie.close
+    (tie.spec
+    moved-requires
+    reuse-requires
+    same-length
+    returns
+    gather-requires
+    same-length-2
+    returns-2)
