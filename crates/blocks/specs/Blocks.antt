@@ -21,7 +21,8 @@ abbrev pub layoutOf : Geometry → Layout
 layoutOf g =
     record { b = g .b; p = g .p; top = capacityOf g 0; marks = marksStart g; keys = keysStart g; pays = paysStart g; base = placesStart g }
 
--- a store of this layout: its places end it, and level 0 lies before them
+-- A store of this layout: its places end it, and level 0 lies before them. No store has a million words before its places, so the
+-- offsets fit their type.
 pub record Sized (z : Layout) (xs : List ℕ) : Type 0 where
   pub b-low : 2 ≤ z .b
   pub b-high : z .b ≤ 16

@@ -29,6 +29,7 @@ pub struct Buffer {
 }
 
 impl Layout {
+    // Once a merge: the geometry's offsets are sums of powers, too dear for every record.
     pub fn of(g: Geometry) -> Layout
         requires { ⌜ Valid g ⌝ }
         ensures { λ r. ⌜ r ≡ layoutOf g ⌝ }
@@ -45,6 +46,7 @@ impl Layout {
     }
 }
 
+// All slots are 0, so that a block of fewer than B records is written with its unused slots 0.
 pub fn empty() -> Buffer
     ensures { λ r. ⌜ r ≡ emptyBuffer ⌝ }
 {

@@ -25,6 +25,7 @@ struct Answered {
     bytes: usize,
 }
 
+// 1 or 0, as the lines say it.
 fn flag(b: bool) -> u32
     ensures { λ r. ⌜ r ≡ bit b ⌝ }
 {
@@ -34,6 +35,7 @@ fn flag(b: bool) -> u32
     0
 }
 
+// The line for what a format answered, by document 01's number and values of each case.
 fn print_formatted(out: &mut [u8; 64], f: Formatted) -> usize
     ensures { λ r. ⌜ Filled (now (out .entry)) (now (out .exit)) r (formattedLine (formatAnswer f)) ⌝ }
 {
@@ -43,6 +45,7 @@ fn print_formatted(out: &mut [u8; 64], f: Formatted) -> usize
     }
 }
 
+// The same for look up.
 fn print_looked(out: &mut [u8; 64], l: Looked) -> usize
     ensures { λ r. ⌜ Filled (now (out .entry)) (now (out .exit)) r (lookedLine (lookedAnswer l)) ⌝ }
 {
@@ -53,6 +56,7 @@ fn print_looked(out: &mut [u8; 64], l: Looked) -> usize
     }
 }
 
+// The same for put and delete: their sums over all levels are words (`SumsFit`), so nothing is cut off.
 fn print_changed(out: &mut [u8; 64], letter: u8, c: Changed) -> usize
     requires { ⌜ SumsFit (changedAnswer c) ⌝ }
     ensures { λ r. ⌜ Filled (now (out .entry)) (now (out .exit)) r (changedLine letter (changedAnswer c)) ⌝ }
@@ -112,6 +116,7 @@ fn answer_format(
     }
 }
 
+// What a line asks, on the store in the first n words.
 fn answer(words: &mut [u32], n: usize, out: &mut [u8; 64], line: Line) -> Answered
     requires { ⌜ (length (now words) ≡ 16384) × (n ≤ 16384) ⌝ }
     ensures { λ r. ⌜ Replied (saidOf (take n (now (words .entry))) line) (r .words) (r .bytes) (now (words .exit)) (now (out .exit)) ⌝ }
@@ -208,6 +213,7 @@ fn finish(words: &mut [u32], h: Hearing)
     reply(words, n, reading.line());
 }
 
+// The input is read until a read gives nothing. Rattle wants a bound on every loop; this one is more bytes than any pipe gives.
 fn main() {
     let mut space = [0u32; 16384];
     let words: &mut [u32] = &mut space;

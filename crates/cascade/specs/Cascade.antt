@@ -21,7 +21,8 @@ use Rattle.steps.specs.Running.{storeOf, Stands, numbersOf, Small}
 unfoldable pub deepestFor : Geometry → ℕ → ℕ → ℕ → ℕ
 deepestFor g h n1 n2 = elim (eqb h 3 && ltb (capacityOf g 2) n2) [ true ↦ 2 | false ↦ elim (ltb 1 h && ltb (capacityOf g 1) n1) [ true ↦ 1 | false ↦ 0 ] ]
 
--- a moment of a call between two merges, with at most so many to come
+-- A moment of a call between two merges, with at most so many to come: the load falls with each. A merge adds at most 16,384 to a
+-- count, so that the bound leaves room for all of them.
 pub record Rolling (steps : ℕ) (g : Geometry) (ws one two three : List ℕ) (r : Run) : Type 0 where
   pub valid : Valid g
   pub entry : Store

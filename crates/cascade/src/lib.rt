@@ -30,7 +30,8 @@ fn deepest(g: Geometry, r: Run) -> usize
     0
 }
 
-// Step 6: while a level holds more blocks than its capacity, the deepest such merges next.
+// Step 6: while a level holds more blocks than its capacity, the deepest such merges next. No store has a load (`Inside.load`)
+// above 98,304, and each merge lowers it.
 fn merge_below(
     s: &mut [u32],
     one: &mut [u32; 4096],

@@ -90,6 +90,7 @@ impl Geometry {
                         & ((Geometry::MIN_H <= self.h) & (self.h <= Geometry::MAX_H)))))
     }
 
+    // The limits on sums and products. They cannot overflow within the ranges.
     fn in_sizes(self) -> bool
         requires { ⌜ Ranged self ⌝ }
         ensures { λ r. ⌜ r ≡ inSizes self ⌝ }

@@ -137,6 +137,7 @@ impl Numbers {
     }
 }
 
+// A line begins with one of the four letters.
 fn after_start(byte: u8) -> Reading
     ensures { λ r. ⌜ r ≡ afterStart byte ⌝ }
 {
@@ -146,6 +147,7 @@ fn after_start(byte: u8) -> Reading
     Reading::Spoiled
 }
 
+// One letter, alone.
 fn after_letter(letter: u8, byte: u8) -> Reading
     ensures { λ r. ⌜ r ≡ afterLetter letter byte ⌝ }
 {
@@ -155,6 +157,7 @@ fn after_letter(letter: u8, byte: u8) -> Reading
     Reading::Spoiled
 }
 
+// A number begins; no line has a seventh.
 fn after_space(letter: u8, numbers: Numbers, byte: u8) -> Reading
     ensures { λ r. ⌜ r ≡ afterSpace letter numbers byte ⌝ }
 {
@@ -180,6 +183,7 @@ fn grow(letter: u8, numbers: Numbers, digit: u8) -> Reading
     Reading::Spoiled
 }
 
+// The number goes on, or a space ends it.
 fn after_digits(letter: u8, numbers: Numbers, byte: u8) -> Reading
     ensures { λ r. ⌜ r ≡ afterDigits letter numbers byte ⌝ }
 {

@@ -62,6 +62,7 @@ pub struct Changed {
     pub level3: Counts,
 }
 
+// Each answer of `store` as the struct that C is given: an enum cannot cross the border.
 fn format_reply(f: store::Formatted) -> Formatted
     ensures { λ r. ⌜ r ≡ formattedReply (formatAnswer f) ⌝ }
 {
@@ -124,6 +125,7 @@ fn next_reply(n: reader::Nexted) -> Nexted
     }
 }
 
+// That counts fit 32 bits is a law, so nothing is cut off.
 fn counts_reply(c: steps::Counts) -> Counts
     requires { ⌜ CountsFit (numbersOf c) ⌝ }
     ensures { λ r. ⌜ r ≡ countsReply (numbersOf c) ⌝ }

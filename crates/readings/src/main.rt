@@ -47,6 +47,7 @@ fn bounded(value: u32, most: usize) -> usize
     most
 }
 
+// All words of a part from the input.
 fn fill(s: &mut [u32]) {
     for i in 0..s.len() {
         s[i] = word();
@@ -83,6 +84,7 @@ fn checksum(s: &[u32]) -> u32 {
     sum as u32
 }
 
+// Command g, and n and f below: an answer's number and values in a line.
 fn look_up(s: &[u32], key: u32) {
     match store::look_up(s, key) {
         Looked::Found(payload) => print(b'g', &[0, 1, payload]),

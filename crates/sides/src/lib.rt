@@ -33,12 +33,14 @@ pub struct Head {
     pub place: usize,
 }
 
+// A function of its own, so that the callers' proofs see a number and no cast.
 fn wide(x: u32) -> usize
     ensures { λ r. ⌜ r ≡ x ⌝ }
 {
     x as usize
 }
 
+// Entry i of a place list, as a number to compute offsets with.
 pub fn listed(list: &[u32; 4096], i: usize) -> usize
     requires { ⌜ i < 4096 ⌝ }
     ensures { λ r. ⌜ r ≡ getD (now (list .entry)) i 0 ⌝ }
@@ -46,6 +48,7 @@ pub fn listed(list: &[u32; 4096], i: usize) -> usize
     wide(list[i])
 }
 
+// Word i, likewise.
 pub fn word(s: &[u32], i: usize) -> usize
     requires { ⌜ i < length (now s) ⌝ }
     ensures { λ r. ⌜ r ≡ getD (now (s .entry)) i 0 ⌝ }

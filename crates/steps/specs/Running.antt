@@ -91,7 +91,8 @@ counted t level c = elim (eqb level 1) [
   ]
 ]
 
--- counts that are at most n each
+-- Counts that are at most n each. No call counts 2,000,000,000 of anything: it makes at most 98,304 merges (`cascade`), and each
+-- adds at most 16,384 to a count. So no sum wraps.
 pub record Few (n : ℕ) (c : Counts) : Type 0 where
   pub merges : c .merges ≤ n
   pub written : c .written ≤ n

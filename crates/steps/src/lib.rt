@@ -58,6 +58,7 @@ struct Two {
     tally: Tally,
 }
 
+// What is counted already, and what one merge or compaction adds: at most one for each of the 8,192 places.
 fn sum(a: Counts, b: Counts) -> Counts
     requires { ⌜ Few 2000000000 a × Few 8192 b ⌝ }
     ensures { λ r. ⌜ r ≡ sumOf a b ⌝ }
