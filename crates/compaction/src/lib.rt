@@ -15,8 +15,8 @@ ghost use Rattle.compaction.specs.Machine.{beginAt, chunkGathered, block
 use blocks::Layout;
 use geometry::Geometry;
 use merging::Merged;
+use stream::Point;
 use stream::Progress;
-use stream::Spot;
 
 // The records of the block at place q, into the buffer. A block that is written takes a free place,
 // so the block that is read keeps its words.
@@ -67,7 +67,7 @@ fn begin(cursor: usize) -> Progress
     ensures { λ r. ⌜ r ≡ beginAt cursor ⌝ }
 {
     let empty = blocks::empty();
-    let none = Spot { i: 0, j: 0 };
+    let none = Point { i: 0, j: 0 };
     Progress {
         x: none,
         y: none,

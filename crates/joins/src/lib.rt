@@ -10,8 +10,8 @@ ghost use Rattle.stream.specs.Machine.{Memory, Flushable, flushed};
 ghost use Rattle.joins.specs.Joins.{Clean, Loadable, appended, joined, Pullable, pulled, Lefts, leftJoined, Afters, afterTaken, afterJoined, restedOut, Closable, closed};
 use blocks::Buffer;
 use blocks::Layout;
+use stream::Point;
 use stream::Progress;
-use stream::Spot;
 
 // The first n records of the block whose words start at `at`, after those of the buffer.
 fn append_words(s: &[u32], z: Layout, at: usize, n: usize, buf: Buffer) -> Buffer
@@ -99,7 +99,7 @@ fn take_after(s: &[u32], z: Layout, q: usize, w: Progress) -> Progress
 {
     let buf = w.buf;
     let y = w.y;
-    let next = Spot { i: y.i + 1, j: 0 };
+    let next = Point { i: y.i + 1, j: 0 };
     let mut v = w;
     v.y = next;
     v.buf = append_block(s, z, q, buf);

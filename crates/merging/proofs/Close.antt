@@ -18,7 +18,7 @@ use Rattle.levels.specs.Merge.{Out, flush, joinLeft, join}
 use Rattle.blocks.specs.declared.Layout.{Layout}
 use Rattle.blocks.specs.declared.Buffer.{Buffer}
 use Rattle.blocks.specs.Blocks.{Sized, startOf, emptyBuffer, bufferOf}
-use Rattle.stream.specs.declared.Spot.{Spot}
+use Rattle.stream.specs.declared.Point.{Point}
 use Rattle.stream.specs.declared.Progress.{Progress}
 use Rattle.words.specs.Layout.{markWord}
 use Rattle.sides.specs.Sides.{blockChunk, chunkOf, lastSize}
@@ -181,7 +181,7 @@ module _ (z : Layout) (d : Flash) (a : Memory) (ys : List ℕ) (end : ℕ) (size
   finish-at p done w h r k =
       let m = flushed-m z (withProgress a w) in
       let o = flushed-out z (withProgress a w) in
-      finish z d a p done w ys end (a .words) (record { sized = sized; cursor = h; list = omega arith }) k (ap (λ (p : Spot). p .i) (flushed-y z (withProgress a w))) (omega arith)
+      finish z d a p done w ys end (a .words) (record { sized = sized; cursor = h; list = omega arith }) k (ap (λ (p : Point). p .i) (flushed-y z (withProgress a w))) (omega arith)
 
   abbrev Laid : List Rec → Level → Progress → Progress → Type 0
   Laid p done w v = flashOf (rested (flushed z (withProgress a v)) ys end) ≡ layAll z d (join (z .b) (flush p done) (blocks z false (a .words) ys (w .y .i) (end - w .y .i)))

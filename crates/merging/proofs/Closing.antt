@@ -13,7 +13,7 @@ use Rattle.levels.specs.Merge.{Out}
 use Rattle.blocks.specs.declared.Layout.{Layout}
 use Rattle.blocks.specs.declared.Buffer.{Buffer}
 use Rattle.blocks.specs.Blocks.{startOf, bufferOf}
-use Rattle.stream.specs.declared.Spot.{Spot}
+use Rattle.stream.specs.declared.Point.{Point}
 use Rattle.stream.specs.declared.Progress.{Progress}
 use Rattle.stream.specs.declared.Inputs.{Inputs}
 use Rattle.sides.specs.Sides.{chunkOf, lastSize}
@@ -138,7 +138,7 @@ module _ (z : Layout) (xs out ys : List ℕ) (w : Progress) (end : ℕ) (k : Aft
           let h = leb-false end (w .y .i) e in
           let a = taken-same z xs out (pulled z xs out w) q .3 in
           let b = taken-same z xs out w q .3 in
-          let c = ap (λ (p : Spot). p .i) (pulled-y z xs out w) in
+          let c = ap (λ (p : Point). p .i) (pulled-y z xs out w) in
           if-either Ends (eqb (w .buf .n) 0) _ _
           (if-either Ends (leb (lastSize z xs out (w .m) + size) (z .b)) (afterTaken z xs q (pulled z xs out w)) w (omega arith, omega arith) (omega arith, omega arith))
           (if-either Ends (leb (w .buf .n + size) (z .b)) (afterTaken z xs q w) w (omega arith, omega arith) (omega arith, omega arith))
@@ -172,7 +172,7 @@ closable z t xs ys end d o a c h g all he hy r =
     jl = left-joined z (a .words) (a .out) (a .st) lf
 
     vy : v .y .i ≡ a .st .y .i
-    vy = ap (λ (p : Spot). p .i) (left-y z (a .words) (a .out) (a .st))
+    vy = ap (λ (p : Point). p .i) (left-y z (a .words) (a .out) (a .st))
 
     af : Afters z (a .words) (a .out) ys v end
     af =

@@ -17,7 +17,7 @@ use Rattle.blocks.specs.Blocks.{Sized, startOf, pushed}
 use Rattle.blocks.proofs.Laws.{free-low}
 use Rattle.sides.specs.declared.Head.{Head}
 use Rattle.sides.specs.Sides.{chunkOf, pageChunk, blockChunk}
-use Rattle.stream.specs.declared.Spot.{Spot}
+use Rattle.stream.specs.declared.Point.{Point}
 use Rattle.stream.specs.declared.Progress.{Progress}
 use Rattle.stream.specs.Machine.{Memory, flushed, writtenAt, append, gathered, withProgress, withBuffer}
 use Rattle.levels.proofs.Basics.{if-either}
@@ -175,7 +175,7 @@ module _ (z : Layout) (a b : Memory) (sized : Sized z (a .words)) (k : Same z a 
   listed-kept pages list end f i h = stands-kept pages list i (f i h)
 
   -- a side stands where it stood
-  pub side-kept : (pages : Bool) (list : List ℕ) (end : ℕ) (p : Spot) → SideAt z pages (a .words) (a .used) list end p → SideAt z pages (b .words) (b .used) list end p
+  pub side-kept : (pages : Bool) (list : List ℕ) (end : ℕ) (p : Point) → SideAt z pages (a .words) (a .used) list end p → SideAt z pages (b .words) (b .used) list end p
   side-kept pages list end p s =
       record { stands = listed-kept pages list end (s .stands); low = s .low; inside = λ g. rw (chunk-kept pages list (p .i) (s .stands (p .i) g)) (s .inside g) }
 

@@ -16,10 +16,10 @@ use Rattle.blocks.specs.declared.Layout.{Layout}
 use Rattle.blocks.specs.Blocks.{SomeFree, pushed}
 use Rattle.sides.specs.declared.Chunk.{Chunk}
 use Rattle.sides.specs.declared.Head.{Head}
-use Rattle.stream.specs.declared.Spot.{Spot}
+use Rattle.stream.specs.declared.Point.{Point}
 use Rattle.stream.specs.declared.Inputs.{Inputs}
 use Rattle.sides.specs.Sides.{headAt, follows}
-use Rattle.stream.specs.Machine.{Memory, flushed, writtenAt, gathered, reused, emitted, withProgress, withBuffer, spotAfter, moved}
+use Rattle.stream.specs.Machine.{Memory, flushed, writtenAt, gathered, reused, emitted, withProgress, withBuffer, pointAfter, moved}
 use Rattle.levels.proofs.Basics.{and-left, and-right, if-either}
 use Rattle.stream.proofs.Laws.{after-one}
 use Rattle.merging.specs.Contract.{countMarks}
@@ -106,7 +106,7 @@ onList b r = if r then 2 * b else 1
 abbrev onPlaces : ℕ → Bool → ℕ
 onPlaces b r = if r then b else 1
 
-emit-spent : (z : Layout) (a : Memory) (bottom : Bool) (x y : Spot) (h : Head) (r : Bool) → Spent z (moved a x y) (emitted z bottom a (record { x = x; y = y; head = h; whole = r })) (onList (z .b) r) (onPlaces (z .b) r)
+emit-spent : (z : Layout) (a : Memory) (bottom : Bool) (x y : Point) (h : Head) (r : Bool) → Spent z (moved a x y) (emitted z bottom a (record { x = x; y = y; head = h; whole = r })) (onList (z .b) r) (onPlaces (z .b) r)
 unfolding emitted
 emit-spent z a bottom x y h true = reuse-spent z (moved a x y) (h .place)
 emit-spent z a bottom x y h false = gather-spent z (moved a x y) bottom h
@@ -120,23 +120,23 @@ pub record Paid (z : Layout) (t : Inputs) (s a : Memory) : Type 0 where
   pub marks : countMarks (z .p) (a .used) + s .st .writes ≤ countMarks (z .p) (s .used) + a .st .writes
 
 -- how far one side has gone from p to q: it pays k on the list, and l on places
-pub record Far (b end : ℕ) (p q : Spot) (k l : ℕ) : Type 0 where
+pub record Far (b end : ℕ) (p q : Point) (k l : ℕ) : Type 0 where
   pub list : 2 * (b * p .i) + p .j + k ≤ 2 * (b * q .i) + q .j
   pub places : b * p .i + p .j + l ≤ b * q .i + q .j
   pub end-high : b * q .i + q .j ≤ b * end
 
-module _ (b end : ℕ) (p : Spot) where
+module _ (b end : ℕ) (p : Point) where
   -- it stands still
   stay-far : b * p .i + p .j ≤ b * end → Far b end p p 0 0
   stay-far h = record { list = omega arith; places = omega arith; end-high = h }
 
   -- past a whole block, or past one record
-  after-far : (n : ℕ) (r : Bool) → p .i < end → p .j < n → n ≤ b → (r ≡ true → p .j ≡ 0) → Far b end p (spotAfter p n r) (onList b r) (onPlaces b r)
-  unfolding spotAfter
+  after-far : (n : ℕ) (r : Bool) → p .i < end → p .j < n → n ≤ b → (r ≡ true → p .j ≡ 0) → Far b end p (pointAfter p n r) (onList b r) (onPlaces b r)
+  unfolding pointAfter
   after-far n true h j l w = let m = mul-le-mul-left {m = p .i + 1} {n = end} b (omega arith) in let e = w refl in record { list = omega arith; places = omega arith; end-high = omega arith }
   after-far n false h j l w =
       let m = mul-le-mul-left {m = p .i + 1} {n = end} b (omega arith) in
-      after-one (λ (q : Spot). Far b end p q 1 1) p n (λ g. record { list = omega arith; places = omega arith; end-high = omega arith }) (λ g. record { list = omega arith; places = omega arith; end-high = omega arith })
+      after-one (λ (q : Point). Far b end p q 1 1) p n (λ g. record { list = omega arith; places = omega arith; end-high = omega arith }) (λ g. record { list = omega arith; places = omega arith; end-high = omega arith })
 
 -- a block that is reused has not been begun
 follows-start : (z : Layout) (bottom : Bool) (ws : List ℕ) (c : Chunk) (j : ℕ) (o : Head) (n e : ℕ) → follows z bottom (headAt ws c j) o n e ≡ true → j ≡ 0
@@ -152,12 +152,12 @@ follows-start z bottom ws c j o n e f = eqb-true j 0 (and-right (c .listed) (eqb
 
 module _ (z : Layout) (t : Inputs) (s a : Memory) (p : Paid z t s a) where
   -- a move of the sides to x and y pays for what is spent then
-  paid-by : (x y : Spot) (b : Memory) (k l kx lx ky ly : ℕ) → Far (z .b) (t .x) (a .st .x) x kx lx → Far (z .b) (t .y) (a .st .y) y ky ly → k ≤ kx + ky → l ≤ lx + ly → Spent z (moved a x y) b k l → Paid z t s b
+  paid-by : (x y : Point) (b : Memory) (k l kx lx ky ly : ℕ) → Far (z .b) (t .x) (a .st .x) x kx lx → Far (z .b) (t .y) (a .st .y) y ky ly → k ≤ kx + ky → l ≤ lx + ly → Spent z (moved a x y) b k l → Paid z t s b
   paid-by x y b k l kx lx ky ly fx fy hk hl q =
-      let xi : z .b * b .st .x .i ≡ z .b * x .i = ap (λ (v : Spot). z .b * v .i) (q .x) in
-      let yi : z .b * b .st .y .i ≡ z .b * y .i = ap (λ (v : Spot). z .b * v .i) (q .y) in
-      let xj : b .st .x .j ≡ x .j = ap (λ (v : Spot). v .j) (q .x) in
-      let yj : b .st .y .j ≡ y .j = ap (λ (v : Spot). v .j) (q .y) in
+      let xi : z .b * b .st .x .i ≡ z .b * x .i = ap (λ (v : Point). z .b * v .i) (q .x) in
+      let yi : z .b * b .st .y .i ≡ z .b * y .i = ap (λ (v : Point). z .b * v .i) (q .y) in
+      let xj : b .st .x .j ≡ x .j = ap (λ (v : Point). v .j) (q .x) in
+      let yj : b .st .y .j ≡ y .j = ap (λ (v : Point). v .j) (q .y) in
       record {
         x-end = omega (arith, fx .end-high);
         y-end = omega (arith, fy .end-high);
@@ -168,26 +168,26 @@ module _ (z : Layout) (t : Inputs) (s a : Memory) (p : Paid z t s a) where
 
   module _ (bottom : Bool) where
     pub upper-paid : (c : Chunk) (o : Head) (e : ℕ) → c .n ≤ z .b → a .st .x .i < t .x → a .st .x .j < c .n → let h = headAt (a .words) c (a .st .x .j) in let r = follows z bottom h o (a .st .buf .n) e in
-        Paid z t s (emitted z bottom a (record { x = spotAfter (a .st .x) (c .n) r; y = a .st .y; head = h; whole = r }))
+        Paid z t s (emitted z bottom a (record { x = pointAfter (a .st .x) (c .n) r; y = a .st .y; head = h; whole = r }))
     upper-paid c o e hi g j =
         let h = headAt (a .words) c (a .st .x .j) in
         let r = follows z bottom h o (a .st .buf .n) e in
-        let v = spotAfter (a .st .x) (c .n) r in
+        let v = pointAfter (a .st .x) (c .n) r in
         paid-by v (a .st .y) _ (onList (z .b) r) (onPlaces (z .b) r) (onList (z .b) r) (onPlaces (z .b) r) 0 0
         (after-far (z .b) (t .x) (a .st .x) (c .n) r g j hi (follows-start z bottom (a .words) c (a .st .x .j) o (a .st .buf .n) e)) (stay-far (z .b) (t .y) (a .st .y) (p .y-end)) (omega arith) (omega arith) (emit-spent z a bottom v (a .st .y) h r)
 
     pub lower-paid : (c : Chunk) (o : Head) (e : ℕ) → c .n ≤ z .b → a .st .y .i < t .y → a .st .y .j < c .n → let h = headAt (a .words) c (a .st .y .j) in let r = follows z bottom h o (a .st .buf .n) e in
-        Paid z t s (emitted z bottom a (record { x = a .st .x; y = spotAfter (a .st .y) (c .n) r; head = h; whole = r }))
+        Paid z t s (emitted z bottom a (record { x = a .st .x; y = pointAfter (a .st .y) (c .n) r; head = h; whole = r }))
     lower-paid c o e hi g j =
         let h = headAt (a .words) c (a .st .y .j) in
         let r = follows z bottom h o (a .st .buf .n) e in
-        let v = spotAfter (a .st .y) (c .n) r in
+        let v = pointAfter (a .st .y) (c .n) r in
         paid-by (a .st .x) v _ (onList (z .b) r) (onPlaces (z .b) r) 0 0 (onList (z .b) r) (onPlaces (z .b) r)
         (stay-far (z .b) (t .x) (a .st .x) (p .x-end)) (after-far (z .b) (t .y) (a .st .y) (c .n) r g j hi (follows-start z bottom (a .words) c (a .st .y .j) o (a .st .buf .n) e)) (omega arith) (omega arith) (emit-spent z a bottom (a .st .x) v h r)
 
-    pub both-paid : (c d : Chunk) (h : Head) → c .n ≤ z .b → d .n ≤ z .b → a .st .x .i < t .x → a .st .x .j < c .n → a .st .y .i < t .y → a .st .y .j < d .n → Paid z t s (emitted z bottom a (record { x = spotAfter (a .st .x) (c .n) false; y = spotAfter (a .st .y) (d .n) false; head = h; whole = false }))
+    pub both-paid : (c d : Chunk) (h : Head) → c .n ≤ z .b → d .n ≤ z .b → a .st .x .i < t .x → a .st .x .j < c .n → a .st .y .i < t .y → a .st .y .j < d .n → Paid z t s (emitted z bottom a (record { x = pointAfter (a .st .x) (c .n) false; y = pointAfter (a .st .y) (d .n) false; head = h; whole = false }))
     both-paid c d h hc hd gx jx gy jy =
-        let v = spotAfter (a .st .x) (c .n) false in
-        let w = spotAfter (a .st .y) (d .n) false in
+        let v = pointAfter (a .st .x) (c .n) false in
+        let w = pointAfter (a .st .y) (d .n) false in
         paid-by v w _ 1 1 1 1 1 1
         (after-far (z .b) (t .x) (a .st .x) (c .n) false gx jx hc (λ e. absurd (true≢false (sym e)))) (after-far (z .b) (t .y) (a .st .y) (d .n) false gy jy hd (λ e. absurd (true≢false (sym e)))) (omega arith) (omega arith) (emit-spent z a bottom v w h false)

@@ -10,7 +10,7 @@ use Rattle.levels.specs.Merge.{Out, State, step, joinLeft, join}
 use Rattle.blocks.specs.declared.Layout.{Layout}
 use Rattle.blocks.specs.Blocks.{Sized, SomeFree, nextMark, bufferOf}
 use Rattle.sides.specs.declared.Chunk.{Chunk}
-use Rattle.stream.specs.declared.Spot.{Spot}
+use Rattle.stream.specs.declared.Point.{Point}
 use Rattle.stream.specs.declared.Inputs.{Inputs}
 use Rattle.sides.specs.Sides.{chunkOf, lastSize}
 use Rattle.stream.specs.Machine.{Memory, turns}
@@ -50,8 +50,8 @@ pub record Stands (z : Layout) (pages : Bool) (ws : List ℕ) (used : List Bool)
 abbrev pub Listed : Layout → Bool → Memory → List ℕ → ℕ → Type 0
 Listed z pages a list end = (k : ℕ) → k < end → Stands z pages (a .words) (a .used) list k
 
--- a side stands at spot p: its chunks stand, and p is a record of one of them, or its end
-pub record SideAt (z : Layout) (pages : Bool) (ws : List ℕ) (used : List Bool) (list : List ℕ) (end : ℕ) (p : Spot) : Type 0 where
+-- a side stands at point p: its chunks stand, and p is a record of one of them, or its end
+pub record SideAt (z : Layout) (pages : Bool) (ws : List ℕ) (used : List Bool) (list : List ℕ) (end : ℕ) (p : Point) : Type 0 where
   pub stands : (k : ℕ) → k < end → Stands z pages ws used list k
   pub low : p .i ≤ end
   pub inside : p .i < end → p .j < chunkOf z pages ws list (p .i) .n

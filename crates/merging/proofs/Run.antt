@@ -9,7 +9,7 @@ use Rattle.levels.specs.Merge.{Out, State, step}
 use Rattle.blocks.specs.declared.Layout.{Layout}
 use Rattle.blocks.specs.Blocks.{Sized, bufferOf}
 use Rattle.sides.specs.Sides.{Readable}
-use Rattle.stream.specs.declared.Spot.{Spot}
+use Rattle.stream.specs.declared.Point.{Point}
 use Rattle.stream.specs.declared.Inputs.{Inputs}
 use Rattle.stream.specs.Machine.{Memory, Ready, turn, idle, turns}
 use Rattle.stream.proofs.Laws.{idle-ends}
@@ -24,7 +24,7 @@ iterate-end : {A : Type 0} (n : ℕ) (f : A → A) (a : A) → iterate (suc n) f
 iterate-end zero f a = refl
 iterate-end (suc n) f a = iterate-end n f (f a)
 
-side-readable : {z : Layout} {pages : Bool} {ws : List ℕ} {used : List Bool} {list : List ℕ} {end : ℕ} {p : Spot} → Sized z ws → end ≤ 4096 → SideAt z pages ws used list end p → Readable z pages ws list (p .i) (p .j) end
+side-readable : {z : Layout} {pages : Bool} {ws : List ℕ} {used : List Bool} {list : List ℕ} {end : ℕ} {p : Point} → Sized z ws → end ≤ 4096 → SideAt z pages ws used list end p → Readable z pages ws list (p .i) (p .j) end
 side-readable {p = p} s h k =
     record { sized = s; end-high = h; place = λ g. k .stands (p .i) g .place; page = λ g. k .stands (p .i) g .page; inside = k .inside; count = λ g. k .stands (p .i) g .formed .high }
 

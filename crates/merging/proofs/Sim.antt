@@ -18,11 +18,11 @@ use Rattle.blocks.specs.Blocks.{bufferOf, pushed}
 use Rattle.blocks.proofs.Laws.{free-found}
 use Rattle.sides.specs.declared.Chunk.{Chunk}
 use Rattle.sides.specs.declared.Head.{Head}
-use Rattle.stream.specs.declared.Spot.{Spot}
+use Rattle.stream.specs.declared.Point.{Point}
 use Rattle.stream.specs.declared.Move.{Move}
 use Rattle.stream.specs.declared.Inputs.{Inputs}
 use Rattle.sides.specs.Sides.{blockChunk, chunkOf, headOf, headAt, noHead, lastSize, follows}
-use Rattle.stream.specs.Machine.{Memory, flushed, append, gathered, reused, emitted, withProgress, withBuffer, spotAfter, moved, chosen, turn, idle}
+use Rattle.stream.specs.Machine.{Memory, flushed, append, gathered, reused, emitted, withProgress, withBuffer, pointAfter, moved, chosen, turn, idle}
 use Rattle.levels.proofs.Basics.{and-left, and-right}
 use Rattle.stream.proofs.Laws.{flushed-m, after-one, idle-of}
 use Rattle.merging.proofs.Relation.{nextFree, Holds, Stands, SideAt, LastIs, Core, Budget, Sim}
@@ -35,7 +35,7 @@ use Rattle.merging.proofs.Frame.{Kept, flush-kept, append-kept, gather-
 use Rattle.merging.proofs.Steps.{past, put, from-upper, from-lower, placed-of, gather-few}
 
 -- the same world, at another place of the sides
-moved-holds : (z : Layout) (d : Flash) (o : Out) (a : Memory) (x y : Spot) → Holds z d o a → Holds z d o (moved a x y)
+moved-holds : (z : Layout) (d : Flash) (o : Out) (a : Memory) (x y : Point) → Holds z d o a → Holds z d o (moved a x y)
 moved-holds z d o a x y h = record { buf = h .buf; flash = h .flash; last = h .last }
 
 -- the side that comes first, in both readings
@@ -74,7 +74,7 @@ listed-placed z true ws used list k s e = absurd (true≢false (sym e))
 listed-placed z false ws used list k s e = record { low = s .place refl; taken = s .taken refl; high = s .formed .high; is = refl }
 
 -- a side at a record: what it reads, the block there as far as it is left, and the blocks behind it
-module _ {z : Layout} {pages : Bool} {ws : List ℕ} {used : List Bool} {list : List ℕ} {end : ℕ} {p : Spot} (k : SideAt z pages ws used list end p) (g : p .i < end) where
+module _ {z : Layout} {pages : Bool} {ws : List ℕ} {used : List Bool} {list : List ℕ} {end : ℕ} {p : Point} (k : SideAt z pages ws used list end p) (g : p .i < end) where
   abbrev chunk : Chunk
   chunk = chunkOf z pages ws list (p .i)
 
@@ -105,16 +105,16 @@ module _ {z : Layout} {pages : Bool} {ws : List ℕ} {used : List Bool} {list : 
   next-at : SideAt z pages ws used list end (record { i = p .i + 1; j = 0 })
   next-at = record { stands = k .stands; low = omega arith; inside = λ h. k .stands (p .i + 1) h .formed .low }
 
-  after-at : (r : Bool) → SideAt z pages ws used list end (spotAfter p (chunk .n) r)
-  unfolding spotAfter
+  after-at : (r : Bool) → SideAt z pages ws used list end (pointAfter p (chunk .n) r)
+  unfolding pointAfter
   after-at true = next-at
   after-at false = after-one (SideAt z pages ws used list end) p (chunk .n) (λ _. next-at) (λ h. record { stands = k .stands; low = k .low; inside = λ _. h })
 
-  after-side : (r : Bool) → past r top behind ≡ side z pages ws list (spotAfter p (chunk .n) r .i) (spotAfter p (chunk .n) r .j) end
-  unfolding spotAfter
+  after-side : (r : Bool) → past r top behind ≡ side z pages ws list (pointAfter p (chunk .n) r .i) (pointAfter p (chunk .n) r .j) end
+  unfolding pointAfter
   after-side true = refl
   after-side false =
-      after-one (λ (v : Spot). rest (top ∷ behind) ≡ side z pages ws list (v .i) (v .j) end) p (chunk .n)
+      after-one (λ (v : Point). rest (top ∷ behind) ≡ side z pages ws list (v .i) (v .j) end) p (chunk .n)
       (λ h. rest-last ws chunk (p .j) behind (omega (arith, k .inside g)))
       (λ h. rest-more ws chunk (p .j) behind (omega arith) ∙ rw (add-one (p .j)) (sym (side-cons z pages ws list (p .i) (suc (p .j)) end g)))
 
@@ -145,7 +145,7 @@ module _ (z : Layout) (t : Inputs) (xs ys : List ℕ) (d : Flash) where
   Both s a = Core z t xs ys (s .out) a × Sim z t xs ys d s a
 
   -- the sides of memory a have gone to x and y; the words, the buffer, the list and the cursor are as they were
-  module _ (o : Out) (a : Memory) (x y : Spot) (c : Core z t xs ys o a) (g : Budget z a) (hs : Holds z d o a)
+  module _ (o : Out) (a : Memory) (x y : Point) (c : Core z t xs ys o a) (g : Budget z a) (hs : Holds z d o a)
       (kx : SideAt z (t .pages) (a .words) (a .used) xs (t .x) x) (ky : SideAt z false (a .words) (a .used) ys (t .y) y) where
     abbrev here : Memory
     here = moved a x y
@@ -172,8 +172,8 @@ module _ (z : Layout) (t : Inputs) (xs ys : List ℕ) (d : Flash) where
             tail = tl;
           },
           record {
-            upper = eu ∙ sym (side-same z here b (c .sized) (k .same) (t .pages) xs (x .i) (x .j) (t .x) (kx .stands)) ∙ ap (λ (p : Spot). side z (t .pages) (b .words) xs (p .i) (p .j) (t .x)) (sym (k .x));
-            lower = el ∙ sym (side-same z here b (c .sized) (k .same) false ys (y .i) (y .j) (t .y) (ky .stands)) ∙ ap (λ (p : Spot). side z false (b .words) ys (p .i) (p .j) (t .y)) (sym (k .y));
+            upper = eu ∙ sym (side-same z here b (c .sized) (k .same) (t .pages) xs (x .i) (x .j) (t .x) (kx .stands)) ∙ ap (λ (p : Point). side z (t .pages) (b .words) xs (p .i) (p .j) (t .x)) (sym (k .x));
+            lower = el ∙ sym (side-same z here b (c .sized) (k .same) false ys (y .i) (y .j) (t .y) (ky .stands)) ∙ ap (λ (p : Point). side z false (b .words) ys (p .i) (p .j) (t .y)) (sym (k .y));
             out = h;
           },
         )
@@ -219,34 +219,34 @@ module _ (z : Layout) (t : Inputs) (xs ys : List ℕ) (d : Flash) where
 
     module _ (gx : a .st .x .i < t .x) where
       upper-step : (i : Head) (l : Level) → l ≡ side z false (a .words) ys (a .st .y .i) (a .st .y .j) (t .y) → Sees i l → let h = head (c .upper) gx in let r = whole h i in
-          Both (fromUpper (z .b) (t .bottom) (top (c .upper) gx) (behind (c .upper) gx) l o) (emitted z (t .bottom) a (record { x = spotAfter (a .st .x) (h .n) r; y = a .st .y; head = h; whole = r }))
+          Both (fromUpper (z .b) (t .bottom) (top (c .upper) gx) (behind (c .upper) gx) l o) (emitted z (t .bottom) a (record { x = pointAfter (a .st .x) (h .n) r; y = a .st .y; head = h; whole = r }))
       upper-step i l el e =
           let k = c .upper in
           let h = head k gx in
           let b = top k gx in
           let r = reusable (z .b) (t .bottom) o l b in
           rw (test h i b l (shows k gx) e)
-          (subst (λ (s : State). Both s (emitted z (t .bottom) a (record { x = spotAfter (a .st .x) (h .n) r; y = a .st .y; head = h; whole = r }))) (sym (from-upper (z .b) (t .bottom) b (behind k gx) l o))
-          (emit-step o a (spotAfter (a .st .x) (h .n) r) (a .st .y) c g hs (after-at k gx r) (c .lower) (t .bottom) h b (shows k gx) (past r b (behind k gx)) l (after-side k gx r) el r (λ f. found k gx (placed-of (z .b) (t .bottom) o l b f)) (bit-low k gx)))
+          (subst (λ (s : State). Both s (emitted z (t .bottom) a (record { x = pointAfter (a .st .x) (h .n) r; y = a .st .y; head = h; whole = r }))) (sym (from-upper (z .b) (t .bottom) b (behind k gx) l o))
+          (emit-step o a (pointAfter (a .st .x) (h .n) r) (a .st .y) c g hs (after-at k gx r) (c .lower) (t .bottom) h b (shows k gx) (past r b (behind k gx)) l (after-side k gx r) el r (λ f. found k gx (placed-of (z .b) (t .bottom) o l b f)) (bit-low k gx)))
 
     module _ (gy : a .st .y .i < t .y) where
       lower-step : (i : Head) (l : Level) → l ≡ side z (t .pages) (a .words) xs (a .st .x .i) (a .st .x .j) (t .x) → Sees i l → let h = head (c .lower) gy in let r = whole h i in
-          Both (fromLower (z .b) (t .bottom) (top (c .lower) gy) (behind (c .lower) gy) l o) (emitted z (t .bottom) a (record { x = a .st .x; y = spotAfter (a .st .y) (h .n) r; head = h; whole = r }))
+          Both (fromLower (z .b) (t .bottom) (top (c .lower) gy) (behind (c .lower) gy) l o) (emitted z (t .bottom) a (record { x = a .st .x; y = pointAfter (a .st .y) (h .n) r; head = h; whole = r }))
       lower-step i l el e =
           let k = c .lower in
           let h = head k gy in
           let b = top k gy in
           let r = reusable (z .b) (t .bottom) o l b in
           rw (test h i b l (shows k gy) e)
-          (subst (λ (s : State). Both s (emitted z (t .bottom) a (record { x = a .st .x; y = spotAfter (a .st .y) (h .n) r; head = h; whole = r }))) (sym (from-lower (z .b) (t .bottom) b (behind k gy) l o))
-          (emit-step o a (a .st .x) (spotAfter (a .st .y) (h .n) r) c g hs (c .upper) (after-at k gy r) (t .bottom) h b (shows k gy) l (past r b (behind k gy)) el (after-side k gy r) r (λ f. found k gy (placed-of (z .b) (t .bottom) o l b f)) (bit-low k gy)))
+          (subst (λ (s : State). Both s (emitted z (t .bottom) a (record { x = a .st .x; y = pointAfter (a .st .y) (h .n) r; head = h; whole = r }))) (sym (from-lower (z .b) (t .bottom) b (behind k gy) l o))
+          (emit-step o a (a .st .x) (pointAfter (a .st .y) (h .n) r) c g hs (c .upper) (after-at k gy r) (t .bottom) h b (shows k gy) l (past r b (behind k gy)) el (after-side k gy r) r (λ f. found k gy (placed-of (z .b) (t .bottom) o l b f)) (bit-low k gy)))
 
     both-step : (gx : a .st .x .i < t .x) (gy : a .st .y .i < t .y) → let h = head (c .upper) gx in let i = head (c .lower) gy in
-        Both (fromBoth (z .b) (t .bottom) (top (c .upper) gx) (behind (c .upper) gx) (top (c .lower) gy ∷ behind (c .lower) gy) o) (emitted z (t .bottom) a (record { x = spotAfter (a .st .x) (h .n) false; y = spotAfter (a .st .y) (i .n) false; head = h; whole = false }))
+        Both (fromBoth (z .b) (t .bottom) (top (c .upper) gx) (behind (c .upper) gx) (top (c .lower) gy ∷ behind (c .lower) gy) o) (emitted z (t .bottom) a (record { x = pointAfter (a .st .x) (h .n) false; y = pointAfter (a .st .y) (i .n) false; head = h; whole = false }))
     both-step gx gy =
         let k = c .upper in
         let l = c .lower in
-        emit-step o a (spotAfter (a .st .x) (head k gx .n) false) (spotAfter (a .st .y) (head l gy .n) false) c g hs (after-at k gx false) (after-at l gy false) (t .bottom) (head k gx) (top k gx) (shows k gx)
+        emit-step o a (pointAfter (a .st .x) (head k gx .n) false) (pointAfter (a .st .y) (head l gy .n) false) c g hs (after-at k gx false) (after-at l gy false) (t .bottom) (head k gx) (top k gx) (shows k gx)
         (past false (top k gx) (behind k gx)) (past false (top l gy) (behind l gy)) (after-side k gx false) (after-side l gy false) false (λ f. absurd (true≢false (sym f))) (bit-low k gx)
 
   -- one step on words is one step on blocks

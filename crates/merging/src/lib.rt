@@ -8,8 +8,8 @@ ghost use Rattle.merging.specs.Contract.{mergeOf, Mergeable, Leaves, inp
 use blocks::Layout;
 use geometry::Geometry;
 use stream::Inputs;
+use stream::Point;
 use stream::Progress;
-use stream::Spot;
 
 // Where a merge's blocks stand: X is the chunks x to xend of the upper level, Y the entries y to
 // yend of the lower level's list, which has `end` entries; X may be pages of level 0, and the lower
@@ -49,8 +49,8 @@ impl Cut {
         ensures { λ r. ⌜ r ≡ beginOf self cursor ⌝ }
     {
         let empty = blocks::empty();
-        let x = Spot { i: self.x, j: 0 };
-        let y = Spot { i: self.y, j: 0 };
+        let x = Point { i: self.x, j: 0 };
+        let y = Point { i: self.y, j: 0 };
         Progress {
             x: x,
             y: y,

@@ -12,11 +12,11 @@ use Rattle.blocks.specs.declared.Layout.{Layout}
 use Rattle.blocks.specs.Blocks.{nextMark}
 use Rattle.sides.specs.declared.Head.{Head}
 use Rattle.sides.specs.Sides.{HeadOk, first}
-use Rattle.stream.specs.declared.Spot.{Spot}
+use Rattle.stream.specs.declared.Point.{Point}
 use Rattle.stream.specs.declared.Progress.{Progress}
 use Rattle.stream.specs.declared.Move.{Move}
 use Rattle.stream.specs.declared.Inputs.{Inputs}
-use Rattle.stream.specs.Machine.{Memory, Movable, spotAfter, movedTo, chosen, flushed, writtenAt, turn, turns, idle}
+use Rattle.stream.specs.Machine.{Memory, Movable, pointAfter, movedTo, chosen, flushed, writtenAt, turn, turns, idle}
 
 pub flushed-m : (z : Layout) (a : Memory) → flushed z a .st .m ≤ a .st .m + 1
 unfolding flushed
@@ -27,8 +27,8 @@ unfolding flushed
 flushed-y z a = if-either (λ (b : Memory). b .st .y ≡ a .st .y) (eqb (a .st .buf .n) 0) a (writtenAt z a (nextMark (z .p) (a .used) (a .st .cursor))) refl refl
 
 -- past one record: it was the last of its block, or there are more
-pub after-one : (P : Spot → Type 0) (p : Spot) (n : ℕ) → (n ≤ p .j + 1 → P (record { i = p .i + 1; j = 0 })) → (p .j + 1 < n → P (record { i = p .i; j = p .j + 1 })) → P (spotAfter p n false)
-unfolding spotAfter
+pub after-one : (P : Point → Type 0) (p : Point) (n : ℕ) → (n ≤ p .j + 1 → P (record { i = p .i + 1; j = 0 })) → (p .j + 1 < n → P (record { i = p .i; j = p .j + 1 })) → P (pointAfter p n false)
+unfolding pointAfter
 after-one P p n f g = go (leb n (p .j + 1)) refl
   where
     go : (t : Bool) → leb n (p .j + 1) ≡ t → P (if t then record { i = p .i + 1; j = 0 } else record { i = p .i; j = p .j + 1 })
@@ -73,7 +73,7 @@ module _ (z : Layout) (t : Inputs) (xs ys : List ℕ) where
       ap (λ (n : ℕ). turns z t xs ys n a) h ∙ (if-true (idle z t xs ys b) b (turn z t xs ys b) (ap (idle z t xs ys) s ∙ e) ∙ s)
 
 -- the places, the buffer and the list are not touched by a move of the sides
-pub moved-movable : (z : Layout) (xs : List ℕ) (used : List Bool) (w : Progress) (x y : Spot) → Movable z xs used w → Movable z xs used (movedTo w x y)
+pub moved-movable : (z : Layout) (xs : List ℕ) (used : List Bool) (w : Progress) (x y : Point) → Movable z xs used w → Movable z xs used (movedTo w x y)
 moved-movable z xs used w x y k =
     let f = k .flushable in
     record {
@@ -82,6 +82,6 @@ moved-movable z xs used w x y k =
       room = k .room;
     }
 
-pub chosen-ok : (z : Layout) (bottom : Bool) (p q : Spot) (x y : Head) (n e : ℕ) → HeadOk x → HeadOk y → HeadOk (chosen z bottom p q x y n e .head)
+pub chosen-ok : (z : Layout) (bottom : Bool) (p q : Point) (x y : Head) (n e : ℕ) → HeadOk x → HeadOk y → HeadOk (chosen z bottom p q x y n e .head)
 unfolding chosen
 chosen-ok z bottom p q x y n e kx ky = if-either (λ (c : Move). HeadOk (c .head)) (first y x) _ _ ky (if-either (λ (c : Move). HeadOk (c .head)) (first x y) _ _ kx kx)

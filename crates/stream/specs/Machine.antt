@@ -11,7 +11,7 @@ use Rattle.blocks.specs.declared.Buffer.{Buffer}
 use Rattle.blocks.specs.Blocks.{Sized, SomeFree, nextMark, pushed, emptyBuffer, written}
 use Rattle.sides.specs.declared.Head.{Head}
 use Rattle.sides.specs.Sides.{Readable, HeadOk, headOf, lastSize, first, follows}
-use Rattle.stream.specs.declared.Spot.{Spot}
+use Rattle.stream.specs.declared.Point.{Point}
 use Rattle.stream.specs.declared.Progress.{Progress}
 use Rattle.stream.specs.declared.Move.{Move}
 use Rattle.stream.specs.declared.Inputs.{Inputs}
@@ -76,28 +76,28 @@ gathered z bottom a h =
     else withProgress a (withBuffer (a .st) (pushed (a .st .buf) (h .key) (h .tombstone) (h .pay)))
 
 -- past the whole block, or past one record of a block of n
-unfoldable pub spotAfter : Spot → ℕ → Bool → Spot
-spotAfter p n whole = if whole || leb n (p .j + 1) then record { i = p .i + 1; j = 0 } else record { i = p .i; j = p .j + 1 }
+unfoldable pub pointAfter : Point → ℕ → Bool → Point
+pointAfter p n whole = if whole || leb n (p .j + 1) then record { i = p .i + 1; j = 0 } else record { i = p .i; j = p .j + 1 }
 
 -- X and Y further on
-abbrev pub movedTo : Progress → Spot → Spot → Progress
+abbrev pub movedTo : Progress → Point → Point → Progress
 movedTo w x y = record { x = x; y = y; m = w .m; writes = w .writes; cursor = w .cursor; buf = w .buf }
 
-abbrev pub moved : Memory → Spot → Spot → Memory
+abbrev pub moved : Memory → Point → Point → Memory
 moved a x y = withProgress a (movedTo (a .st) x y)
 
 -- The side whose record comes first moves on; of equal keys the upper record comes, and the lower is passed over.
 -- The buffer has n records, the last block e.
-unfoldable pub chosen : Layout → Bool → Spot → Spot → Head → Head → ℕ → ℕ → Move
+unfoldable pub chosen : Layout → Bool → Point → Point → Head → Head → ℕ → ℕ → Move
 chosen z bottom p q x y n e =
     let wholeX = follows z bottom x y n e in
     let wholeY = follows z bottom y x n e in
-    if first y x then record { x = p; y = spotAfter q (y .n) wholeY; head = y; whole = wholeY }
-    else if first x y then record { x = spotAfter p (x .n) wholeX; y = q; head = x; whole = wholeX }
-    else record { x = spotAfter p (x .n) false; y = spotAfter q (y .n) false; head = x; whole = false }
+    if first y x then record { x = p; y = pointAfter q (y .n) wholeY; head = y; whole = wholeY }
+    else if first x y then record { x = pointAfter p (x .n) wholeX; y = q; head = x; whole = wholeX }
+    else record { x = pointAfter p (x .n) false; y = pointAfter q (y .n) false; head = x; whole = false }
 
 -- some side has a record, and stands at it
-pub record Choosable (z : Layout) (p q : Spot) (x y : Head) (n e : ℕ) : Type 0 where
+pub record Choosable (z : Layout) (p q : Point) (x y : Head) (n e : ℕ) : Type 0 where
   pub cap : z .b ≤ 16
   pub few : n ≤ 16
   pub last : e < 2 ^ 32

@@ -4,22 +4,22 @@ ghost use mathlib.Core.Path.{_≡_};
 ghost use mathlib.Core.Bool.{false};
 ghost use Prim.Native.Nat.{ℕ, _+_, _≤_, _<_};
 ghost use Rattle.sides.specs.Sides.{HeadOk};
-ghost use Rattle.stream.specs.Machine.{Memory, Flushable, Gatherable, Movable, Choosable, Ready, flushed, reused, gathered, spotAfter, movedTo, chosen, emitted, turn, turns, idle};
+ghost use Rattle.stream.specs.Machine.{Memory, Flushable, Gatherable, Movable, Choosable, Ready, flushed, reused, gathered, pointAfter, movedTo, chosen, emitted, turn, turns, idle};
 use blocks::Buffer;
 use blocks::Layout;
 use sides::Head;
 
 // Where a side stands: its next block, and the next record of that block.
-pub struct Spot {
+pub struct Point {
     pub i: usize,
     pub j: usize,
 }
 
-// Where the merge stands: the spots of X and of Y, the blocks listed so far, the blocks written so
-// far, the allocation cursor and the buffer.
+// Where the merge stands: the points of X and of Y, the blocks listed so far, the blocks written
+// so far, the allocation cursor and the buffer.
 pub struct Progress {
-    pub x: Spot,
-    pub y: Spot,
+    pub x: Point,
+    pub y: Point,
     pub m: usize,
     pub writes: usize,
     pub cursor: usize,
@@ -29,8 +29,8 @@ pub struct Progress {
 // What a step does: where X and Y stand then, the record that comes, and whether its whole block
 // follows as it stands.
 pub struct Move {
-    pub x: Spot,
-    pub y: Spot,
+    pub x: Point,
+    pub y: Point,
     pub head: Head,
     pub whole: bool,
 }
@@ -122,26 +122,26 @@ pub fn gather(
     v
 }
 
-impl Spot {
+impl Point {
     // Past the whole block, or past one record of a block of n.
-    fn after(self, n: usize, whole: bool) -> Spot
+    fn after(self, n: usize, whole: bool) -> Point
         requires { ⌜ (self .i < 4096) × (self .j < 16) ⌝ }
-        ensures { λ r. ⌜ r ≡ spotAfter self n whole ⌝ }
+        ensures { λ r. ⌜ r ≡ pointAfter self n whole ⌝ }
     {
         let j = self.j + 1;
         if whole | (n <= j) {
-            return Spot {
+            return Point {
                 i: self.i + 1,
                 j: 0,
             };
         }
-        Spot { i: self.i, j: j }
+        Point { i: self.i, j: j }
     }
 }
 
 impl Progress {
     // The same, with X and Y further on.
-    fn moved(mut self, x: Spot, y: Spot) -> Progress
+    fn moved(mut self, x: Point, y: Point) -> Progress
         ensures { λ r. ⌜ r ≡ movedTo self x y ⌝ }
     {
         self.x = x;
@@ -150,9 +150,9 @@ impl Progress {
     }
 }
 
-// The side whose record comes first moves on; of equal keys the upper record comes, and the lower is
-// passed over. The buffer has n records, the last block e.
-fn choose(z: Layout, bottom: bool, p: Spot, q: Spot, x: Head, y: Head, n: usize, e: usize) -> Move
+// The side whose record comes first moves on; of equal keys the upper record comes, and the lower
+// is passed over. The buffer has n records, the last block e.
+fn choose(z: Layout, bottom: bool, p: Point, q: Point, x: Head, y: Head, n: usize, e: usize) -> Move
     requires { ⌜ Choosable z p q x y n e ⌝ }
     ensures { λ r. ⌜ r ≡ chosen z bottom p q x y n e ⌝ }
 {

@@ -6,7 +6,7 @@ use borrow.Author.Tests.{eq-eqb, ne-eqb, le-leb, lt-leb}
 use native.Mathlib.Nat.{le-refl}
 use Rattle.blocks.specs.Blocks.{startOf}
 use Rattle.blocks.proofs.Laws.{in-store}
-use Rattle.stream.specs.declared.Spot.{Spot}
+use Rattle.stream.specs.declared.Point.{Point}
 use Rattle.joins.specs.Joins.{afterJoined}
 use Rattle.joins.proofs.Laws.{pull-able, pulled-n, pulled-clean, pulled-y, last-pull}
 use Rattle.sides.proofs.Laws.{last-low}
@@ -59,7 +59,7 @@ take-after-requires c κs =
     let p = last-pull (c .before .before .before .before .before .before .before .before .before .before .before .args .z) (c .before .before .before .before .before .before .before .before .before .before .before .args .s .now) (c .before .before .before .before .before .before .before .before .before .before .before .args .out .now) (c .before .before .before .before .before .before .before .before .before .before .before .args .w .m) (c .before .before .before .before .before .word .result) f h in
     let n = pulled-n (c .before .before .before .before .before .before .before .before .before .before .before .args .z) (c .before .before .before .before .before .before .before .before .before .before .before .args .s .now) (c .before .before .before .before .before .before .before .before .before .before .before .args .out .now) (c .before .before .before .before .before .before .before .before .before .before .before .args .w) in
     let w : c .before .before .before .before .before .word .result ≡ getD (c .before .before .before .before .before .before .before .before .before .before .before .args .s .now) (startOf (c .before .before .before .before .before .before .before .before .before .before .before .args .z) (c .before .before .before .before .before .before .before .listed .result)) 0 = c .before .before .before .before .before .word .ensures ∙ ap (λ (k : ℕ). getD (c .before .before .before .before .before .before .before .before .before .before .before .args .s .now) k 0) (c .before .before .before .before .before .before .place-start .ensures) in
-    let v = ap (λ (p : Spot). p .i) (pulled-y (c .before .before .before .before .before .before .before .before .before .before .before .args .z) (c .before .before .before .before .before .before .before .before .before .before .before .args .s .now) (c .before .before .before .before .before .before .before .before .before .before .before .args .out .now) (c .before .before .before .before .before .before .before .before .before .before .before .args .w)) in
+    let v = ap (λ (p : Point). p .i) (pulled-y (c .before .before .before .before .before .before .before .before .before .before .before .args .z) (c .before .before .before .before .before .before .before .before .before .before .before .args .s .now) (c .before .before .before .before .before .before .before .before .before .before .before .args .out .now) (c .before .before .before .before .before .before .before .before .before .before .before .args .w)) in
     let e = p .1 in
     let z = c .before .before .before .if2 .taken in
     let x = c .before .before .before .before .before .before .before .before .before .before .before .pre .end-high in

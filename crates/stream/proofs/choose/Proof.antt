@@ -10,7 +10,7 @@ use Rattle.stream.proofs.choose.Reads as reads
 use Rattle.stream.proofs.choose.Lts as lts
 use Rattle.sides.proofs.before.Reads as before-reads
 use Rattle.sides.proofs.reusable.Reads as reusable-reads
-use Rattle.stream.proofs.Spot.after.Reads as after-reads
+use Rattle.stream.proofs.Point.after.Reads as after-reads
 
 before-requires : tie.Need-before-requires
 before-requires c κs = search needs
