@@ -112,8 +112,8 @@ extern "C" {
 #define MEWILOVANG_STACK_LOOK_UP (12 * 1024)
 #define MEWILOVANG_STACK_NEXT (12 * 1024)
 #define MEWILOVANG_STACK_SHOW (12 * 1024)
-#define MEWILOVANG_STACK_PUT (158 * 1024)
-#define MEWILOVANG_STACK_DELETE (158 * 1024)
+#define MEWILOVANG_STACK_PUT (126 * 1024)
+#define MEWILOVANG_STACK_DELETE (126 * 1024)
 
 /* limit: N, the tests that the store holds at most. */
 typedef struct {
