@@ -2,9 +2,8 @@
 // written and proved once for both.
 
 ghost use mathlib.Core.Path.{_≡_};
-ghost use Prim.Native.Nat.{_+_, _≤_, _<_};
+ghost use Prim.Native.Nat.{_+_, _≤_};
 ghost use lib.ListN.{length};
-ghost use Rattle.words.specs.Layout.{word};
 ghost use Rattle.chunks.specs.Chunks.{Inside, riseOf, cleanOf, zerosAt};
 
 // Records in a row: their mark word, the words where their keys and their payloads start, and how many they are.
@@ -95,12 +94,4 @@ pub fn rise_over(s: &[u32], chunk: Chunk, low: usize) -> Rise
         return rise_plain(s, chunk, low);
     }
     Rise::Broken
-}
-
-// Word i, as a number that sums and products of words do not wrap.
-pub fn word(s: &[u32], i: usize) -> usize
-    requires { ⌜ i < length (now s) ⌝ }
-    ensures { λ r. ⌜ (r ≡ word (now (s .entry)) i) × (r < 4294967296) ⌝ }
-{
-    s[i] as usize
 }

@@ -115,7 +115,7 @@ fn record_sum(s: &[u32], list: &[u32; 4096], z: Layout, n: usize) -> usize
     for k in 0..n {
         let q = sides::listed(list, k);
         let at = blocks::place_start(z, q);
-        total = total + sides::word(s, at);
+        total = total + slices::word(s, at);
     }
     total
 }

@@ -39,7 +39,7 @@ pub fn top_of(s: &[u32], g: Geometry) -> Directory
     let list = g.marks_start();
     let base = g.keys_start();
     let pays = g.pays_start();
-    let records = chunks::word(s, 8);
+    let records = slices::word(s, 8);
     Directory {
         top: true,
         bottom: false,
@@ -61,7 +61,7 @@ pub fn level_of(s: &[u32], g: Geometry, i: usize) -> Directory
     let h = g.levels();
     let list = g.list_start(i);
     let base = g.places_start();
-    let n = chunks::word(s, 8 + i);
+    let n = slices::word(s, 8 + i);
     Directory {
         top: false,
         bottom: i == h,
@@ -97,12 +97,12 @@ pub fn header_ok(s: &[u32], g: Geometry) -> bool
     let k1 = room_of(g, 1);
     let k2 = room_of(g, 2);
     let k3 = room_of(g, 3);
-    let live = chunks::word(s, 6);
-    let hand = chunks::word(s, 7);
-    let records = chunks::word(s, 8);
-    let n1 = chunks::word(s, 9);
-    let n2 = chunks::word(s, 10);
-    let n3 = chunks::word(s, 11);
+    let live = slices::word(s, 6);
+    let hand = slices::word(s, 7);
+    let records = slices::word(s, 8);
+    let n1 = slices::word(s, 9);
+    let n2 = slices::word(s, 10);
+    let n3 = slices::word(s, 11);
     (live <= most)
         & ((hand < places) & ((records <= room) & ((n1 <= k1) & ((n2 <= k2) & (n3 <= k3)))))
 }
@@ -114,7 +114,7 @@ pub fn list_fresh(s: &[u32], used: &mut [bool; 8192], start: usize, n: usize, p:
         × (r ≡ true → now (used .exit) ≡ markOf (now (s .entry)) start n (now (used .entry))) ⌝ }
 {
     for i in 0..n {
-        let q = chunks::word(s, start + i);
+        let q = slices::word(s, start + i);
         if p <= q {
             return false;
         }
@@ -203,6 +203,6 @@ pub fn passes(s: &[u32], g: Geometry) -> bool
     if !directory::level_formed(s, d3) {
         return false;
     }
-    let live = chunks::word(s, 6);
+    let live = slices::word(s, 6);
     live == walk::live(s, d0, d1, d2, d3)
 }

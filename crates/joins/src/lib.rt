@@ -35,7 +35,7 @@ fn append_block(s: &[u32], z: Layout, q: usize, buf: Buffer) -> Buffer
     ensures { λ r. ⌜ r ≡ appended (z .b) (now (s .entry)) (startOf z q) buf (getD (now (s .entry)) (startOf z q) 0) ⌝ }
 {
     let at = blocks::place_start(z, q);
-    let n = sides::word(s, at);
+    let n = slices::word(s, at);
     append_words(s, z, at, n, buf)
 }
 
@@ -125,7 +125,7 @@ fn join_after(
     }
     let q = sides::listed(ys, i);
     let at = blocks::place_start(z, q);
-    let size = sides::word(s, at);
+    let size = slices::word(s, at);
     let buf = w.buf;
     let n = buf.n;
     let b = z.b;

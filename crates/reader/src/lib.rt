@@ -105,7 +105,7 @@ pub fn show_block(s: &[u32], g: Geometry, level: usize, k: usize) -> Part
         return none;
     };
     let list = dir.list;
-    let place = chunks::word(s, list + i);
+    let place = slices::word(s, list + i);
     Part {
         start: g.place_start(place),
         length: g.block_width(),

@@ -33,7 +33,7 @@ pub fn seek_chunk(s: &[u32], dir: Directory, k: usize) -> usize
         let mid = lo + (hi - lo) / 2;
         let chunk = directory::chunk_at(s, dir, mid);
         let at = chunk.keys;
-        let first = chunks::word(s, at);
+        let first = slices::word(s, at);
         if first <= k {
             lo = mid;
         } else {
@@ -55,14 +55,14 @@ pub fn seek(s: &[u32], chunk: Chunk, k: usize) -> Found
     let mut hi = chunk.count;
     while lo + 1 < hi {
         let mid = lo + (hi - lo) / 2;
-        let x = chunks::word(s, keys + mid);
+        let x = slices::word(s, keys + mid);
         if x <= k {
             lo = mid;
         } else {
             hi = mid;
         }
     }
-    let x = chunks::word(s, keys + lo);
+    let x = slices::word(s, keys + lo);
     if x == k {
         let shift = lo as u32;
         return Found::Here((m >> shift) % 2 == 1, s[pays + lo]);
@@ -97,8 +97,8 @@ pub fn enclosing(s: &[u32], dir: Directory, k: usize) -> Enclosed
     let chunk = directory::chunk_at(s, dir, i);
     let keys = chunk.keys;
     let count = chunk.count;
-    let first = chunks::word(s, keys);
-    let last = chunks::word(s, keys + (count - 1));
+    let first = slices::word(s, keys);
+    let last = slices::word(s, keys + (count - 1));
     let held = (first <= k) & (k <= last);
     if held {
         return Enclosed::At(i);

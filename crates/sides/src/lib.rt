@@ -33,27 +33,12 @@ pub struct Head {
     pub place: usize,
 }
 
-// A function of its own, so that the callers' proofs see a number and no cast.
-fn wide(x: u32) -> usize
-    ensures { λ r. ⌜ r ≡ x ⌝ }
-{
-    x as usize
-}
-
 // Entry i of a place list, as a number to compute offsets with.
 pub fn listed(list: &[u32; 4096], i: usize) -> usize
     requires { ⌜ i < 4096 ⌝ }
     ensures { λ r. ⌜ r ≡ getD (now (list .entry)) i 0 ⌝ }
 {
-    wide(list[i])
-}
-
-// Word i, likewise.
-pub fn word(s: &[u32], i: usize) -> usize
-    requires { ⌜ i < length (now s) ⌝ }
-    ensures { λ r. ⌜ r ≡ getD (now (s .entry)) i 0 ⌝ }
-{
-    wide(s[i])
+    slices::word(list, i)
 }
 
 // The block at place q.
@@ -63,7 +48,7 @@ pub fn block_chunk(s: &[u32], z: Layout, q: usize) -> Chunk
 {
     let at = blocks::place_start(z, q);
     let b = z.b;
-    let n = word(s, at);
+    let n = slices::word(s, at);
     Chunk {
         marks: at + 1,
         keys: at + 2,
@@ -168,7 +153,7 @@ pub fn last_size(s: &[u32], z: Layout, out: &[u32; 4096], m: usize) -> usize
     }
     let q = listed(out, m - 1);
     let at = blocks::place_start(z, q);
-    word(s, at)
+    slices::word(s, at)
 }
 
 // a's next record comes before that of b.

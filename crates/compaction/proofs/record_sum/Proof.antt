@@ -11,7 +11,7 @@ use Rattle.compaction.proofs.record_sum.Reads as reads
 use Rattle.compaction.proofs.record_sum.Lts as lts
 use Rattle.blocks.proofs.place_start.Reads as place-start-reads
 use Rattle.sides.proofs.listed.Reads as listed-reads
-use Rattle.sides.proofs.word.Reads as word-reads
+use Rattle.slices.proofs.word.Reads as word-reads
 
 abbrev Inv-loop : tie.InvT-loop
 Inv-loop s list z n total₀ k₀ total k = (k ≤ n) × (total ≡ recordSum z s list k)
@@ -33,7 +33,7 @@ word-requires : tie.Need-word-requires Inv-loop μ-loop
 word-requires c κs = rw (c .place-start .ensures, c .before .listed .ensures) (omega (arith, in-store (c .before .before .before .before .before .args .z) (c .before .before .before .before .before .args .s .now) (c .before .before .before .before .before .pre .sized) _ 0 (c .before .before .before .before .before .pre .place (c .before .before .before .loop .k) (c .before .before .loop-test .taken)) (omega (arith, c .before .before .before .before .before .pre .sized .b-low))))
 
 add-total : tie.Need-add-total Inv-loop μ-loop
-add-total c = rw (c .word .ensures, c .before .place-start .ensures, c .before .before .listed .ensures, c .before .before .before .before .loop .inv .1) (omega (arith, sum-low (c .before .before .before .before .before .before .args .z) (c .before .before .before .before .before .before .args .s .now) (c .before .before .before .before .before .before .args .list .now) (c .before .before .before .before .before .before .args .n) (c .before .before .before .before .before .before .pre) (c .before .before .before .before .loop .k) (c .before .before .before .loop-test .taken)))
+add-total c = rw (c .word .ensures .0, c .before .place-start .ensures, c .before .before .listed .ensures, c .before .before .before .before .loop .inv .1) (omega (arith, sum-low (c .before .before .before .before .before .before .args .z) (c .before .before .before .before .before .before .args .s .now) (c .before .before .before .before .before .before .args .list .now) (c .before .before .before .before .before .before .args .n) (c .before .before .before .before .before .before .pre) (c .before .before .before .before .loop .k) (c .before .before .before .loop-test .taken)))
 
 add-k : tie.Need-add-k Inv-loop μ-loop
 add-k c = omega arith
@@ -42,7 +42,7 @@ loop-less : tie.Need-loop-less Inv-loop μ-loop
 loop-less c = omega arith
 
 loop-again : tie.Need-loop-again Inv-loop μ-loop
-loop-again c = (omega arith, rw (c .word .ensures, c .before .place-start .ensures, c .before .before .listed .ensures, c .before .before .before .before .loop .inv .1) (sum-more (c .before .before .before .before .before .before .args .z) (c .before .before .before .before .before .before .args .s .now) (c .before .before .before .before .before .before .args .list .now) (c .before .before .before .before .loop .k)))
+loop-again c = (omega arith, rw (c .word .ensures .0, c .before .place-start .ensures, c .before .before .listed .ensures, c .before .before .before .before .loop .inv .1) (sum-more (c .before .before .before .before .before .before .args .z) (c .before .before .before .before .before .before .args .s .now) (c .before .before .before .before .before .before .args .list .now) (c .before .before .before .before .loop .k)))
 
 returns : tie.Need-returns Inv-loop μ-loop
 returns c =

@@ -4,7 +4,7 @@ use Rattle.form.proofs.header_ok.Statement.{statement}
 use Rattle.form.proofs.header_ok.Tie as tie
 use Rattle.form.proofs.header_ok.Reads as reads
 use Rattle.form.proofs.header_ok.Lts as lts
-use Rattle.chunks.proofs.word.Reads as word-reads
+use Rattle.slices.proofs.word.Reads as word-reads
 use Rattle.form.proofs.room_of.Reads as room-of-reads
 use Rattle.geometry.proofs.Geometry.key_limit.Reads as key-limit-reads
 use Rattle.geometry.proofs.Geometry.places.Reads as places-reads

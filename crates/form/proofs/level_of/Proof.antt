@@ -4,7 +4,7 @@ use Rattle.form.proofs.level_of.Statement.{statement}
 use Rattle.form.proofs.level_of.Tie as tie
 use Rattle.form.proofs.level_of.Reads as reads
 use Rattle.form.proofs.level_of.Lts as lts
-use Rattle.chunks.proofs.word.Reads as word-reads
+use Rattle.slices.proofs.word.Reads as word-reads
 use Rattle.geometry.proofs.Geometry.block_records.Reads as block-records-reads
 use Rattle.geometry.proofs.Geometry.levels.Reads as levels-reads
 use Rattle.geometry.proofs.Geometry.list_start.Reads as list-start-reads

@@ -9,7 +9,7 @@ use Rattle.form.proofs.list_fresh.Statement.{statement}
 use Rattle.form.proofs.list_fresh.Tie as tie
 use Rattle.form.proofs.list_fresh.Reads as reads
 use Rattle.form.proofs.list_fresh.Lts as lts
-use Rattle.chunks.proofs.word.Reads as word-reads
+use Rattle.slices.proofs.word.Reads as word-reads
 
 abbrev Inv-loop : tie.InvT-loop
 Inv-loop s used₀ start n p i₀ used i = (i ≤ n) × ((freshOf s p (start + i) (n - i) used ≡ freshOf s p start n used₀) × (markOf s (start + i) (n - i) used ≡ markOf s start n used₀))

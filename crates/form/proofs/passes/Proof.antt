@@ -11,7 +11,7 @@ use Rattle.form.proofs.passes.Statement.{statement}
 use Rattle.form.proofs.passes.Tie as tie
 use Rattle.form.proofs.passes.Reads as reads
 use Rattle.form.proofs.passes.Lts as lts
-use Rattle.chunks.proofs.word.Reads as word-reads
+use Rattle.slices.proofs.word.Reads as word-reads
 use Rattle.directory.proofs.level_formed.Reads as level-formed-reads
 use Rattle.form.proofs.header_ok.Reads as header-ok-reads
 use Rattle.form.proofs.level_of.Reads as level-of-reads

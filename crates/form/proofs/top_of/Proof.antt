@@ -4,7 +4,7 @@ use Rattle.form.proofs.top_of.Statement.{statement}
 use Rattle.form.proofs.top_of.Tie as tie
 use Rattle.form.proofs.top_of.Reads as reads
 use Rattle.form.proofs.top_of.Lts as lts
-use Rattle.chunks.proofs.word.Reads as word-reads
+use Rattle.slices.proofs.word.Reads as word-reads
 use Rattle.geometry.proofs.Geometry.block_records.Reads as block-records-reads
 use Rattle.geometry.proofs.Geometry.keys_start.Reads as keys-start-reads
 use Rattle.geometry.proofs.Geometry.marks_start.Reads as marks-start-reads

@@ -20,7 +20,7 @@ use Rattle.joins.proofs.pull_last.Reads as pull-last-reads
 use Rattle.joins.proofs.take_after.Reads as take-after-reads
 use Rattle.sides.proofs.last_size.Reads as last-size-reads
 use Rattle.sides.proofs.listed.Reads as listed-reads
-use Rattle.sides.proofs.word.Reads as word-reads
+use Rattle.slices.proofs.word.Reads as word-reads
 
 returns : tie.Need-returns
 unfolding afterJoined
@@ -42,23 +42,23 @@ add-if3 : tie.Need-add-if3
 add-if3 c =
     let l = last-low (c .before .before .before .before .before .before .before .before .before .args .z) (c .before .before .before .before .before .before .before .before .before .args .s .now) (c .before .before .before .before .before .before .before .before .before .args .out .now) (c .before .before .before .before .before .before .before .before .before .args .w .m) (c .before .before .before .before .before .before .before .before .before .pre .lefts .sized) (λ i. c .before .before .before .before .before .before .before .before .shared-slice-known .given i .fits) in
     let e = c .last-size .ensures in
-    let f = c .before .before .before .word .ensures in
+    let f = c .before .before .before .word .ensures .0 in
     let g = c .before .before .before .before .before .before .before .before .shared-slice-known .given (c .before .before .before .before .place-start .result) .fits in
     omega arith
 
 pull-last-requires : tie.Need-pull-last-requires
 pull-last-requires c κs =
     let n = c .before .before .if2 .taken in
-    let f : 1 ≤ c .before .before .before .before .word .result = rw (c .before .before .before .before .word .ensures, c .before .before .before .before .before .place-start .ensures, c .before .before .before .before .before .before .listed .ensures) (c .before .before .before .before .before .before .before .before .before .before .pre .filled (c .before .before .before .before .before .before .before .if1 .left)) in
+    let f : 1 ≤ c .before .before .before .before .word .result = rw (c .before .before .before .before .word .ensures .0, c .before .before .before .before .before .place-start .ensures, c .before .before .before .before .before .before .listed .ensures) (c .before .before .before .before .before .before .before .before .before .before .pre .filled (c .before .before .before .before .before .before .before .if1 .left)) in
     pull-able (c .before .before .before .before .before .before .before .before .before .before .args .z) (c .before .before .before .before .before .before .before .before .before .before .args .s .now) (c .before .before .before .before .before .before .before .before .before .before .args .out .now) (c .before .before .before .before .before .before .before .before .before .before .args .w) (c .before .before .before .before .word .result) (c .before .before .before .before .before .before .before .before .before .before .pre .lefts) f (omega arith) (rw (← c .before .last-size .ensures) (c .if3 .taken))
 
 take-after-requires : tie.Need-take-after-requires
 take-after-requires c κs =
-    let f : 1 ≤ c .before .before .before .before .before .word .result = rw (c .before .before .before .before .before .word .ensures, c .before .before .before .before .before .before .place-start .ensures, c .before .before .before .before .before .before .before .listed .ensures) (c .before .before .before .before .before .before .before .before .before .before .before .pre .filled (c .before .before .before .before .before .before .before .before .if1 .left)) in
+    let f : 1 ≤ c .before .before .before .before .before .word .result = rw (c .before .before .before .before .before .word .ensures .0, c .before .before .before .before .before .before .place-start .ensures, c .before .before .before .before .before .before .before .listed .ensures) (c .before .before .before .before .before .before .before .before .before .before .before .pre .filled (c .before .before .before .before .before .before .before .before .if1 .left)) in
     let h = rw (c .before .before .last-size .ensures) at (c .before .if3 .taken) in
     let p = last-pull (c .before .before .before .before .before .before .before .before .before .before .before .args .z) (c .before .before .before .before .before .before .before .before .before .before .before .args .s .now) (c .before .before .before .before .before .before .before .before .before .before .before .args .out .now) (c .before .before .before .before .before .before .before .before .before .before .before .args .w .m) (c .before .before .before .before .before .word .result) f h in
     let n = pulled-n (c .before .before .before .before .before .before .before .before .before .before .before .args .z) (c .before .before .before .before .before .before .before .before .before .before .before .args .s .now) (c .before .before .before .before .before .before .before .before .before .before .before .args .out .now) (c .before .before .before .before .before .before .before .before .before .before .before .args .w) in
-    let w : c .before .before .before .before .before .word .result ≡ getD (c .before .before .before .before .before .before .before .before .before .before .before .args .s .now) (startOf (c .before .before .before .before .before .before .before .before .before .before .before .args .z) (c .before .before .before .before .before .before .before .listed .result)) 0 = c .before .before .before .before .before .word .ensures ∙ ap (λ (k : ℕ). getD (c .before .before .before .before .before .before .before .before .before .before .before .args .s .now) k 0) (c .before .before .before .before .before .before .place-start .ensures) in
+    let w : c .before .before .before .before .before .word .result ≡ getD (c .before .before .before .before .before .before .before .before .before .before .before .args .s .now) (startOf (c .before .before .before .before .before .before .before .before .before .before .before .args .z) (c .before .before .before .before .before .before .before .listed .result)) 0 = c .before .before .before .before .before .word .ensures .0 ∙ ap (λ (k : ℕ). getD (c .before .before .before .before .before .before .before .before .before .before .before .args .s .now) k 0) (c .before .before .before .before .before .before .place-start .ensures) in
     let v = ap (λ (p : Point). p .i) (pulled-y (c .before .before .before .before .before .before .before .before .before .before .before .args .z) (c .before .before .before .before .before .before .before .before .before .before .before .args .s .now) (c .before .before .before .before .before .before .before .before .before .before .before .args .out .now) (c .before .before .before .before .before .before .before .before .before .before .before .args .w)) in
     let e = p .1 in
     let z = c .before .before .before .if2 .taken in
@@ -70,23 +70,23 @@ returns-2 : tie.Need-returns-2
 unfolding afterJoined
 returns-2 c =
     let h = le-leb _ _ (c .before .before .if3 .taken) in
-    c .take-after .ensures ∙ rw (c .before .pull-last .ensures, lt-leb _ _ (c .before .before .before .before .before .before .before .before .before .if1 .left), eq-eqb _ _ (c .before .before .before .before .if2 .taken), ← c .before .before .before .last-size .ensures, ← c .before .before .before .before .before .before .before .before .listed .ensures, ← c .before .before .before .before .before .before .before .place-start .ensures, ← c .before .before .before .before .before .before .word .ensures, h)
+    c .take-after .ensures ∙ rw (c .before .pull-last .ensures, lt-leb _ _ (c .before .before .before .before .before .before .before .before .before .if1 .left), eq-eqb _ _ (c .before .before .before .before .if2 .taken), ← c .before .before .before .last-size .ensures, ← c .before .before .before .before .before .before .before .before .listed .ensures, ← c .before .before .before .before .before .before .before .place-start .ensures, ← c .before .before .before .before .before .before .word .ensures .0, h)
 
 returns-3 : tie.Need-returns-3
 unfolding afterJoined
 returns-3 c =
     let h = lt-leb _ _ (c .if3 .left) in
-    rw (lt-leb _ _ (c .before .before .before .before .before .before .before .if1 .left), eq-eqb _ _ (c .before .before .if2 .taken), ← c .before .last-size .ensures, ← c .before .before .before .before .before .before .listed .ensures, ← c .before .before .before .before .before .place-start .ensures, ← c .before .before .before .before .word .ensures, h)
+    rw (lt-leb _ _ (c .before .before .before .before .before .before .before .if1 .left), eq-eqb _ _ (c .before .before .if2 .taken), ← c .before .last-size .ensures, ← c .before .before .before .before .before .before .listed .ensures, ← c .before .before .before .before .before .place-start .ensures, ← c .before .before .before .before .word .ensures .0, h)
 
 add-if4 : tie.Need-add-if4
 add-if4 c =
-    let f = c .before .before .word .ensures in
+    let f = c .before .before .word .ensures .0 in
     let g = c .before .before .before .before .before .before .before .shared-slice-known .given (c .before .before .before .place-start .result) .fits in
     omega arith
 
 take-after-requires-2 : tie.Need-take-after-requires-2
 take-after-requires-2 c κs =
-    let w : c .before .before .before .word .result ≡ getD (c .before .before .before .before .before .before .before .before .before .args .s .now) (startOf (c .before .before .before .before .before .before .before .before .before .args .z) (c .before .before .before .before .before .listed .result)) 0 = c .before .before .before .word .ensures ∙ ap (λ (k : ℕ). getD (c .before .before .before .before .before .before .before .before .before .args .s .now) k 0) (c .before .before .before .before .place-start .ensures) in
+    let w : c .before .before .before .word .result ≡ getD (c .before .before .before .before .before .before .before .before .before .args .s .now) (startOf (c .before .before .before .before .before .before .before .before .before .args .z) (c .before .before .before .before .before .listed .result)) 0 = c .before .before .before .word .ensures .0 ∙ ap (λ (k : ℕ). getD (c .before .before .before .before .before .before .before .before .before .args .s .now) k 0) (c .before .before .before .before .place-start .ensures) in
     let t = c .if4 .taken in
     let x = c .before .before .before .before .before .before .before .before .before .pre .end-high in
     let y = c .before .before .before .before .before .before .if1 .left in
@@ -96,13 +96,13 @@ returns-4 : tie.Need-returns-4
 unfolding afterJoined
 returns-4 c =
     let h = le-leb _ _ (c .before .if4 .taken) in
-    c .take-after2 .ensures ∙ rw (lt-leb _ _ (c .before .before .before .before .before .before .before .if1 .left), ne-eqb _ _ (c .before .before .if2 .left), ← c .before .before .before .before .before .before .listed .ensures, ← c .before .before .before .before .before .place-start .ensures, ← c .before .before .before .before .word .ensures, h)
+    c .take-after2 .ensures ∙ rw (lt-leb _ _ (c .before .before .before .before .before .before .before .if1 .left), ne-eqb _ _ (c .before .before .if2 .left), ← c .before .before .before .before .before .before .listed .ensures, ← c .before .before .before .before .before .place-start .ensures, ← c .before .before .before .before .word .ensures .0, h)
 
 returns-5 : tie.Need-returns-5
 unfolding afterJoined
 returns-5 c =
     let h = lt-leb _ _ (c .if4 .left) in
-    rw (lt-leb _ _ (c .before .before .before .before .before .before .if1 .left), ne-eqb _ _ (c .before .if2 .left), ← c .before .before .before .before .before .listed .ensures, ← c .before .before .before .before .place-start .ensures, ← c .before .before .before .word .ensures, h)
+    rw (lt-leb _ _ (c .before .before .before .before .before .before .if1 .left), ne-eqb _ _ (c .before .if2 .left), ← c .before .before .before .before .before .listed .ensures, ← c .before .before .before .before .place-start .ensures, ← c .before .before .before .word .ensures .0, h)
 
 pub join-after-spec : {M : Type 1} → statement M
 join-after-spec =

@@ -6,7 +6,7 @@ use Rattle.search.proofs.enclosing.Statement.{statement}
 use Rattle.search.proofs.enclosing.Tie as tie
 use Rattle.search.proofs.enclosing.Reads as reads
 use Rattle.search.proofs.enclosing.Lts as lts
-use Rattle.chunks.proofs.word.Reads as word-reads
+use Rattle.slices.proofs.word.Reads as word-reads
 use Rattle.directory.proofs.chunk_at.Reads as chunk-at-reads
 use Rattle.search.proofs.seek_chunk.Reads as seek-chunk-reads
 

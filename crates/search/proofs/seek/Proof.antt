@@ -8,7 +8,7 @@ use Rattle.search.proofs.seek.Statement.{statement}
 use Rattle.search.proofs.seek.Tie as tie
 use Rattle.search.proofs.seek.Reads as reads
 use Rattle.search.proofs.seek.Lts as lts
-use Rattle.chunks.proofs.word.Reads as word-reads
+use Rattle.slices.proofs.word.Reads as word-reads
 
 abbrev Inv-loop : tie.InvT-loop
 Inv-loop s k keys pays m lo₀ hi₀ lo hi = (lo < hi) × ((hi ≤ hi₀) × ((1 ≤ lo → word s (keys + lo) ≤ k) × (hi < hi₀ → k < word s (keys + hi))))

@@ -8,7 +8,7 @@ use Rattle.search.proofs.seek_chunk.Tie as tie
 use Rattle.search.proofs.seek_chunk.Reads as reads
 use Rattle.search.proofs.seek_chunk.Lts as lts
 use Rattle.directory.proofs.chunk_at.Reads as chunk-at-reads
-use Rattle.chunks.proofs.word.Reads as word-reads
+use Rattle.slices.proofs.word.Reads as word-reads
 
 abbrev Inv-loop : tie.InvT-loop
 Inv-loop s dir k lo₀ hi₀ lo hi = (lo < hi) × ((hi ≤ dir .chunks) × ((1 ≤ lo → firstAt s dir lo ≤ k) × (hi < dir .chunks → k < firstAt s dir hi)))

@@ -10,7 +10,7 @@ use Rattle.sides.proofs.block_chunk.Tie as tie
 use Rattle.sides.proofs.block_chunk.Reads as reads
 use Rattle.sides.proofs.block_chunk.Lts as lts
 use Rattle.blocks.proofs.place_start.Reads as place-start-reads
-use Rattle.sides.proofs.word.Reads as word-reads
+use Rattle.slices.proofs.word.Reads as word-reads
 
 place-start-requires : tie.Need-place-start-requires
 place-start-requires c κs = search needs
@@ -31,7 +31,7 @@ add-t10 : tie.Need-add-t10
 add-t10 c = rw (c .before .place-start .ensures) (omega (arith, ends (c .before .before .before .args .z) (c .before .before .before .args .s .now) (c .before .before .before .pre .0) (c .before .before .before .args .q) (c .before .before .before .pre .1)))
 
 returns : tie.Need-returns
-returns c = rw (c .word .ensures, c .before .place-start .ensures)
+returns c = rw (c .word .ensures .0, c .before .place-start .ensures)
 
 pub block-chunk-spec : {M : Type 1} → statement M
 block-chunk-spec =

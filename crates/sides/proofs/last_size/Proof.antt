@@ -13,7 +13,7 @@ use Rattle.sides.proofs.last_size.Reads as reads
 use Rattle.sides.proofs.last_size.Lts as lts
 use Rattle.blocks.proofs.place_start.Reads as place-start-reads
 use Rattle.sides.proofs.listed.Reads as listed-reads
-use Rattle.sides.proofs.word.Reads as word-reads
+use Rattle.slices.proofs.word.Reads as word-reads
 
 returns : tie.Need-returns
 unfolding lastSize
@@ -36,7 +36,7 @@ word-requires c κs =
 
 returns-2 : tie.Need-returns-2
 unfolding lastSize
-returns-2 c = rw (ne-eqb _ _ (c .before .before .before .if1 .left), c .word .ensures, c .before .place-start .ensures, c .before .before .listed .ensures)
+returns-2 c = rw (ne-eqb _ _ (c .before .before .before .if1 .left), c .word .ensures .0, c .before .place-start .ensures, c .before .before .listed .ensures)
 
 pub last-size-spec : {M : Type 1} → statement M
 last-size-spec =
