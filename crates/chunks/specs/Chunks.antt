@@ -1,7 +1,7 @@
 -- Chunks: records that stand in a row in the words of a store, and the code's passes over them.
 use Prim.Native.Nat.{ℕ, zero, suc, _+_, _/_, _%_, _≤_}
 use mathlib.Core.Bool.{Bool, true, not, _&&_}
-use mathlib.Core.List.{List, [], _∷_}
+use mathlib.Core.List.{List, []}
 use lib.Dec.{leb, eqb}
 use lib.ListN.{length}
 use Rattle.levels.specs.Basics.{if_then_else_}

@@ -12,7 +12,6 @@ use Rattle.geometry.specs.declared.Geometry.{Geometry}
 use Rattle.geometry.specs.Geometry.{capacityOf, keyLimitOf, topCapacityOf, keysStart, paysStart}
 use Rattle.geometry.proofs.Laws.{pays-end}
 use Rattle.geometry.proofs.Bounds.{capacity-zero-high}
-use Rattle.levels.specs.Basics.{if_then_else_}
 use Rattle.words.specs.Layout.{word}
 use Rattle.words.specs.Form.{liveFits, cursorInside, topFits, roomOf, countsFit}
 use Rattle.chunks.specs.Chunks.{zerosAt}

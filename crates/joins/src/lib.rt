@@ -2,11 +2,10 @@
 // and the blocks after Y follow.
 
 ghost use mathlib.Core.Path.{_≡_};
-ghost use Prim.Native.Nat.{ℕ, _+_, _-_, _*_, _^_, _/_, _%_, _≤_, _<_};
-ghost use lib.ListN.{length, getD, set};
-ghost use Rattle.blocks.specs.Blocks.{Sized, startOf};
-ghost use Rattle.sides.specs.Sides.{lastSize};
-ghost use Rattle.stream.specs.Machine.{Memory, Flushable, flushed};
+ghost use Prim.Native.Nat.{_+_, _-_, _*_, _%_, _≤_, _<_};
+ghost use lib.ListN.{length, getD};
+ghost use Rattle.blocks.specs.Blocks.{startOf};
+ghost use Rattle.stream.specs.Machine.{Memory};
 ghost use Rattle.joins.specs.Joins.{Clean, Loadable, appended, joined, Pullable, pulled, Lefts, leftJoined, Afters, afterTaken, afterJoined, restedOut, Closable, closed};
 use blocks::Buffer;
 use blocks::Layout;

@@ -6,7 +6,7 @@ ghost use mathlib.Core.List.{[], _∷_};
 ghost use lib.ListN.{length};
 ghost use Rattle.lines.specs.Bytes.{isDigit, Printed, Filled};
 ghost use Rattle.lines.specs.Lines.{lineOf, decimal, field, formatLine, getLine, changeLine, unreadableLine};
-ghost use Rattle.lines.specs.Machine.{noNumbers, pushed, relast, isLetter, afterStart, afterLetter, afterSpace, grown, afterDigits, step, run, said, lineAfter, isStart};
+ghost use Rattle.lines.specs.Machine.{noNumbers, pushed, relast, isLetter, afterStart, afterLetter, afterSpace, grown, afterDigits, step, said, lineAfter, isStart};
 
 // What a line says.
 pub enum Line {

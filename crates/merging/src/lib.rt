@@ -1,7 +1,7 @@
 // Steps 3 and 4 of a merge, from the place lists of two levels to the new list of the lower one.
 
 ghost use mathlib.Core.Path.{_≡_};
-ghost use Prim.Native.Nat.{ℕ, _+_, _-_, _≤_, _<_};
+ghost use Prim.Native.Nat.{_+_, _-_, _≤_};
 ghost use Rattle.levels.specs.Place.{Allocation, settle};
 ghost use Rattle.blocks.specs.Blocks.{Marks};
 ghost use Rattle.merging.specs.Contract.{mergeOf, Mergeable, Leaves, inputsOf, beginOf, limitOf};

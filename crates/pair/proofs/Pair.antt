@@ -10,7 +10,7 @@ use lib.Seq.{take-take}
 use Rattle.geometry.specs.declared.Geometry.{Geometry}
 use Rattle.geometry.specs.Geometry.{windowOf, placesStart}
 use Rattle.geometry.proofs.Laws.{window-low}
-use Rattle.levels.specs.Record.{Level, size}
+use Rattle.levels.specs.Record.{Level}
 use Rattle.levels.specs.Choose.{choose, cutAt}
 use Rattle.levels.specs.Choose as choosing
 use Rattle.levels.specs.Merge.{merge, close}
@@ -18,7 +18,7 @@ use Rattle.levels.specs.Place.{Allocation, settle}
 use Rattle.levels.specs.Taking.{fresh}
 use Rattle.levels.proofs.Fresh.{count-all}
 use Rattle.levels.proofs.Settling.{written-length, settle-length}
-use Rattle.words.specs.Layout.{recordCount, blockSlots, blockAt, areaOf, writeBlocks}
+use Rattle.words.specs.Layout.{blockAt, areaOf, writeBlocks}
 use Rattle.words.proofs.Blocks.{writes-append, block-size}
 use Rattle.choice.specs.Fences.{Ordered, fenceOf}
 use Rattle.levels.proofs.Levels.{Filled}

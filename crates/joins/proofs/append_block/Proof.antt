@@ -1,6 +1,4 @@
 use native.Mathlib.Omega.{arith}
-use Prim.Native.Nat.{ℕ, _≤_, _<_, _+_, _-_}
-use mathlib.Core.Path.{_≡_, refl, sym, _∙_, ap}
 use Rattle.blocks.proofs.Laws.{in-store, ends}
 use borrow.Author.Needs.{needs}
 use Rattle.joins.proofs.append_block.Statement.{statement}

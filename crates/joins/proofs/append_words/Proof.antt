@@ -1,7 +1,7 @@
 use borrow.Author.Needs.{needs}
 use native.Mathlib.Omega.{arith}
-use Prim.Native.Nat.{ℕ, _≤_, _<_, _+_, _-_, _%_, _^_}
-use mathlib.Core.Path.{_≡_, refl, sym, _∙_, ap}
+use Prim.Native.Nat.{_≤_, _-_}
+use mathlib.Core.Path.{_≡_, refl, _∙_}
 use Rattle.joins.specs.Joins.{appended}
 use Rattle.joins.proofs.Laws.{appended-n, appended-clean, appended-more}
 use Rattle.joins.proofs.append_words.Statement.{statement}

@@ -1,9 +1,8 @@
 use native.Mathlib.Omega.{arith}
-use Prim.Native.Nat.{ℕ, _≤_, _<_, _+_, _-_}
-use mathlib.Core.Path.{_≡_, refl, sym, _∙_, ap}
+use Prim.Native.Nat.{_≤_, _+_, _-_}
+use mathlib.Core.Path.{_≡_, _∙_, ap}
 use Rattle.stream.specs.Machine.{Memory, flushed}
-use Rattle.stream.specs.declared.Progress.{Progress}
-use Rattle.joins.specs.Joins.{closed, rested, joinedUp, leftJoined, afterJoined}
+use Rattle.joins.specs.Joins.{closed, rested, joinedUp}
 use borrow.Author.Needs.{needs}
 use Rattle.joins.proofs.close.Statement.{statement}
 use Rattle.joins.proofs.close.Tie as tie

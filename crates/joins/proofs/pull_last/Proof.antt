@@ -1,8 +1,7 @@
 use Rattle.blocks.specs.Blocks.{startOf, emptyBuffer}
 use lib.ListN.{getD}
 use native.Mathlib.Omega.{arith}
-use Prim.Native.Nat.{ℕ, _≤_, _<_, _+_, _-_}
-use mathlib.Core.Path.{_≡_, refl, sym, _∙_, ap}
+use Prim.Native.Nat.{_-_}
 use Rattle.joins.specs.Joins.{pulled}
 use Rattle.joins.proofs.Laws.{empty-clean, appended-n, appended-clean}
 use borrow.Author.Needs.{needs}

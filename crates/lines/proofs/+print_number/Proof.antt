@@ -2,7 +2,6 @@
 use borrow.Author.Needs.{needs}
 use native.Mathlib.Omega.{arith}
 use lib.ListN.{length, length-set}
-use Prim.Native.Nat.{_+_}
 use Rattle.lines.proofs.Digits.{decimal-small, decimal-more, length-small, length-more}
 use Rattle.lines.proofs.Print.{printed-one, printed-then}
 use Prim.Native.Nat.{ℕ, _<_}

@@ -1,10 +1,7 @@
 use Rattle.merging.proofs.Merge.{ready, closing, leaves-in}
-use Prim.Native.Nat.{ℕ, _+_, _-_, _≤_}
+use Prim.Native.Nat.{_-_}
 use native.Mathlib.Omega.{arith}
-use mathlib.Core.Path.{_≡_, sym, _∙_, ap}
-use lib.ListN.{length}
-use Rattle.stream.specs.Machine.{Memory}
-use Rattle.joins.specs.Joins.{restedOut, closed}
+use mathlib.Core.Path.{_≡_, _∙_}
 use borrow.Author.Needs.{needs}
 use Rattle.merging.proofs.merge_blocks.Statement.{statement}
 use Rattle.merging.proofs.merge_blocks.Tie as tie

@@ -1,8 +1,4 @@
 use native.Mathlib.Omega.{arith}
-use Prim.Native.Nat.{_+_, _*_, _≤_, _<_, _-_}
-use mathlib.Core.Path.{_∙_}
-use lib.ListN.{length}
-use Rattle.blocks.specs.Blocks.{startOf}
 use Rattle.blocks.proofs.Laws.{ends}
 use borrow.Author.Needs.{needs}
 use Rattle.sides.proofs.block_chunk.Statement.{statement}

@@ -1,10 +1,7 @@
 use borrow.Author.Tests.{eq-eqb, ne-eqb}
 use native.Mathlib.Omega.{arith}
-use Prim.Native.Nat.{_+_, _<_, _-_}
-use mathlib.Core.Path.{_∙_, ap}
-use lib.ListN.{getD}
+use Prim.Native.Nat.{_<_}
 use Rattle.sides.specs.Sides.{lastSize}
-use Rattle.blocks.specs.Blocks.{startOf}
 use Rattle.blocks.proofs.Laws.{in-store}
 use borrow.Author.Needs.{needs}
 use Rattle.sides.proofs.last_size.Statement.{statement}

@@ -1,9 +1,7 @@
 use native.Mathlib.Omega.{arith}
-use Prim.Native.Nat.{_+_, _*_, _≤_, _<_, _-_}
 use borrow.Author.Tests.{le-leb, lt-leb}
 use Rattle.sides.specs.Sides.{headOf}
 use Rattle.sides.proofs.Laws.{readable-chunked, chunk-inside}
-use borrow.Author.Needs.{needs}
 use Rattle.sides.proofs.peek.Statement.{statement}
 use Rattle.sides.proofs.peek.Tie as tie
 use Rattle.sides.proofs.peek.Reads as reads

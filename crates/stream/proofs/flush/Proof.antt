@@ -1,7 +1,5 @@
 use borrow.Author.Tests.{eq-eqb, ne-eqb}
 use native.Mathlib.Omega.{arith}
-use Prim.Native.Nat.{_+_, _<_, _-_}
-use mathlib.Core.Path.{_∙_, ap}
 use Rattle.stream.specs.Machine.{flushed}
 use Rattle.blocks.proofs.Laws.{free-low}
 use borrow.Author.Needs.{needs}

@@ -1,7 +1,6 @@
 use borrow.Author.Tests.{le-leb, lt-leb}
 use native.Mathlib.Omega.{arith}
-use Prim.Native.Nat.{_+_, _<_, _-_}
-use mathlib.Core.Path.{_∙_, ap}
+use mathlib.Core.Path.{_∙_}
 use Rattle.stream.specs.Machine.{gathered}
 use borrow.Author.Needs.{needs}
 use Rattle.stream.proofs.gather.Statement.{statement}

@@ -1,7 +1,7 @@
 use native.Mathlib.Omega.{arith}
-use Prim.Native.Nat.{_+_, _<_, _-_, _≤_}
-use mathlib.Core.Path.{_∙_, ap}
-use Rattle.stream.specs.Machine.{reused, append, Memory, flushed}
+use Prim.Native.Nat.{_<_}
+use mathlib.Core.Path.{ap}
+use Rattle.stream.specs.Machine.{reused, append, Memory}
 use Rattle.stream.proofs.Laws.{flushed-m}
 use borrow.Author.Needs.{needs}
 use Rattle.stream.proofs.reuse.Statement.{statement}
