@@ -15,6 +15,7 @@ use Rattle.stream.specs.Machine.{Memory, flushed, Flushable}
 pub record Clean (a : Buffer) : Type 0 where
   pub bits : a .marks < 2 ^ a .n
 
+-- the block at place q fits into the buffer behind what it has
 pub record Loadable (z : Layout) (xs : List ℕ) (q : ℕ) (a : Buffer) : Type 0 where
   pub sized : Sized z xs
   pub place : q < z .p
@@ -39,6 +40,7 @@ pub record Pullable (z : Layout) (xs out : List ℕ) (w : Progress) : Type 0 whe
   pub place : getD out (w .m - 1) 0 < z .p
   pub few : w .buf .n + getD xs (startOf z (getD out (w .m - 1) 0)) 0 ≤ z .b
 
+-- the last block listed, e, is taken back: its records stand before those of the buffer
 unfoldable pub pulled : Layout → List ℕ → List ℕ → Progress → Progress
 pulled z xs out w =
     let at = startOf z (getD out (w .m - 1) 0) in
@@ -51,18 +53,21 @@ pulled z xs out w =
       buf = joined (appended (z .b) xs at emptyBuffer (getD xs at 0)) (w .buf .keys) (w .buf .pays) (w .buf .marks) (w .buf .n);
     }
 
+-- what the join of a leftover asks: a list of places, and a buffer of at most 16
 pub record Lefts (z : Layout) (xs out : List ℕ) (w : Progress) : Type 0 where
   pub sized : Sized z xs
   pub m-high : w .m ≤ 4096
   pub few : w .buf .n ≤ 16
   pub places : (i : ℕ) → i < w .m → getD out i 0 < z .p
 
+-- Step 4: "a leftover that with e holds B or fewer joins it"
 unfoldable pub leftJoined : Layout → List ℕ → List ℕ → Progress → Progress
 leftJoined z xs out w =
     if eqb (w .buf .n) 0 then w
     else if leb (lastSize z xs out (w .m) + w .buf .n) (z .b) then pulled z xs out w
     else w
 
+-- the block after Y, at place q, goes into the buffer
 unfoldable pub afterTaken : Layout → List ℕ → ℕ → Progress → Progress
 afterTaken z xs q w =
     record {
@@ -74,6 +79,7 @@ afterTaken z xs q w =
       buf = appended (z .b) xs (startOf z q) (w .buf) (getD xs (startOf z q) 0);
     }
 
+-- what the join with the block after Y asks of that block, if there is one
 pub record Afters (z : Layout) (xs out ys : List ℕ) (w : Progress) (end : ℕ) : Type 0 where
   pub lefts : Lefts z xs out w
   pub end-high : end ≤ 4096
@@ -81,6 +87,7 @@ pub record Afters (z : Layout) (xs out ys : List ℕ) (w : Progress) (end : ℕ)
   pub place : w .y .i < end → getD ys (w .y .i) 0 < z .p
   pub filled : w .y .i < end → 1 ≤ getD xs (startOf z (getD ys (w .y .i) 0)) 0
 
+-- "The last block, or if nothing is left over e, joins the block after Y by the same rule."
 unfoldable pub afterJoined : Layout → List ℕ → List ℕ → List ℕ → Progress → ℕ → Progress
 afterJoined z xs out ys w end =
     let q = getD ys (w .y .i) 0 in
@@ -109,9 +116,11 @@ rested a ys end =
 abbrev pub joinedUp : Layout → List ℕ → ℕ → Memory → Memory
 joinedUp z ys end a = record { words = a .words; used = a .used; out = a .out; st = afterJoined z (a .words) (a .out) ys (leftJoined z (a .words) (a .out) (a .st)) end }
 
+-- Step 4, whole: the joins, "Joined blocks are written once", and the blocks after Y
 unfoldable pub closed : Layout → List ℕ → ℕ → Memory → Memory
 closed z ys end a = rested (flushed z (joinedUp z ys end a)) ys end
 
+-- what step 4 asks
 pub record Closable (z : Layout) (ys : List ℕ) (end : ℕ) (a : Memory) : Type 0 where
   pub lefts : Lefts z (a .words) (a .out) (a .st)
   pub afters : Afters z (a .words) (a .out) ys (leftJoined z (a .words) (a .out) (a .st)) end

@@ -16,7 +16,12 @@ use Rattle.lines.specs.declared.Reading.{Reading}
 use Rattle.lines.specs.declared.Reading.the-variants.{Start, Letter, Space, Digits, Spoiled}
 use Rattle.lines.specs.Bytes.{digitNine, space, letterD, letterF, letterP, isDigit, if_then_else_, every}
 use Rattle.lines.specs.Lines.{firstField, furtherFields, valueFrom, valueOf, wordLimit, isNumber, spoken, named, lineOf}
-use Rattle.lines.specs.Machine.{noNumbers, pushed, isLetter, afterStart, afterLetter, afterSpace, grown, afterDigits, step, run, said, lineAfter}
+use Rattle.lines.specs.Machine.{noNumbers, pushed, isLetter, afterStart, afterLetter, afterSpace, grown, afterDigits, step, said, lineAfter}
+
+-- the bytes of a line, first to last
+unfoldable pub run : Reading → List ℕ → Reading
+run r [] = r
+run r (x ∷ xs) = run (step r x) xs
 
 -- small facts of tests
 pub if-same : {A : Type 0} (t : Bool) (a : A) → (if t then a else a) ≡ a

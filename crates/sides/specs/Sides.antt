@@ -39,6 +39,7 @@ pub record Readable (z : Layout) (pages : Bool) (xs list : List ℕ) (i j end : 
   pub inside : i < end → j < chunkOf z pages xs list i .n
   pub count : i < end → chunkOf z pages xs list i .n ≤ z .b
 
+-- a side that is used up: "or that list is used up"
 abbrev pub noHead : Head
 noHead = record { some = false; whole = false; key = 0; tombstone = 0; pay = 0; last = 0; marks = 0; n = 0; place = 0 }
 
@@ -57,20 +58,27 @@ headAt xs c j =
       place = c .place;
     }
 
+-- what a side reads next, record j of chunk i, or that it is used up
 unfoldable pub headOf : Layout → Bool → List ℕ → List ℕ → ℕ → ℕ → ℕ → Head
 headOf z pages xs list i j end = if leb end i then noHead else headAt xs (chunkOf z pages xs list i) j
 
+-- Step 3's e, "the last block placed by this merge, else the block before Y", by its size. Where there is none it counts as full:
+-- with any records beside it it holds more than B, so that every test against it holds.
 unfoldable pub lastSize : Layout → List ℕ → List ℕ → ℕ → ℕ
 lastSize z xs out m = if eqb m 0 then z .b else getD xs (startOf z (getD out (m - 1) 0)) 0
 
+-- "X and Y are read in key order": the next record of a comes before that of b
 abbrev pub first : Head → Head → Bool
 first a b = a .some && (not (b .some) || ltb (a .key) (b .key))
 
+-- Step 3, "b is reused at its place if ..": a starts a listed block that ends below b's next key, it has no mark in level h, and the
+-- buffer of n records, the block and e of e records hold more than B together, pair by pair
 unfoldable pub follows : Layout → Bool → Head → Head → ℕ → ℕ → Bool
 follows z bottom a b n e =
     if eqb n 0 then (a .whole && (not (b .some) || ltb (a .last) (b .key))) && (not (bottom && not (eqb (a .marks) 0)) && ltb (z .b) (e + a .n))
     else (a .whole && (not (b .some) || ltb (a .last) (b .key))) && (not (bottom && not (eqb (a .marks) 0)) && (ltb (z .b) (n + a .n) && ltb (z .b) (e + n)))
 
+-- what is read at a record: a mark bit, a block's records, a place
 pub record HeadOk (h : Head) : Type 0 where
   pub tombstone : h .tombstone < 2
   pub n : h .n ≤ 16

@@ -37,6 +37,7 @@ pub record Gatherable (z : Layout) (w : Progress) : Type 0 where
   pub few : w .buf .n < z .b
   pub bits : w .buf .marks < 2 ^ w .buf .n
 
+-- another buffer, and another progress, all else as it was
 abbrev pub withBuffer : Progress → Buffer → Progress
 withBuffer w b = record { x = w .x; y = w .y; m = w .m; writes = w .writes; cursor = w .cursor; buf = b }
 
@@ -53,6 +54,7 @@ writtenAt z a q =
       st = record { x = a .st .x; y = a .st .y; m = a .st .m + 1; writes = a .st .writes + 1; cursor = q; buf = emptyBuffer };
     }
 
+-- "A new block goes to the first free place after hand": a buffer that is not empty is written there
 unfoldable pub flushed : Layout → Memory → Memory
 flushed z a = if eqb (a .st .buf .n) 0 then a else writtenAt z a (nextMark (z .p) (a .used) (a .st .cursor))
 
@@ -66,9 +68,11 @@ append a q =
       st = record { x = a .st .x; y = a .st .y; m = a .st .m + 1; writes = a .st .writes; cursor = a .st .cursor; buf = a .st .buf };
     }
 
+-- "A buffer that is not empty is written before b", and b follows at its place q
 unfoldable pub reused : Layout → Memory → ℕ → Memory
 reused z a q = append (flushed z a) q
 
+-- "Records gather in a buffer, written when it has B." "Marks stay, except that level h drops them."
 unfoldable pub gathered : Layout → Bool → Memory → Head → Memory
 gathered z bottom a h =
     if bottom && eqb (h .tombstone) 1 then a

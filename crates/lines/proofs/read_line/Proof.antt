@@ -3,8 +3,7 @@ use native.Mathlib.Omega.{arith}
 use Prim.Native.Nat.{_≤_, _-_}
 use mathlib.Core.Path.{_≡_, refl, sym, _∙_}
 use lib.ListN.{length, drop}
-use Rattle.lines.specs.Machine.{run}
-use Rattle.lines.proofs.Laws.{run-more, run-end, line-is}
+use Rattle.lines.proofs.Laws.{run, run-more, run-end, line-is}
 use Rattle.lines.proofs.read_line.Statement.{statement}
 use Rattle.lines.proofs.read_line.Tie as tie
 use Rattle.lines.proofs.read_line.Reads as reads
