@@ -11,7 +11,7 @@ sys.dont_write_bytecode = True
 
 
 class Declaration:
-    """A name: what it is (def, record, data, or member: a field or constructor of its owner), if it is pub, its text."""
+    """A name: what it is (def, record, data, field, constructor), whose (of the last two), if it is pub, and its text."""
 
     def __init__(self, name, kind, owner, public, text):
         self.name, self.kind, self.owner, self.public, self.text = name, kind, owner, public, text
@@ -38,12 +38,12 @@ def headed(entry):
     return " ".join(entry), []
 
 
-def declared(lines, owner=None, of_data=False):
+def declared(lines, kind="def", owner=None, public_owner=False):
     """The declarations of some lines of one depth, with those in modules, records and data among them."""
     found = []
     for entry in entries(lines):
         marks, rest = re.match(r"\s*((?:(?:pub|abbrev|unfoldable) )*)(.*)", entry[0]).groups()
-        words, public = rest.split(), "pub" in marks or of_data
+        words, public = rest.split(), "pub" in marks or kind == "constructor" and public_owner
         if words[0] in ("use", "unfolding", "infix", "infixr", "infixl", "mod"):
             continue
         if words[0] == "module":
@@ -51,9 +51,9 @@ def declared(lines, owner=None, of_data=False):
         elif words[0] in ("record", "data") and headed(entry)[0].endswith("where"):
             head, inside = headed(entry)
             found.append(Declaration(words[1], words[0], None, public, head))
-            found += declared(inside, words[1], words[0] == "data" and public)
+            found += declared(inside, "field" if words[0] == "record" else "constructor", words[1], public)
         elif len(words) > 1 and words[1] == ":":
-            found.append(Declaration(words[0], "member" if owner else "def", owner, public, "\n".join(entry)))
+            found.append(Declaration(words[0], kind, owner, public, "\n".join(entry)))
         elif found:
             found[-1].text += "\n" + "\n".join(entry)
     return found
