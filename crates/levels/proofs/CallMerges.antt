@@ -17,13 +17,14 @@ use Rattle.levels.specs.Store.{Store, rows, blocksOf}
 use Rattle.levels.specs.Call.{Merge, mergeRun, mergeLevel, afterMerge, afterMerges, deepestOver, mergesBelow, mergesFrom, enoughSteps}
 use Rattle.levels.specs.Put.{mergesFor}
 use Rattle.levels.specs.Count.{totalInto}
-use Rattle.levels.specs.InCall.{Due, MergeFacts}
-use Rattle.levels.specs.Every.{Every}
+use Rattle.levels.specs.InCall.{Due, MergeFacts, Deepest}
+use Rattle.levels.specs.Every.{Every, First, Later}
 use Rattle.levels.specs.Sound.{Fits, Sound}
 use Rattle.levels.specs.Inside.{load, Inside, Entry, Ruled}
 use Rattle.levels.proofs.Basics.{or-false}
-use Rattle.levels.proofs.Compaction.{pages-well, pages-full, pages-records}
+use Rattle.levels.proofs.Compaction.{pages-well, pages-length, pages-full, pages-records}
 use Rattle.levels.proofs.Merged.{upper-fewer}
+use Rattle.levels.proofs.Overlap.{ceil-most}
 use Rattle.levels.proofs.Chosen.{due-mergeable}
 use Rattle.levels.proofs.StoreRows.{load-enough}
 use Rattle.levels.proofs.MergeRun.{run-rows}
@@ -49,29 +50,29 @@ below-top (suc n) g e s v t i r = go (deepestOver g (g .h - 1) s) refl (λ x y z
         ap (λ (ms : List Merge). afterMerges s ms .top) (below-go n g s j q) ∙ ih (afterMerge m) (f .five .inside) (f .after-ruled)
         ∙ ap (λ (ls : List (List Rec)). getD ls 0 []) (f .five .same-rows) ∙ merge-top g j s
 
--- none of them is out of level 0
-pub below-levels : (n : ℕ) (g : Geometry) (s : Store) → Every (λ m. 1 ≤ m .level) (mergesBelow n g s)
-below-levels zero g s = subst (Every (λ (m : Merge). 1 ≤ m .level)) (sym (below-none g s)) tt
-below-levels (suc n) g s = go (deepestOver g (g .h - 1) s) refl (λ x. below-levels n g x)
+-- the next merge, out of the deepest level over its capacity
+next-deepest : (g : Geometry) (e s : Store) (j : ℕ) → deepestOver g (g .h - 1) s ≡ suc j → MergeFacts g e (mergeLevel g (suc j) s) → Deepest g (mergeLevel g (suc j) s)
+unfolding mergeLevel mergeRun
+next-deepest g e s j q f = record { listed = omega arith; over = deepest-says g s (g .h - 1) (suc j) q .2 (omega arith); deepest = f .below-within }
+
+-- so is each of them
+pub below-deepest : (n : ℕ) (g : Geometry) (e s : Store) → Valid g → Entry g e → Inside g e s → Ruled g s → Every (Deepest g) (mergesBelow n g s)
+below-deepest zero g e s v t i r = subst (Every (Deepest g)) (sym (below-none g s)) tt
+below-deepest (suc n) g e s v t i r = go (deepestOver g (g .h - 1) s) refl (λ x y z. below-deepest n g e x v t y z)
   where
-    go : (o : ℕ) → deepestOver g (g .h - 1) s ≡ o → ((x : Store) → Every (λ m. 1 ≤ m .level) (mergesBelow n g x)) → Every (λ m. 1 ≤ m .level) (mergesBelow (suc n) g s)
-    go zero q ih = subst (Every (λ (m : Merge). 1 ≤ m .level)) (sym (below-stop (suc n) g s q)) tt
+    go : (o : ℕ) → deepestOver g (g .h - 1) s ≡ o → ((x : Store) → Inside g e x → Ruled g x → Every (Deepest g) (mergesBelow n g x)) → Every (Deepest g) (mergesBelow (suc n) g s)
+    go zero q ih = subst (Every (Deepest g)) (sym (below-stop (suc n) g s q)) tt
     go (suc j) q ih =
-        subst (Every (λ (m : Merge). 1 ≤ m .level)) (sym (below-go n g s j q))
-        (omega (arith, merge-level g (suc j) s), ih (afterMerge (mergeLevel g (suc j) s)))
+        let f = next-facts g e s j v t i r q in
+        subst (Every (Deepest g)) (sym (below-go n g s j q)) (next-deepest g e s j q f, ih (afterMerge (mergeLevel g (suc j) s)) (f .five .inside) (f .after-ruled))
 
-into-one : (ms : List Merge) → Every (λ m. 1 ≤ m .level) ms → totalInto 1 (λ m. 1) ms ≡ 0
-into-one [] h = refl
-into-one (m ∷ ms) h = rw (ne-eqb (suc (m .level)) 1 (λ e. omega (arith, e, h .0))) (omega (arith, into-one ms (h .1)))
+into-one : (g : Geometry) (ms : List Merge) → Every (Deepest g) ms → totalInto 1 (λ m. 1) ms ≡ 0
+into-one g [] h = refl
+into-one g (m ∷ ms) h = rw (ne-eqb (suc (m .level)) 1 (λ e. omega (arith, e, h .0 .listed))) (omega (arith, into-one g ms (h .1)))
 
--- the first merge is out of level 0, and no other is
-abbrev pub FirstOut : List Merge → Type 0
-FirstOut [] = Unit {0}
-FirstOut (m ∷ ms) = (m .level ≡ 0) × Every (λ m. 1 ≤ m .level) ms
-
-first-one : (ms : List Merge) → FirstOut ms → totalInto 1 (λ m. 1) ms ≤ 1
-first-one [] h = omega arith
-first-one (m ∷ ms) h = pick (eqb (suc (m .level)) 1) (into-one ms (h .1))
+first-one : (g : Geometry) (ms : List Merge) → Later (Deepest g) ms → totalInto 1 (λ m. 1) ms ≤ 1
+first-one g [] h = omega arith
+first-one g (m ∷ ms) h = pick (eqb (suc (m .level)) 1) (into-one g ms h)
   where
     pick : (t : Bool) → totalInto 1 (λ m. 1) ms ≡ 0 → (if t then 1 else 0) + totalInto 1 (λ m. 1) ms ≤ 1
     pick true z = omega arith
@@ -89,6 +90,18 @@ for-full g s k e = rw (e, mergesFor)
 pub from-is : (g : Geometry) (s : Store) → mergesFrom g s ≡ mergeLevel g 0 s ∷ mergesBelow (enoughSteps g s) g (afterMerge (mergeLevel g 0 s))
 unfolding mergesFrom
 from-is g s = refl
+
+-- level 0 is within its capacity in pages where it is in records
+top-pages : (g : Geometry) (s : Store) → Valid g → length (s .top) ≤ topCapacityOf g → length (blocksOf g 0 s) ≤ capacityOf g 0
+unfolding topCapacityOf
+top-pages g s v h =
+    let b = v .ranged .b-low in
+    omega (arith, pages-length (g .b) (s .top) (omega arith), ceil-most (length (s .top)) (g .b) (capacityOf g 0) (omega arith) (omega arith))
+
+-- in a store that passes no level holds more than K blocks
+pub fits-within : (g : Geometry) (s : Store) → Valid g → Fits g s → (i : ℕ) → i ≤ g .h → length (blocksOf g i s) ≤ capacityOf g i
+fits-within g s v f zero h = top-pages g s v (f .top-fits)
+fits-within g s v f (suc j) h = f .level-fits j (omega arith)
 
 module _ (g : Geometry) (s : Store) (v : Valid g) (f : Fits g s) (o : Sound g s) where
   module _ (full : length (s .top) ≡ topCapacityOf g) where
@@ -110,11 +123,7 @@ module _ (g : Geometry) (s : Store) (v : Valid g) (f : Fits g s) (o : Sound g s)
 
     -- the first merge, out of a full level 0
     pub first-facts : MergeFacts g s (mergeLevel g 0 s)
-    first-facts = let h = v .ranged .h-low in merge-facts g s s 0 v (omega arith) (entry-inside g s v f o) (entry-ruled g s v f o) first-due within
-      where
-        within : (i : ℕ) → 0 < i → i ≤ g .h → length (blocksOf g i s) ≤ capacityOf g i
-        within zero a b = absurd (omega arith)
-        within (suc j) a b = f .level-fits j (omega arith)
+    first-facts = let h = v .ranged .h-low in merge-facts g s s 0 v (omega arith) (entry-inside g s v f o) (entry-ruled g s v f o) first-due (λ i l. fits-within g s v f i)
 
     -- the whole list
     pub from-facts : ListFacts g s s (mergesFrom g s)
@@ -165,12 +174,8 @@ module _ (g : Geometry) (s : Store) (v : Valid g) (f : Fits g s) (o : Sound g s)
   pub call-within : (k i : ℕ) → 1 ≤ i → i ≤ g .h → length (blocksOf g i (afterMerges s (mergesFor g s k))) ≤ capacityOf g i
   call-within k i l h = go (isSome (find k (s .top)) || ltb (length (s .top)) (topCapacityOf g)) refl
     where
-      listed : (i : ℕ) → 1 ≤ i → i ≤ g .h → length (blocksOf g i s) ≤ capacityOf g i
-      listed zero l h = absurd (omega arith)
-      listed (suc j) l h = f .level-fits j (omega arith)
-
       go : (t : Bool) → (isSome (find k (s .top)) || ltb (length (s .top)) (topCapacityOf g)) ≡ t → length (blocksOf g i (afterMerges s (mergesFor g s k))) ≤ capacityOf g i
-      go true e = subst (λ (ms : List Merge). length (blocksOf g i (afterMerges s ms)) ≤ capacityOf g i) (sym (for-none g s k e)) (listed i l h)
+      go true e = subst (λ (ms : List Merge). length (blocksOf g i (afterMerges s ms)) ≤ capacityOf g i) (sym (for-none g s k e)) (fits-within g s v f i h)
       go false e = subst (λ (ms : List Merge). length (blocksOf g i (afterMerges s ms)) ≤ capacityOf g i) (sym (for-full g s k e)) (last (ℕ-discrete i (g .h)))
         where
           last : Dec (i ≡ g .h) → length (blocksOf g i (afterMerges s (mergesFrom g s))) ≤ capacityOf g i
@@ -185,14 +190,34 @@ module _ (g : Geometry) (s : Store) (v : Valid g) (f : Fits g s) (o : Sound g s)
       let q = full-top k e in
       omega (arith, ap (λ (ms : List Merge). length (afterMerges s ms .top)) (for-full g s k e), from-top q, q)
 
-  -- "The first, if there is one, is out of level 0", and no other is
-  pub first-out : (k : ℕ) → FirstOut (mergesFor g s k)
+  -- "While a level holds more than K blocks, the deepest such merges next": at the end none does, level 0 with its pages included
+  pub call-ends : (k i : ℕ) → i ≤ g .h → length (blocksOf g i (afterMerges s (mergesFor g s k))) ≤ capacityOf g i
+  call-ends k (suc j) h = call-within k (suc j) (omega arith) h
+  call-ends k zero h = go (isSome (find k (s .top)) || ltb (length (s .top)) (topCapacityOf g)) refl
+    where
+      go : (t : Bool) → (isSome (find k (s .top)) || ltb (length (s .top)) (topCapacityOf g)) ≡ t → length (blocksOf g 0 (afterMerges s (mergesFor g s k))) ≤ capacityOf g 0
+      go true e = subst (λ (ms : List Merge). length (blocksOf g 0 (afterMerges s ms)) ≤ capacityOf g 0) (sym (for-none g s k e)) (fits-within g s v f 0 h)
+      go false e = top-pages g (afterMerges s (mergesFor g s k)) v (omega (arith, call-top k e))
+
+  -- "The first, if there is one, is out of level 0."
+  pub first-out : (k : ℕ) → First (λ m. m .level ≡ 0) (mergesFor g s k)
   first-out k = go (isSome (find k (s .top)) || ltb (length (s .top)) (topCapacityOf g)) refl
     where
-      go : (t : Bool) → (isSome (find k (s .top)) || ltb (length (s .top)) (topCapacityOf g)) ≡ t → FirstOut (mergesFor g s k)
-      go true e = subst FirstOut (sym (for-none g s k e)) tt
-      go false e = subst FirstOut (sym (for-full g s k e ∙ from-is g s)) (merge-level g 0 s, below-levels (enoughSteps g s) g (afterMerge (mergeLevel g 0 s)))
+      go : (t : Bool) → (isSome (find k (s .top)) || ltb (length (s .top)) (topCapacityOf g)) ≡ t → First (λ m. m .level ≡ 0) (mergesFor g s k)
+      go true e = subst (First (λ (m : Merge). m .level ≡ 0)) (sym (for-none g s k e)) tt
+      go false e = subst (First (λ (m : Merge). m .level ≡ 0)) (sym (for-full g s k e ∙ from-is g s)) (merge-level g 0 s)
+
+  -- each later one is out of the deepest level above its capacity
+  pub later-deepest : (k : ℕ) → Later (Deepest g) (mergesFor g s k)
+  later-deepest k = go (isSome (find k (s .top)) || ltb (length (s .top)) (topCapacityOf g)) refl
+    where
+      go : (t : Bool) → (isSome (find k (s .top)) || ltb (length (s .top)) (topCapacityOf g)) ≡ t → Later (Deepest g) (mergesFor g s k)
+      go true e = subst (Later (Deepest g)) (sym (for-none g s k e)) tt
+      go false e =
+          let d = first-facts (full-top k e) in
+          subst (Later (Deepest g)) (sym (for-full g s k e ∙ from-is g s))
+          (below-deepest (enoughSteps g s) g s (afterMerge (mergeLevel g 0 s)) v (entry-of g s v f o) (d .five .inside) (d .after-ruled))
 
   -- "A put makes at most one merge into level 1."
   pub one-into-one : (k : ℕ) → totalInto 1 (λ m. 1) (mergesFor g s k) ≤ 1
-  one-into-one k = first-one (mergesFor g s k) (first-out k)
+  one-into-one k = first-one g (mergesFor g s k) (later-deepest k)

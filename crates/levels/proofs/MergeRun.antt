@@ -1,6 +1,6 @@
 -- A merge of any run out of level i, level 0 or a listed level, on the whole store: its rows, its levels and its places at the end.
 use Prim.Native.Nat.{ℕ, zero, suc, _+_, _<_, _≤_}
-use mathlib.Core.Path.{_≡_, refl, _∙_, ap}
+use mathlib.Core.Path.{_≡_, refl, sym, _∙_, ap}
 use mathlib.Core.List.{List, [], _∷_, _++_, List·Memᴰ, Memᴰ·append-left, Memᴰ·append-right}
 use mathlib.Core.Logic.{_⊎_, inl, inr, ⊎-elim}
 use native.Mathlib.Omega.{arith}
@@ -13,12 +13,12 @@ use Rattle.levels.specs.Place.{Allocation, Settled, settle, placesOf}
 use Rattle.levels.specs.Store.{Store, rows, blocksOf, withBlocks, usedIn, allocationOf}
 use Rattle.levels.specs.Call.{settleUpper, mergeCut, mergeRun}
 use Rattle.levels.specs.Well.{Well, Sized}
-use Rattle.levels.specs.Taking.{fresh, Changed}
+use Rattle.levels.specs.Taking.{fresh, handAfter, Changed}
 use Rattle.levels.specs.InCall.{Mergeable}
 use Rattle.levels.specs.Every.{Every, allBlocks}
 use Rattle.levels.proofs.Merged.{upperOf, lowerOf, upper-length, upper-well, lower-well}
 use Rattle.levels.proofs.Compaction.{pages-fresh}
-use Rattle.levels.proofs.Settling.{settle-records, written-length, written-places, settle-cursor, settle-used}
+use Rattle.levels.proofs.Settling.{settle-records, written-length, written-places, settle-hand, hand-append, settle-cursor, settle-used}
 use Rattle.levels.proofs.Places.{places-append}
 use Rattle.levels.proofs.Written.{merge-changed, top-changed}
 use Rattle.levels.proofs.Every.{every-make, every-turn}
@@ -203,3 +203,14 @@ module _ (g : Geometry) (w first : ℕ) (s : Store) (low : s .cursor < g .p) whe
       let u : Settled = settle (g .p) (allocationOf s) (upperLeft g (suc j) w first s) in
       settle-cursor (g .p) (u .allocation) (lowerMade g (suc j) w first s) (settle-cursor (g .p) (allocationOf s) (upperLeft g (suc j) w first s) low (omega arith))
       (omega (arith, settle-used (g .p) (allocationOf s) (upperLeft g (suc j) w first s)))
+
+-- "hand moves there": at the end it is the place last taken
+pub run-hand : (g : Geometry) (i w first : ℕ) (s : Store) → mergeRun g i w first s .finish .cursor ≡ handAfter (s .cursor) (placesOf (mergeRun g i w first s .written))
+unfolding mergeRun mergeCut
+run-hand g zero w first s = settle-hand (g .p) (allocationOf s) (lowerMade g 0 w first s)
+run-hand g (suc j) w first s =
+    let u : Settled = settle (g .p) (allocationOf s) (upperLeft g (suc j) w first s) in
+    let l : Settled = settle (g .p) (u .allocation) (lowerMade g (suc j) w first s) in
+    settle-hand (g .p) (u .allocation) (lowerMade g (suc j) w first s)
+    ∙ ap (λ (hand : ℕ). handAfter hand (placesOf (l .written))) (settle-hand (g .p) (allocationOf s) (upperLeft g (suc j) w first s))
+    ∙ sym (ap (handAfter (s .cursor)) (places-append (u .written) (l .written)) ∙ hand-append (s .cursor) (placesOf (u .written)) (placesOf (l .written)))

@@ -146,7 +146,7 @@ pub choose-bound : (w k j : ℕ) (above under : Level) → Ordered k above → O
 choose-bound w k j above under o u p f =
     fewest-bound (choose w above under .value) (length above / w) w k j above under o u p (le-div-iff-mul-le p .1 (omega arith)) (div-mul-le-self (length above) w) (choose-is w above under p f .fewest)
 
-ceil-most : (n m W : ℕ) → 1 ≤ m → n ≤ m * W → ceilDiv n m ≤ W
+pub ceil-most : (n m W : ℕ) → 1 ≤ m → n ≤ m * W → ceilDiv n m ≤ W
 ceil-most n m W p h = go (decLt W (ceilDiv n m))
   where
     go : Dec (W < ceilDiv n m) → ceilDiv n m ≤ W

@@ -13,7 +13,9 @@ use Rattle.levels.specs.Basics.{if_then_else_, all, total, member}
 use Rattle.levels.specs.Record.{Level}
 use Rattle.levels.specs.Place.{Allocation, placesOf, inUse, newlyUsed, distinct}
 use Rattle.levels.specs.Taking.{Changed, Takes}
-use Rattle.levels.proofs.Basics.{and-left, and-right, and-both}
+use Rattle.levels.specs.Every.{Every}
+use Rattle.levels.proofs.Basics.{and-left, and-right, and-both, or-false}
+use Rattle.levels.proofs.Every.{every-turn}
 use Rattle.levels.proofs.Fresh.{weights}
 
 -- weights of a place: is it p; is it not in a list; is it not below P
@@ -184,6 +186,19 @@ takes-once P a (q ∷ ps) t p = go (eqb p q) refl (takes-once P (record { used =
         let m : member p (q ∷ a .used) ≡ true = rw (eqb-true p q d) (member-head q (a .used)) in
         omega (arith, takes-apart P (record { used = q ∷ a .used; cursor = q }) ps (t .1) p m)
     go false d ih = omega arith
+
+-- the same of each of them: below P, not in use before, and none twice
+pub takes-below : (P : ℕ) (a : Allocation) (ps : List ℕ) → Takes P a ps → Every (λ p. p < P) ps
+takes-below P a [] t = tt
+takes-below P a (p ∷ ps) t = (t .0 .inside, takes-below P (record { used = p ∷ a .used; cursor = p }) ps (t .1))
+
+pub takes-unused : (P : ℕ) (a : Allocation) (ps : List ℕ) → Takes P a ps → Every (λ p. member p (a .used) ≡ false) ps
+takes-unused P a [] t = tt
+takes-unused P a (p ∷ ps) t =
+    (t .0 .free, every-turn (λ q. member q (p ∷ a .used) ≡ false) (λ q. member q (a .used) ≡ false) ps (λ q e. or-false (eqb q p) _ e .1) (takes-unused P (record { used = p ∷ a .used; cursor = p }) ps (t .1)))
+
+pub takes-distinct : (P : ℕ) (a : Allocation) (ps : List ℕ) → Takes P a ps → distinct ps ≡ true
+takes-distinct P a ps t = times-distinct ps (takes-once P a ps t)
 
 -- "none twice over all levels" stays
 pub changed-distinct : (P : ℕ) (a : Allocation) (finish written : List ℕ) → Changed P a finish written → distinct (a .used) ≡ true → distinct finish ≡ true

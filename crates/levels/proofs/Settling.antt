@@ -1,6 +1,6 @@
 -- The new blocks of a level take places (document 01: "A new block goes to the first free place after hand, going round, and hand moves there", "in key order").
 use Prim.Native.Nat.{ℕ, suc, _+_, _<_, _≤_}
-use mathlib.Core.Path.{_≡_, refl, ap}
+use mathlib.Core.Path.{_≡_, refl, _∙_, ap}
 use mathlib.Core.List.{List, [], _∷_, _++_}
 use mathlib.Core.Option.{Option, none, some}
 use native.Mathlib.Omega.{arith}
@@ -9,7 +9,7 @@ use Rattle.levels.specs.Basics.{total}
 use Rattle.levels.specs.Record.{Rec, Level, size, records}
 use Rattle.levels.specs.Waste.{needsCompact}
 use Rattle.levels.specs.Place.{Allocation, firstFree, settle, placesOf}
-use Rattle.levels.specs.Taking.{Takes, fresh}
+use Rattle.levels.specs.Taking.{Takes, fresh, handAfter}
 use Rattle.levels.specs.Well.{Apart, Well}
 use Rattle.levels.proofs.Levels.{well-nil, well-tail}
 use Rattle.levels.proofs.FirstFree.{first-free}
@@ -111,6 +111,18 @@ settle-allocation P a (b ∷ bs) = go (b .place) (λ c. settle-allocation P c bs
 after-taking-length : (a : Allocation) (ps : List ℕ) → length (afterTaking a ps .used) ≡ length (a .used) + length ps
 after-taking-length a [] = omega arith
 after-taking-length a (p ∷ ps) = omega (arith, after-taking-length (record { used = p ∷ a .used; cursor = p }) ps)
+
+-- the cursor then is the last of them
+after-taking-hand : (a : Allocation) (ps : List ℕ) → afterTaking a ps .cursor ≡ handAfter (a .cursor) ps
+after-taking-hand a [] = refl
+after-taking-hand a (p ∷ ps) = after-taking-hand (record { used = p ∷ a .used; cursor = p }) ps
+
+pub settle-hand : (P : ℕ) (a : Allocation) (l : Level) → settle P a l .allocation .cursor ≡ handAfter (a .cursor) (placesOf (settle P a l .written))
+settle-hand P a l = ap (λ (c : Allocation). c .cursor) (settle-allocation P a l) ∙ after-taking-hand a (placesOf (settle P a l .written))
+
+pub hand-append : (hand : ℕ) (ps qs : List ℕ) → handAfter hand (ps ++ qs) ≡ handAfter (handAfter hand ps) qs
+hand-append hand [] qs = refl
+hand-append hand (p ∷ ps) qs = hand-append p ps qs
 
 -- the places that are not free grow by those written
 pub settle-used : (P : ℕ) (a : Allocation) (l : Level) → length (settle P a l .allocation .used) ≡ length (a .used) + fresh l

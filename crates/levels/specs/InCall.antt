@@ -98,3 +98,10 @@ pub record MergeFacts (g : Geometry) (e : Store) (m : Merge) : Type 0 where
   pub after-ruled : Ruled g (afterMerge m)
   -- the sum over all records of the levels below theirs falls
   pub falls : load (rows (afterMerge m)) < load (rows (m .start))
+
+-- Step 6: "While a level holds more than K blocks, the deepest such merges next." At the start of m its level holds more than K blocks, and no level between
+-- it and h does, h with them. So it is not out of level 0, which holds K(0) pages at most.
+pub record Deepest (g : Geometry) (m : Merge) : Type 0 where
+  pub listed : 1 ≤ m .level
+  pub over : capacityOf g (m .level) < length (blocksOf g (m .level) (m .start))
+  pub deepest : (i : ℕ) → m .level < i → i ≤ g .h → length (blocksOf g i (m .start)) ≤ capacityOf g i

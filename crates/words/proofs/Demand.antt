@@ -6,40 +6,70 @@ use mathlib.Core.List.{List, []}
 use mathlib.Core.Option.{Option, none, some}
 use native.Mathlib.Omega.{arith}
 use lib.Dec.{eqb}
+use lib.ListN.{length}
 use borrow.Author.Tests.{eq-eqb, ne-eqb}
 use Rattle.geometry.specs.declared.Geometry.{Geometry}
-use Rattle.geometry.specs.Geometry.{Valid, keyLimitOf}
+use Rattle.geometry.specs.Geometry.{Valid, capacityOf, keyLimitOf}
 use Rattle.levels.specs.Record.{Rec}
 use Rattle.levels.specs.Map.{isLive}
-use Rattle.levels.specs.Store.{Store, rows}
-use Rattle.levels.specs.Call.{Merge, afterMerges, Chained}
-use Rattle.levels.specs.Put.{Change, refused, absent, entered, put, delete, mergesOf, putRec, deleteRec}
-use Rattle.levels.specs.Count.{Counts, countsOf}
-use Rattle.levels.specs.Every.{Every}
-use Rattle.levels.specs.InCall.{MergeFacts}
+use Rattle.levels.specs.Store.{Store, rows, blocksOf}
+use Rattle.levels.specs.Call.{Compaction, Merge, afterMerges, Chained}
+use Rattle.levels.specs.Put.{Change, refused, absent, entered, put, delete, mergesFor, mergesOf, putRec, deleteRec}
+use Rattle.levels.specs.Count.{runOf, overlapOf, Counts, countsOf}
+use Rattle.levels.specs.Every.{Every, First, Later}
+use Rattle.levels.specs.Sound.{Fits, Sound}
+use Rattle.levels.specs.InCall.{CompactionFacts, MergeFacts, Deepest}
 use Rattle.levels.proofs.Every.{every-turn}
-use Rattle.levels.proofs.InCall.{ListFacts}
-use Rattle.levels.proofs.MergeBounds.{run-fewest, overlap-most, merge-writes-most, merge-writes-growth}
-use Rattle.levels.proofs.CallMerges.{call-facts}
+use Rattle.levels.proofs.MergeBounds.{run-inside, run-fewest, run-first, overlap-most, merge-writes-most, merge-writes-growth, merge-found, merge-ruled, compaction-found}
+use Rattle.levels.proofs.CallMerges.{fits-within, call-facts, call-ends, first-out, later-deepest}
 use Rattle.levels.proofs.PutDelete.{livePut, EnterFacts, PutSays, DeleteSays, put-says, delete-says}
 use Rattle.words.specs.Layout.{geometryAt, storeAt, writeBlocks}
 use Rattle.words.specs.Form.{reasonOf}
 use Rattle.words.specs.Calls.{Outcome, ChangeAnswer, leftWords, changeOutcome, putOf, deleteOf}
-use Rattle.words.specs.Demand.{MergeDemand, Own, ownPut, ownDelete, withOwn, countsAt, Demand}
+use Rattle.words.specs.Demand.{CompactionDemand, MergeDemand, Own, ownPut, ownDelete, withOwn, mergesOwn, countsAt, Demand}
 use Rattle.words.specs.Passed.{Passed}
 use Rattle.words.proofs.Reason.{reason-passed}
 use Rattle.words.proofs.Steps.{put-of, delete-of}
 
--- what holds of each merge
+-- what holds of each compacting, and of each merge
+compaction-demand : (g : Geometry) (e : Store) (c : Compaction) → CompactionFacts g e c → CompactionDemand g c
+compaction-demand g e c f = record { level-low = f .level-low; level-high = f .level-high; needed = f .needed; is = f .is; found = compaction-found g e c f }
+
 merge-demand : (g : Geometry) (e : Store) (m : Merge) → Valid g → MergeFacts g e m → MergeDemand g m
+unfolding overlapOf runOf
 merge-demand g e m v f = record {
   is = f .is;
   window-is = f .window-is;
+  level-high = f .level-high;
+  run-inside = run-inside g e m v f;
+  overlap-is = refl;
   fewest = run-fewest g e m v f;
+  lowest = λ j h. run-first g e m v f j;
   overlap-high = overlap-most g e m v f;
   writes-high = merge-writes-most g e m v f;
   writes-growth = merge-writes-growth g e m v f;
+  found = merge-found g e m v f;
+  compactions-in-order = f .five .follows;
+  compactions-each = every-turn (CompactionFacts g e) (CompactionDemand g) (m .compactions) (λ c. compaction-demand g e c) (f .five .facts);
+  compacted = λ i l h. merge-ruled g e m v f i l;
 }
+
+-- what the rules say of the list of merges from the store s on
+record ListRules (g : Geometry) (s : Store) (ms : List Merge) : Type 0 where
+  facts : Every (MergeFacts g s) ms
+  chained : Chained s ms
+  first : First (λ m. m .level ≡ 0) ms
+  later : Later (Deepest g) ms
+  ended : (i : ℕ) → i ≤ g .h → length (blocksOf g i (afterMerges s ms)) ≤ capacityOf g i
+
+call-rules : (g : Geometry) (s : Store) (k : ℕ) → Valid g → Fits g s → Sound g s → ListRules g s (mergesFor g s k)
+call-rules g s k v f o =
+    let a = call-facts g s v f o k in
+    record { facts = a .facts; chained = a .chained; first = first-out g s v f o k; later = later-deepest g s v f o k; ended = call-ends g s v f o k }
+
+-- of no merge: no level of a store that passes holds more than K blocks
+none-rules : (g : Geometry) (s : Store) → Valid g → Fits g s → ListRules g s []
+none-rules g s v f = record { facts = tt; chained = tt; first = tt; later = tt; ended = fits-within g s v f }
 
 -- the counts of an answer that takes them from a list
 counted : (a : ChangeAnswer) (ms : List Merge) → a .level1 ≡ countsOf 1 ms → a .level2 ≡ countsOf 2 ms → a .level3 ≡ countsOf 3 ms → (i : ℕ) → 1 ≤ i → i ≤ 3 → countsAt a i ≡ countsOf i ms
@@ -54,12 +84,16 @@ unfolding countsOf
 counts-none i = refl
 
 -- the demand, from what holds of each merge, the words, and the counts
-demand-of : (g : Geometry) (ws : List ℕ) (own : Option Own) (ms : List Merge) (a : ChangeAnswer) (out : List ℕ) (e : Store) → Valid g → Every (MergeFacts g e) ms → Chained (storeAt g ws) ms
+demand-of : (g : Geometry) (ws : List ℕ) (own : Option Own) (ms : List Merge) (a : ChangeAnswer) (out : List ℕ) → Valid g → ms ≡ mergesOwn g (storeAt g ws) own → ListRules g (storeAt g ws) ms
     → out ≡ leftWords g ws ms (withOwn own (afterMerges (storeAt g ws) ms)) → ((i : ℕ) → 1 ≤ i → i ≤ 3 → countsAt a i ≡ countsOf i ms) → Demand g ws own ms a out
 unfolding countsOf
-demand-of g ws own ms a out e v f c w n = record {
-  each = every-turn (MergeFacts g e) (MergeDemand g) ms (λ m x. merge-demand g e m v x) f;
-  in-order = c;
+demand-of g ws own ms a out v q r w n = record {
+  list = q;
+  each = every-turn (MergeFacts g (storeAt g ws)) (MergeDemand g) ms (λ m x. merge-demand g (storeAt g ws) m v x) (r .facts);
+  in-order = r .chained;
+  first-out = r .first;
+  later-deepest = r .later;
+  ended = r .ended;
   words = w;
   merges-counted = λ i l h. ap (λ (x : Counts). x .merges) (n i l h);
   written-counted = λ i l h. ap (λ (x : Counts). x .written) (n i l h);
@@ -77,7 +111,7 @@ nothing-demand : (g : Geometry) (ws : List ℕ) (c : Change) → Passed g ws →
     → Demand g ws none (mergesOf c) (changeOutcome g ws c .answer) (changeOutcome g ws c .words)
 nothing-demand g ws c p q w n =
     subst (λ (ms : List Merge). Demand g ws none ms (changeOutcome g ws c .answer) (changeOutcome g ws c .words)) (sym q)
-    (demand-of g ws none [] (changeOutcome g ws c .answer) (changeOutcome g ws c .words) (storeAt g ws) (p .valid) tt tt (w ∙ left-none g ws p) n)
+    (demand-of g ws none [] (changeOutcome g ws c .answer) (changeOutcome g ws c .words) (p .valid) refl (none-rules g (storeAt g ws) (p .valid) (p .fits)) (w ∙ left-none g ws p) n)
 
 -- a call that enters a record
 entered-demand : (g : Geometry) (ws : List ℕ) (r : Rec) (was : Bool) (live : ℕ) (ms : List Merge) (t : Store) → Passed g ws → EnterFacts g (storeAt g ws) r was live ms t
@@ -85,8 +119,8 @@ entered-demand : (g : Geometry) (ws : List ℕ) (r : Rec) (was : Bool) (live : �
 unfolding changeOutcome
 entered-demand g ws r was live ms t p f =
     let s : Store = storeAt g ws in
-    let a = subst (ListFacts g s s) (sym (f .merges)) (call-facts g s (p .valid) (p .fits) (p .sound) (r .key)) in
-    demand-of g ws (some (record { recorded = r; live = live })) ms _ _ s (p .valid) (a .facts) (a .chained) (ap (leftWords g ws ms) (f .store)) (counted _ ms refl refl refl)
+    let a = subst (ListRules g s) (sym (f .merges)) (call-rules g s (r .key) (p .valid) (p .fits) (p .sound)) in
+    demand-of g ws (some (record { recorded = r; live = live })) ms _ _ (p .valid) (f .merges) a (ap (leftWords g ws ms) (f .store)) (counted _ ms refl refl refl)
 
 -- what a put enters, by its outcome
 own-full : (g : Geometry) (s : Store) (k v : ℕ) → isLive k (rows s) ≡ false → s .live ≡ keyLimitOf g → ownPut g s k v ≡ none
