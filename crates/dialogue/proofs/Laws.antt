@@ -1,0 +1,2 @@
+-- Laws of the dialogue.
+use mathlib.Core.Path.{_≡_, refl}
