@@ -50,7 +50,7 @@ unfolding heardParts heard flatten
 heard-parts s [] = refl
 heard-parts s (p ∷ ps) = rw (heard-append s p (flatten ps), heard-parts (heard s p .session) ps)
 
--- the lines that follow a line that has begun: its bytes stand before those of the first; none follow if it has none
+-- The line that has begun with the lines of the bytes that follow: it goes on in the first of them, or is the last where there is none.
 abbrev pub lastLine : List ℕ → List (List ℕ)
 lastLine [] = []
 lastLine (x ∷ xs) = (x ∷ xs) ∷ []
@@ -121,6 +121,22 @@ heard-answers s (x ∷ xs) = go (λ r. heard-answers r xs) (eqb x lineEnd) refl
 pub parts-whole : (ps : List (List ℕ)) → inParts ps ≡ dialogue (flatten ps)
 unfolding inParts dialogue
 parts-whole ps = rw (heard-parts opening ps) (heard-answers opening (flatten ps) ∙ ap (answersTo []) (going-none (linesOf (flatten ps))))
+
+-- So two ways of cutting an input print the same.
+pub cut-anywhere : (ps qs : List (List ℕ)) → flatten ps ≡ flatten qs → inParts ps ≡ inParts qs
+cut-anywhere ps qs e = rw (parts-whole ps, parts-whole qs, e)
+
+-- Nothing waits: once a line end has been heard, all that `dialogue` says of the input so far is printed, before any further byte.
+pub heard-at-end : (s : Session) (xs : List ℕ) → heard s (xs ++ (lineEnd ∷ [])) .session .begun ≡ []
+unfolding heard
+heard-at-end s xs = ap (λ h. h .session .begun) (heard-append s xs (lineEnd ∷ []))
+
+pub answered-at-once : (ps : List (List ℕ)) (xs : List ℕ) → flatten ps ≡ xs ++ (lineEnd ∷ []) → heardParts opening ps .bytes ≡ dialogue (flatten ps) .bytes
+unfolding inParts
+answered-at-once ps xs e =
+    let b : heardParts opening ps .session .begun ≡ [] = rw (heard-parts opening ps, e) (heard-at-end opening xs) in
+    let n : endedOn (heardParts opening ps .session .store) (heardParts opening ps .session .begun) .bytes ≡ [] = rw b in
+    sym (append-nil _) ∙ ap (λ ds. heardParts opening ps .bytes ++ ds) (sym n) ∙ ap (λ a. a .bytes) (parts-whole ps)
 
 -- Reading 23: "Empty input prints nothing"
 pub empty-input : dialogue [] ≡ record { store = []; bytes = [] }
