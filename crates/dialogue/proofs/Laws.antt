@@ -48,7 +48,7 @@ heard-append s (x ∷ xs) ys = go (λ r. heard-append r xs ys) (eqb x lineEnd) r
 pub heard-parts : (s : Session) (ps : List (List ℕ)) → heardParts s ps ≡ heard s (flatten ps)
 unfolding heardParts heard flatten
 heard-parts s [] = refl
-heard-parts s (p ∷ ps) = rw (heard-append s p (flatten ps), heard-parts (heard s p .session) ps)
+heard-parts s (p ∷ ps) = ap (after (heard s p .bytes)) (heard-parts (heard s p .session) ps) ∙ sym (heard-append s p (flatten ps))
 
 -- The line that has begun with the lines of the bytes that follow: it goes on in the first of them, or is the last where there is none.
 abbrev pub lastLine : List ℕ → List (List ℕ)
