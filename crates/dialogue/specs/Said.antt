@@ -1,0 +1,56 @@
+-- Document 01, "Call list program": what a line does to the store and what is printed for it.
+use Prim.Native.Nat.{ℕ, _+_}
+use mathlib.Core.Bool.{true, false}
+use mathlib.Core.List.{List}
+use lib.Dec.{leb}
+use Rattle.geometry.specs.declared.Geometry.{Geometry}
+use Rattle.geometry.specs.Geometry.{isLegal, storeLength, keyLimitOf}
+use Rattle.words.specs.Layout.{bit}
+use Rattle.words.specs.Calls.{Outcome, FormatAnswer, LookAnswer, ChangeAnswer, formatWords, lookUpOf, putOf, deleteOf}
+use Rattle.lines.specs.declared.Line.{Line}
+use Rattle.lines.specs.declared.Line.the-variants.{Format, Put, Delete, Get, Unreadable}
+use Rattle.lines.specs.Bytes.{letterP, letterD}
+use Rattle.lines.specs.Lines.{formatLine, getLine, changeLine, unreadableLine}
+
+-- The words of the store after a line, and the bytes printed for it. "before any accepted f, the store has none"
+pub record Said : Type 0 where
+  pub store : List ℕ
+  pub bytes : List ℕ
+
+-- "for f N (0 if refused)"
+abbrev pub formattedLine : FormatAnswer → List ℕ
+formattedLine a = formatLine (a .reason) (a .limit)
+
+-- "for g found 1 or 0 and payload or 0"
+abbrev pub lookedLine : LookAnswer → List ℕ
+lookedLine a = getLine (a .reason) (bit (a .found)) (a .pay)
+
+-- "for p and d live-before 1 or 0, blocks written by merges, blocks written by compacting, each over all levels"
+abbrev pub mergedSum : ChangeAnswer → ℕ
+mergedSum a = a .level1 .written + a .level2 .written + a .level3 .written
+
+abbrev pub compactedSum : ChangeAnswer → ℕ
+compactedSum a = a .level1 .compacted + a .level2 .compacted + a .level3 .compacted
+
+abbrev pub changedLine : ℕ → ChangeAnswer → List ℕ
+changedLine letter a = changeLine letter (a .reason) (bit (a .live)) (mergedSum a) (compactedSum a)
+
+-- "over 16,384 words of which format takes what the layout needs (more needed: 3 ..)"; reading 22: never 1, 2 before 3, and "A refused f leaves the old store as it was, its length too."
+unfoldable pub formatSaid : List ℕ → Geometry → Said
+formatSaid ws g = elim (isLegal g) [
+  | false ↦ record { store = ws; bytes = formatLine 2 0 }
+  | true ↦ elim (leb (storeLength g) 16384) [
+    | true ↦ record { store = formatWords g (storeLength g); bytes = formatLine 0 (keyLimitOf g) }
+    | false ↦ record { store = ws; bytes = formatLine 3 0 }
+  ]
+]
+
+abbrev pub changeSaid : ℕ → Outcome ChangeAnswer → Said
+changeSaid letter o = record { store = o .words; bytes = changedLine letter (o .answer) }
+
+abbrev pub saidOf : List ℕ → Line → Said
+saidOf ws (Format b w d g h p) = formatSaid ws (record { b = b; w = w; d = d; g = g; h = h; p = p })
+saidOf ws (Put k v) = changeSaid letterP (putOf ws k v)
+saidOf ws (Delete k) = changeSaid letterD (deleteOf ws k)
+saidOf ws (Get k) = record { store = ws; bytes = lookedLine (lookUpOf ws k) }
+saidOf ws Unreadable = record { store = ws; bytes = unreadableLine }
