@@ -102,16 +102,18 @@ extern "C" {
 #endif
 
 /*
- * The bytes of stack to have free for each call. Measured and not proved: the most that c/stack.c saw over stores of the
- * largest geometries and calls with merges into every level, rounded up to a whole KiB, and 2 KiB more. What the dynamic
- * loader takes where it looks memcpy and memset up at their first call is not in these numbers.
+ * The bytes of stack to have free for each call, from its return address down; the arguments and the answer stand in your own
+ * frame. A bound read off the object code and not proved: .ci/stack walks every way through it (no recursion, no indirect
+ * call, no frame of changing size) and takes the deepest, rounded up to a whole KiB, and 1 KiB more. c/stack.c measures that
+ * no call takes more. memcpy and memset are allowed 128 bytes each, which is an assumption about the C library; what the
+ * dynamic loader takes where it looks them up at their first call is not in these numbers.
  */
-#define MEWILOVANG_STACK_WORDS (3 * 1024)
-#define MEWILOVANG_STACK_FORMAT (3 * 1024)
-#define MEWILOVANG_STACK_CHECK (12 * 1024)
-#define MEWILOVANG_STACK_LOOK_UP (12 * 1024)
-#define MEWILOVANG_STACK_NEXT (12 * 1024)
-#define MEWILOVANG_STACK_SHOW (12 * 1024)
+#define MEWILOVANG_STACK_WORDS (2 * 1024)
+#define MEWILOVANG_STACK_FORMAT (2 * 1024)
+#define MEWILOVANG_STACK_CHECK (11 * 1024)
+#define MEWILOVANG_STACK_LOOK_UP (11 * 1024)
+#define MEWILOVANG_STACK_NEXT (11 * 1024)
+#define MEWILOVANG_STACK_SHOW (11 * 1024)
 #define MEWILOVANG_STACK_PUT (126 * 1024)
 #define MEWILOVANG_STACK_DELETE (126 * 1024)
 
