@@ -221,7 +221,8 @@ static void lmdb_open(const char *folder)
     must(mkdir(path, 0700) == 0, "mkdir");
     must(mdb_env_create(&env) == 0 && mdb_env_set_mapsize(env, 64u << 20) == 0, "mdb_env_create");
     must(mdb_env_open(env, path, MDB_NOSYNC, 0600) == 0, "mdb_env_open");
-    must(mdb_txn_begin(env, NULL, 0, &txn) == 0 && mdb_dbi_open(txn, NULL, MDB_INTEGERKEY | MDB_CREATE, &dbi) == 0, "mdb_dbi_open");
+    must(mdb_txn_begin(env, NULL, 0, &txn) == 0, "mdb_txn_begin");
+    must(mdb_dbi_open(txn, NULL, MDB_INTEGERKEY | MDB_CREATE, &dbi) == 0, "mdb_dbi_open");
     must(mdb_txn_commit(txn) == 0, "mdb_txn_commit");
     must(mdb_txn_begin(env, NULL, MDB_RDONLY, &reading) == 0, "mdb_txn_begin");
     mdb_txn_reset(reading);
@@ -300,15 +301,23 @@ typedef struct {
 
 static sqlite sqlites[2];
 
+static sqlite3_stmt *statement_of(sqlite *s, const char *text)
+{
+    sqlite3_stmt *statement = NULL;
+    must(sqlite3_prepare_v2(s->base, text, -1, &statement, NULL) == SQLITE_OK, text);
+    return statement;
+}
+
 static void sqlite_make(sqlite *s, const char *path)
 {
     const char *make = "PRAGMA synchronous = OFF; CREATE TABLE tests (key INTEGER PRIMARY KEY, payload INTEGER NOT NULL)";
-    must(sqlite3_open(path, &s->base) == SQLITE_OK && sqlite3_exec(s->base, make, NULL, NULL, NULL) == SQLITE_OK, "sqlite3_open");
-    must(sqlite3_prepare_v2(s->base, "REPLACE INTO tests VALUES (?, ?)", -1, &s->put, NULL) == SQLITE_OK, "put");
-    must(sqlite3_prepare_v2(s->base, "DELETE FROM tests WHERE key = ?", -1, &s->drop, NULL) == SQLITE_OK, "delete");
-    must(sqlite3_prepare_v2(s->base, "SELECT key, payload FROM tests WHERE key = ?", -1, &s->look_up, NULL) == SQLITE_OK, "look up");
-    must(sqlite3_prepare_v2(s->base, "SELECT key, payload FROM tests WHERE key >= ? ORDER BY key LIMIT 1", -1, &s->next, NULL) == SQLITE_OK, "next");
-    must(sqlite3_prepare_v2(s->base, "PRAGMA integrity_check", -1, &s->check, NULL) == SQLITE_OK, "check");
+    must(sqlite3_open(path, &s->base) == SQLITE_OK, "sqlite3_open");
+    must(sqlite3_exec(s->base, make, NULL, NULL, NULL) == SQLITE_OK, make);
+    s->put = statement_of(s, "REPLACE INTO tests VALUES (?, ?)");
+    s->drop = statement_of(s, "DELETE FROM tests WHERE key = ?");
+    s->look_up = statement_of(s, "SELECT key, payload FROM tests WHERE key = ?");
+    s->next = statement_of(s, "SELECT key, payload FROM tests WHERE key >= ? ORDER BY key LIMIT 1");
+    s->check = statement_of(s, "PRAGMA integrity_check");
 }
 
 static void sqlite_change(sqlite3_stmt *statement, uint32_t key, uint32_t payload, int both)
@@ -352,7 +361,8 @@ SQLITE(memory, 0, ":memory:")
 SQLITE(file, 1, below(folder, "sqlite"))
 #endif
 
-#define STORE(name, whole_is, which) {name, whole_is, which##_open, which##_put, which##_drop, which##_look_up, which##_next, which##_whole}
+#define STORE(name, whole_is, which) \
+    {name, whole_is, which##_open, which##_put, which##_drop, which##_look_up, which##_next, which##_whole}
 
 /* The library first: it says how many tests there are. */
 static const store stores[] = {

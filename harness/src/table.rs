@@ -6,14 +6,15 @@ use std::fmt::Write;
 
 /// The lowest, the middle and the highest of some repetitions.
 #[derive(Clone, Copy)]
-struct Range {
+pub struct Range {
     low: f64,
     middle: f64,
     high: f64,
 }
 
 impl Range {
-    fn of(numbers: Vec<f64>) -> Range {
+    /// Of at least one.
+    pub fn of(numbers: Vec<f64>) -> Range {
         Range {
             low: numbers.iter().copied().fold(f64::INFINITY, f64::min),
             high: numbers.iter().copied().fold(0.0, f64::max),
@@ -22,7 +23,7 @@ impl Range {
     }
 
     /// What is to be said of an aim.
-    fn verdict(self, most: f64) -> &'static str {
+    pub fn verdict(self, most: f64) -> &'static str {
         if self.high <= most {
             "met"
         } else if self.low > most {
