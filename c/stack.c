@@ -31,6 +31,7 @@
     CALL(LOOK_UP, "look_up", reason = mewilovang_look_up(store, words, key).reason) \
     CALL(NEXT, "next", nexted = mewilovang_next(store, words, key)) \
     CALL(SHOW, "show", shown = mewilovang_show(store, words, 1 + key % 3, key)) \
+    CALL(ABOUT, "about", reason = mewilovang_about(store, words).reason) \
     CALL(PUT, "put", count(mewilovang_put(store, words, key, key))) \
     CALL(DELETE, "delete", count(mewilovang_delete(store, words, key)))
 
