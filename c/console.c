@@ -12,7 +12,7 @@
 #define PLACES 40
 #define BLOCK 4
 
-enum kind { MEASURED, DELETED, SHEET, ALL, BLOCK_AROUND, FLIP, CHECK };
+enum kind { MEASURED, DELETED, SHEET, ALL, BLOCK_AROUND, STORED, FLIP, CHECK };
 
 struct event {
     enum kind kind;
@@ -138,6 +138,16 @@ static void block_around(uint32_t test)
     printf("\n");
 }
 
+static void stored(void)
+{
+    mewilovang_about_store a = mewilovang_about(store, WORDS);
+    if (a.reason != 0) {
+        printf("tests stored: %s (%u)\n", why(a.reason), (unsigned)a.reason);
+        return;
+    }
+    printf("%u of %u tests stored\n", (unsigned)a.live, (unsigned)a.limit);
+}
+
 static void check(size_t words)
 {
     uint32_t reason = mewilovang_check(store, words);
@@ -167,6 +177,9 @@ static void handle(struct event e)
     case BLOCK_AROUND:
         block_around(e.test);
         break;
+    case STORED:
+        stored();
+        break;
     case FLIP:
         store[e.test] ^= 0x80000000u;
         break;
@@ -191,20 +204,20 @@ static const struct event morning[] = {
     {MEASURED, 50, 2450, 2450}, {MEASURED, 60, 2460, 2440}, {MEASURED, 70, 2470, 2430}, {MEASURED, 80, 2480, 2420},
     {MEASURED, 90, 2490, 2410}, {MEASURED, 50, 1800, 2600}, {DELETED, 20, 0, 0},        {DELETED, 21, 0, 0},
     {SHEET, 50, 0, 0},          {SHEET, 20, 0, 0},          {SHEET, 40, 0, 0},          {ALL, 0, 0, 0},
-    {BLOCK_AROUND, 25, 0, 0},   {BLOCK_AROUND, 55, 0, 0},
+    {BLOCK_AROUND, 25, 0, 0},   {BLOCK_AROUND, 55, 0, 0},   {STORED, 0, 0, 0},
 };
 
 static const struct event afternoon[] = {
     {MEASURED, 15, 2415, 2485}, {MEASURED, 25, 2425, 2475}, {MEASURED, 35, 2435, 2465}, {MEASURED, 45, 2445, 2455},
     {MEASURED, 46, 2446, 2454}, {MEASURED, 47, 2447, 2453}, {MEASURED, 48, 2448, 2452}, {MEASURED, 49, 2449, 2451},
-    {MEASURED, 55, 2455, 2445}, {MEASURED, 100, 2500, 2400}, {MEASURED, 49, 2300, 2600}, {DELETED, 60, 0, 0},
-    {MEASURED, 100, 2500, 2400}, {ALL, 0, 0, 0},            {BLOCK_AROUND, 37, 0, 0},   {SHEET, 15, 0, 0},
-    {SHEET, 60, 0, 0},
+    {MEASURED, 55, 2455, 2445}, {MEASURED, 100, 2500, 2400}, {STORED, 0, 0, 0},         {MEASURED, 49, 2300, 2600},
+    {DELETED, 60, 0, 0},        {MEASURED, 100, 2500, 2400}, {ALL, 0, 0, 0},            {BLOCK_AROUND, 37, 0, 0},
+    {SHEET, 15, 0, 0},          {SHEET, 60, 0, 0},
 };
 
 static const struct event damaged[] = {
     {CHECK, WORDS, 0, 0}, {SHEET, 15, 0, 0}, {MEASURED, 49, 2449, 2451}, {DELETED, 15, 0, 0},
-    {ALL, 0, 0, 0},       {BLOCK_AROUND, 37, 0, 0},
+    {ALL, 0, 0, 0},       {BLOCK_AROUND, 37, 0, 0}, {STORED, 0, 0, 0},
 };
 
 static const struct event evening[] = {

@@ -56,10 +56,78 @@
  *     16   4   4   4   3   8192    7731   280412
  *
  *
+ * WHERE EACH PART LIES
+ *
+ * With L = 12 + K(0) * (1 + 2b) and F = L + K(1) + .. + K(h). Last column: geometry 4 1 2 4 1 40.
+ *
+ *     from word             what is there                                          example
+ *     0                     b, w, d, g, h, p                                        0 to   5
+ *     6                     live: the tests in the store                            6
+ *     7                     hand: the place last written                            7
+ *     8                     c: the records in level 0, delete marks with them       8
+ *     9                     the blocks of levels 1, 2 and 3; 0 above h              9 to  11
+ *     12                    level 0: K(0) mark words                               12 and 13
+ *     12 + K(0)             level 0: K(0) * b keys                                 14 to  21
+ *     12 + K(0) * (1 + b)   level 0: K(0) * b payloads                             22 to  29
+ *     L                     list of level 1: K(1) place numbers in key order       30 to  37
+ *     L + K(1)              list of level 2, if h is 2 or 3: K(2) place numbers
+ *     L + K(1) + K(2)       list of level 3, if h is 3: K(3) place numbers
+ *     F                     p places of 2 + 2b words each                          38 to 437
+ *
+ * Place n, from 0 to p - 1, begins at word F + n * (2 + 2b), in the example at 38 + 10 * n. It has the number of its
+ * records, their mark word, b keys and b payloads. The store ends with the last place, so it has F + p * (2 + 2b) words.
+ * In a mark word bit 0 is for the first record; 1 says that the test is deleted. Bit j of mark word n of level 0 is for
+ * record n * b + j. Unused keys, payloads, bits and list entries are 0. A place that no list names may hold anything.
+ *
+ *
+ * WHICH WORDS CHANGE
+ *
+ *     any call that is turned down        none
+ *     check, look_up, next, show, about   none
+ *     format                              every word is written
+ *     delete of a test not in the store   none
+ *     put, delete without a merge         words 6 and 8 (live, c) and level 0, words 12 to L - 1
+ *     put, delete with merges             words 6 to 11, level 0, the lists, and the places that blocks are written to
+ *
+ * A call is without a merge if its answer counts none. Words 0 to 5 change in format alone.
+ *
+ * No block in use is written over: each merge, and each compacting of a level, writes to places that no list named when
+ * it began. A block that leaves its level keeps its words until its place is written to again. So a call with one merge
+ * and nothing compacted writes to places that no list named before the call. With more, the later ones may write to a
+ * place that an earlier one set free, which was in use before the call.
+ *
+ *
+ * BYTE ORDER
+ *
+ * The library reads and writes whole words and never looks at bytes: in memory a store is in the order of your machine
+ * (x86-64: lowest byte first). To save a store for another machine, save each word as four bytes, lowest byte first,
+ * and make words of them again before you lend them.
+ *
+ *
+ * WHAT A CALL COSTS
+ *
+ * The form check reads size words, level 0, lists and each block that a list names, so it costs most of every call. In
+ * form checks, over full stores; measured, docs/SPEED.md:
+ *
+ *     check            1
+ *     look_up, next    0.8 to 1.0
+ *     show, about      about 1, not timed: show searches one level, about reads the size words once more
+ *     put              1 and its merges. On average 1.0 to 1.1 in stores of 1160 places and more, 1.2 and 1.4 in those
+ *                      of 264 and 136, 2.8 in one of 40. The slowest put seen took 1.7 to 9.8
+ *     delete           as put; not timed
+ *     format           no form check: it writes every word once
+ *     words            a few multiplications
+ *
+ * One form check of a full store of geometry 16 1 2 8 3 8192, with 10771 tests in 279774 words, took about 31
+ * microseconds where the same store had just been checked, and some 90 to 130 after other work. That was on a virtual
+ * machine with two cores; your times differ, the ratios less so.
+ *
+ *
  * THREADS
  *
- * There is no global state. Two threads may read one store at the same time (check, look_up, next, show). While format,
- * put or delete runs on a store, no other thread may use that store. Different stores have nothing to do with each other.
+ * There is no global state. Two threads may read one store at the same time (check, look_up, next, show, about). While
+ * format, put or delete runs on a store, no other thread may use that store. Different stores have nothing to do with each
+ * other.
  *
  *
  * POWER LOSS
@@ -102,16 +170,30 @@ extern "C" {
 #endif
 
 /*
- * The bytes of stack to have free for each call. Measured and not proved: the most that c/stack.c saw over stores of the
- * largest geometries and calls with merges into every level, rounded up to a whole KiB, and 2 KiB more. What the dynamic
- * loader takes where it looks memcpy and memset up at their first call is not in these numbers.
+ * The version. Major: a call or the layout of the store changes, so a store or a caller of before may not fit. Minor:
+ * calls are added. Patch: nothing that a caller sees.
+ *     1.0.0  words, format, check, look_up, next, show, put, delete
+ *     1.1.0  about
  */
-#define MEWILOVANG_STACK_WORDS (3 * 1024)
-#define MEWILOVANG_STACK_FORMAT (3 * 1024)
-#define MEWILOVANG_STACK_CHECK (12 * 1024)
-#define MEWILOVANG_STACK_LOOK_UP (12 * 1024)
-#define MEWILOVANG_STACK_NEXT (12 * 1024)
-#define MEWILOVANG_STACK_SHOW (12 * 1024)
+#define MEWILOVANG_VERSION_MAJOR 1
+#define MEWILOVANG_VERSION_MINOR 1
+#define MEWILOVANG_VERSION_PATCH 0
+#define MEWILOVANG_VERSION "1.1.0"
+
+/*
+ * The bytes of stack to have free for each call, from its return address down; the arguments and the answer stand in your
+ * own frame. A bound read off the object code and not proved: .ci/stack walks every way through it (no recursion, no
+ * indirect call, no frame of changing size) and takes the deepest, rounded up to a whole KiB, and 1 KiB more. c/stack.c
+ * measures that no call takes more. memcpy and memset are allowed 128 bytes each, which is an assumption about the C
+ * library; what the dynamic loader takes where it looks them up at their first call is not in these numbers.
+ */
+#define MEWILOVANG_STACK_WORDS (2 * 1024)
+#define MEWILOVANG_STACK_FORMAT (2 * 1024)
+#define MEWILOVANG_STACK_CHECK (11 * 1024)
+#define MEWILOVANG_STACK_LOOK_UP (11 * 1024)
+#define MEWILOVANG_STACK_NEXT (11 * 1024)
+#define MEWILOVANG_STACK_SHOW (11 * 1024)
+#define MEWILOVANG_STACK_ABOUT (11 * 1024)
 #define MEWILOVANG_STACK_PUT (126 * 1024)
 #define MEWILOVANG_STACK_DELETE (126 * 1024)
 
@@ -134,6 +216,14 @@ typedef struct {
 typedef struct {
     size_t start, length;
 } mewilovang_part;
+
+/*
+ * b to p: the geometry; live: the tests in the store; limit: N, the tests that it holds at most; top: the records in
+ * level 0, delete marks with them; blocks1 to blocks3: the blocks of levels 1, 2 and 3, 0 above h.
+ */
+typedef struct {
+    uint32_t reason, b, w, d, g, h, p, live, limit, top, blocks1, blocks2, blocks3;
+} mewilovang_about_store;
 
 /* Merges into a level, blocks written by them, blocks written compacting the level. */
 typedef struct {
@@ -174,6 +264,12 @@ mewilovang_nexted mewilovang_next(const uint32_t *store, size_t words, uint32_t 
 mewilovang_part mewilovang_show(const uint32_t *store, size_t words, uint32_t level, uint32_t key);
 
 /*
+ * What the store says of itself: its geometry, the tests in it and the most it holds, the records in level 0, the blocks of
+ * each level. "live of limit tests stored". Changes no word. Turned down for 1 to 4.
+ */
+mewilovang_about_store mewilovang_about(const uint32_t *store, size_t words);
+
+/*
  * The reading of a test, over the one that it had. If level 0 is full and does not have the test, blocks are merged
  * downward first, and the answer counts them: a call writes few blocks or none, but a merge can set off others.
  * Turned down for 1 to 5; 5 only for a test that is not in the store.
@@ -194,6 +290,7 @@ MEWILOVANG_HOLDS(sizeof(mewilovang_formatted) == 8, "mewilovang_formatted has ga
 MEWILOVANG_HOLDS(sizeof(mewilovang_looked) == 12, "mewilovang_looked has gaps");
 MEWILOVANG_HOLDS(sizeof(mewilovang_nexted) == 16, "mewilovang_nexted has gaps");
 MEWILOVANG_HOLDS(sizeof(mewilovang_part) == 16, "mewilovang_part has gaps");
+MEWILOVANG_HOLDS(sizeof(mewilovang_about_store) == 52, "mewilovang_about_store has gaps");
 MEWILOVANG_HOLDS(sizeof(mewilovang_counts) == 12, "mewilovang_counts has gaps");
 MEWILOVANG_HOLDS(sizeof(mewilovang_changed) == 44, "mewilovang_changed has gaps");
 #undef MEWILOVANG_HOLDS

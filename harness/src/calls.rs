@@ -1,4 +1,4 @@
-//! The eight calls as values, and who answers them.
+//! The nine calls as values, and who answers them.
 
 use mewilovang::border as c;
 use reference::{calls as plain, fast, geometry::Geometry};
@@ -12,6 +12,7 @@ pub enum Call {
     LookUp(u32),
     Next(u32),
     Show(u32, u32),
+    About,
     Put(u32, u32),
     Delete(u32),
 }
@@ -32,6 +33,8 @@ pub enum Answer {
     Looked([u32; 3]),
     Nexted([u32; 4]),
     Part(usize, usize),
+    /// Reason, the six numbers, live, N, records in level 0, blocks of levels 1 to 3.
+    About([u32; 13]),
     /// Reason, live, and the counts of levels 1 to 3.
     Changed([u32; 11]),
 }
@@ -45,6 +48,7 @@ impl Answer {
             Answer::Checked(reason) => reason,
             Answer::Looked(numbers) => numbers[0],
             Answer::Nexted(numbers) => numbers[0],
+            Answer::About(numbers) => numbers[0],
             Answer::Changed(numbers) => numbers[0],
         }
     }
@@ -89,6 +93,13 @@ impl Store for Library {
                 let a = c::mewilovang_show(lent, words, level, key);
                 Answer::Part(a.start, a.length)
             }
+            Call::About => {
+                let a = c::mewilovang_about(lent, words);
+                Answer::About([
+                    a.reason, a.b, a.w, a.d, a.g, a.h, a.p, a.live, a.limit, a.top, a.blocks1,
+                    a.blocks2, a.blocks3,
+                ])
+            }
             Call::Put(key, payload) => changed(c::mewilovang_put(lent, words, key, payload)),
             Call::Delete(key) => changed(c::mewilovang_delete(lent, words, key)),
         }
@@ -125,6 +136,14 @@ impl Store for Package {
                 Answer::Nexted(answer.map_or_else(refused, found))
             }
             Call::Show(level, key) => part(read(), mewilovang::show(read(), level, key)),
+            Call::About => {
+                let numbers = |a: mewilovang::About| {
+                    let mewilovang::Geometry { b, w, d, g, h, p } = a.geometry;
+                    let [x, y, z] = a.blocks;
+                    [0, b, w, d, g, h, p, a.live, a.limit, a.top, x, y, z]
+                };
+                Answer::About(mewilovang::about(read()).map_or_else(refused, numbers))
+            }
             Call::Put(key, payload) => done(mewilovang::put(write(), key, payload)),
             Call::Delete(key) => done(mewilovang::delete(write(), key)),
         }
@@ -233,6 +252,15 @@ impl Oracle {
             }
             Call::Show(level, key) if plain => part(words, plain::show(words, level, key)),
             Call::Show(level, key) => part(words, fast::show(words, level, key)),
+            Call::About => {
+                let a = match self {
+                    Oracle::Plain => plain::about(words),
+                    Oracle::Fast => fast::about(words),
+                };
+                let [b, w, d, g, h, p] = a.numbers;
+                let [x, y, z] = a.blocks;
+                Answer::About([a.refusal, b, w, d, g, h, p, a.live, a.limit, a.top, x, y, z])
+            }
             Call::Put(key, payload) if plain => told(plain::put(words, key, payload)),
             Call::Put(key, payload) => told(fast::put(words, key, payload)),
             Call::Delete(key) if plain => told(plain::delete(words, key)),

@@ -3,6 +3,7 @@
 //! stores, `bench` compares times.
 
 pub mod calls;
+pub mod cold;
 pub mod compare;
 pub mod harm;
 pub mod maker;

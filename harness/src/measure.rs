@@ -1,10 +1,13 @@
 //! The measurements of `bench`. In each round a list of puts runs on a copy of the
 //! store, and between them the reading calls on the store as it then stands. So all
 //! calls meet the same stores, warm caches and a branch predictor that knows them,
-//! and what else the machine does meets all alike. Medians over the rounds count.
+//! and what else the machine does meets all alike. The rounds come in blocks, with
+//! those of other geometries and cold calls in between. A figure of a block comes
+//! from medians over its rounds; how far the blocks lie apart is the noise.
 
 use crate::calls::{Answer, Call, Library, Oracle, Store};
-use reference::fast;
+use crate::cold::{Cold, Work};
+use reference::fast as baseline;
 use reference::geometry::Geometry;
 use reference::layout::COUNTS;
 use reference::random::Random;
@@ -12,9 +15,9 @@ use std::collections::HashSet;
 use std::hint::black_box;
 use std::time::{Duration, Instant};
 
-/// Rounds at least and at most.
-const FEWEST: usize = 5;
-const MOST: usize = 400;
+/// Rounds of a block, at least and at most.
+const FEWEST: usize = 3;
+const MOST: usize = 80;
 /// Puts before the measured ones, to get warm.
 const WARMING: usize = 64;
 /// The reading calls are measured before every so many puts.
@@ -26,11 +29,11 @@ const APART: usize = 4;
 pub fn full_store(geometry: Geometry) -> (Vec<u32>, Vec<u32>) {
     let mut random = Random::new(1);
     let mut store = vec![0; geometry.length()];
-    fast::format(&mut store, geometry.numbers());
+    baseline::format(&mut store, geometry.numbers());
     let mut keys = Vec::new();
     let add = |random: &mut Random, store: &mut [u32]| loop {
         let key = random.word();
-        let answer = fast::put(store, key, !key);
+        let answer = baseline::put(store, key, !key);
         if answer.refusal == 0 && !answer.live_before {
             return key;
         }
@@ -42,9 +45,9 @@ pub fn full_store(geometry: Geometry) -> (Vec<u32>, Vec<u32>) {
     for _ in 0..room * geometry.block() {
         let index = random.below(keys.len());
         if random.one_in(2) {
-            fast::put(&mut store, keys[index], random.word());
+            baseline::put(&mut store, keys[index], random.word());
         } else {
-            fast::delete(&mut store, keys[index]);
+            baseline::delete(&mut store, keys[index]);
             keys[index] = add(&mut random, &mut store);
         }
     }
@@ -82,7 +85,7 @@ fn last_marks(geometry: Geometry, store: &[u32]) -> usize {
 }
 
 /// The middle of some numbers.
-fn median(mut numbers: Vec<f64>) -> f64 {
+pub fn median(mut numbers: Vec<f64>) -> f64 {
     numbers.sort_by(f64::total_cmp);
     numbers[numbers.len() / 2]
 }
@@ -135,9 +138,9 @@ pub struct Subject {
 
 /// A measured put: of a live key, or of a new one for a key that is deleted first.
 /// Where all N keys have room in level 0, puts of live keys alone would never merge.
-struct Turn {
-    deleted: Option<u32>,
-    put: u32,
+pub struct Turn {
+    pub deleted: Option<u32>,
+    pub put: u32,
 }
 
 /// Puts of both kinds, one after the other, on a store with these keys.
@@ -163,18 +166,25 @@ fn turns(random: &mut Random, mut keys: Vec<u32>, count: usize) -> Vec<Turn> {
     (0..count).map(turn).collect()
 }
 
-/// The rounds of one geometry.
+/// Some rounds, one after the other: the times of the library and of the fast
+/// baseline.
+#[derive(Default)]
+pub struct Block {
+    pub rounds: usize,
+    pub library: Subject,
+    pub fast: Subject,
+}
+
+/// The blocks of rounds of one geometry, and its cold calls.
 pub struct Rounds {
     pub geometry: Geometry,
     pub store: Vec<u32>,
-    pub number: usize,
-    pub library: Subject,
-    pub fast: Subject,
+    pub blocks: Vec<Block>,
+    pub cold: Cold,
     /// What the measured puts are, and keys to be asked for.
     puts: Vec<Turn>,
     asked: Vec<u32>,
-    /// What reading the clock adds to a measured call.
-    cost: f64,
+    clock: Clock,
 }
 
 impl Rounds {
@@ -193,33 +203,28 @@ impl Rounds {
         let asked = (0..count).map(either).collect();
         Rounds {
             geometry,
+            cold: Cold::new(store.clone()),
             store,
-            number: 0,
-            library: Subject::default(),
-            fast: Subject::default(),
+            blocks: Vec::new(),
             puts,
             asked,
-            cost: clock_cost(),
+            clock: Clock::new(),
         }
     }
 
-    /// Rounds for about this time. Both implementations must leave the same words.
-    pub fn run(&mut self, time: Duration) {
+    /// A block of rounds for about this time, then some cold calls. Both
+    /// implementations must leave the same words.
+    pub fn block(&mut self, time: Duration, work: &mut Work) {
         let start = Instant::now();
-        let library = |lent: &mut [u32], call| {
-            // The words are lent to this call alone.
-            unsafe { Library.call(lent.as_mut_ptr(), lent.len(), call) }
-        };
-        let fast = |lent: &mut [u32], call| Oracle::Fast.call(lent, call);
-        while self.number < FEWEST || self.number < MOST && start.elapsed() < time {
-            let mut subject = std::mem::take(&mut self.library);
-            let words = self.list(&mut subject, library);
-            self.library = std::mem::replace(&mut subject, std::mem::take(&mut self.fast));
-            let right = self.list(&mut subject, fast);
-            self.fast = subject;
+        let mut block = Block::default();
+        while block.rounds < FEWEST || block.rounds < MOST && start.elapsed() < time {
+            let words = self.list(&mut block.library, library);
+            let right = self.list(&mut block.fast, fast);
             assert!(words == right, "the words differ after the puts");
-            self.number += 1;
+            block.rounds += 1;
         }
+        self.blocks.push(block);
+        self.cold.calls(work, &self.clock, &self.puts);
     }
 
     /// One round of one implementation: the list of puts with the reading calls
@@ -239,7 +244,7 @@ impl Rounds {
                 call(&mut lent, Call::Delete(key));
             }
             let put = Call::Put(turn.put, number as u32);
-            let (time, answer) = self.timed(|| call(black_box(&mut lent), put));
+            let (time, answer) = self.clock.timed(|| call(black_box(&mut lent), put));
             assert!(answer.reason() == 0, "a put of a live key or one with room");
             subject.put.add(number, time);
             subject.merges.push(answer.merges());
@@ -256,10 +261,12 @@ impl Rounds {
         call: impl Fn(&mut [u32], Call) -> Answer,
     ) {
         let (place, key) = (number / APART, self.asked[number]);
-        let pass = self.timed(|| plain_pass(self.geometry, black_box(lent)));
+        let pass = self
+            .clock
+            .timed(|| plain_pass(self.geometry, black_box(lent)));
         subject.pass.add(place, pass.0);
         let time = |lent: &mut [u32], asked, times: &mut Times| {
-            let (time, answer) = self.timed(|| call(black_box(lent), asked));
+            let (time, answer) = self.clock.timed(|| call(black_box(lent), asked));
             times.add(place, time);
             answer.reason()
         };
@@ -272,21 +279,42 @@ impl Rounds {
         lent[marks] = 0;
         assert!((sound, broken) == (0, 4), "what check says");
     }
+}
 
-    /// A call with its time.
-    fn timed<T>(&self, call: impl FnOnce() -> T) -> (f64, T) {
+/// A call of the library.
+pub fn library(lent: &mut [u32], call: Call) -> Answer {
+    // The words are lent to this call alone.
+    unsafe { Library.call(lent.as_mut_ptr(), lent.len(), call) }
+}
+
+/// A call of the fast baseline.
+pub fn fast(lent: &mut [u32], call: Call) -> Answer {
+    Oracle::Fast.call(lent, call)
+}
+
+/// What times a call.
+pub struct Clock {
+    /// What reading the clock adds to a measured call.
+    cost: f64,
+}
+
+impl Clock {
+    /// With the cost of reading it, which is measured.
+    fn new() -> Clock {
+        let empty = |_| {
+            let start = Instant::now();
+            start.elapsed().as_nanos() as f64
+        };
+        Clock {
+            cost: median((0..2001).map(empty).collect()),
+        }
+    }
+
+    /// The nanoseconds of a call, and its answer.
+    pub fn timed<T>(&self, call: impl FnOnce() -> T) -> (f64, T) {
         let start = Instant::now();
         let answer = black_box(call());
         let time = start.elapsed().as_nanos() as f64;
         ((time - self.cost).max(0.0), answer)
     }
-}
-
-/// Nanoseconds that reading the clock adds to a measured call.
-fn clock_cost() -> f64 {
-    let empty = |_| {
-        let start = Instant::now();
-        start.elapsed().as_nanos() as f64
-    };
-    median((0..2001).map(empty).collect())
 }

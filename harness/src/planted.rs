@@ -16,6 +16,14 @@ pub enum Fault {
     NextNone,
     /// Show answers a part that starts a word too late.
     ShowStart,
+    /// About says 0 to a store that is turned down for 4.
+    AboutLenient,
+    /// About answers live and N the other way round.
+    AboutLive,
+    /// About answers no blocks of level 3.
+    AboutBlocks,
+    /// About changes a lent word of a store that is turned down for 4.
+    AboutWrites,
     /// Words answers one word too many.
     WordsMore,
     /// Format leaves the last word as it was.
@@ -38,7 +46,7 @@ pub enum Fault {
 
 impl Fault {
     /// Every fault.
-    pub const ALL: [Fault; 14] = {
+    pub const ALL: [Fault; 18] = {
         use Fault::*;
         [
             CheckLenient,
@@ -46,6 +54,10 @@ impl Fault {
             LookUpPayload,
             NextNone,
             ShowStart,
+            AboutLenient,
+            AboutLive,
+            AboutBlocks,
+            AboutWrites,
             WordsMore,
             FormatLeaves,
             PutCounts,
@@ -81,6 +93,15 @@ impl Fault {
             (ShowStart, _, Answer::Part(start, length)) if length > 0 => {
                 Answer::Part(start + 1, length)
             }
+            (AboutLenient, _, Answer::About([4, ..])) => Answer::About([0; 13]),
+            (AboutLive, _, Answer::About(mut numbers)) => {
+                numbers.swap(7, 8);
+                Answer::About(numbers)
+            }
+            (AboutBlocks, _, Answer::About(mut numbers)) => {
+                numbers[12] = 0;
+                Answer::About(numbers)
+            }
             (WordsMore, _, Answer::Words(words)) if words > 0 => Answer::Words(words + 1),
             (PutCounts, Call::Put(..), Answer::Changed(mut numbers)) => {
                 numbers[2] = 0;
@@ -114,6 +135,7 @@ impl<S: Store> Store for Planted<S> {
             (LookUpWrites, Call::LookUp(_), Answer::Looked([0, ..])) => {
                 *lent.add(words - 1) ^= 1 << 31;
             }
+            (AboutWrites, Call::About, Answer::About([4, ..])) => *lent.add(words - 1) ^= 1,
             (CheckWritesBehind, Call::Check, _) => *lent.add(words) ^= 1,
             (DeleteWritesBefore, Call::Delete(_), _) => *lent.sub(1) ^= 1,
             _ => {}

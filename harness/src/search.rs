@@ -1,4 +1,4 @@
-//! The search for a difference: random stores, damaged, all eight calls on each.
+//! The search for a difference: random stores, damaged, all nine calls on each.
 
 use crate::calls::{Call, Oracle, Store};
 use crate::compare::{Bench, Difference};
@@ -131,7 +131,7 @@ impl<'a> Search<'a> {
         Ok(())
     }
 
-    /// All eight calls on one store, each on the words as they are.
+    /// All nine calls on one store, each on the words as they are.
     fn ask_all(
         &mut self,
         random: &mut Random,
@@ -166,8 +166,8 @@ impl<'a> Search<'a> {
     }
 }
 
-/// All eight calls, put and delete twice, with arguments that fit the store.
-fn calls(random: &mut Random, base: &Base, words: &[u32]) -> [Call; 10] {
+/// All nine calls, put and delete twice, with arguments that fit the store.
+fn calls(random: &mut Random, base: &Base, words: &[u32]) -> [Call; 11] {
     let mut key = || key(random, base, words);
     let keys = [key(), key(), key(), key(), key(), key(), key()];
     let own = [0, 1, 2, 3, 4, 5].map(|at| words.get(at).copied().unwrap_or(4));
@@ -186,6 +186,7 @@ fn calls(random: &mut Random, base: &Base, words: &[u32]) -> [Call; 10] {
         Call::LookUp(keys[0]),
         Call::Next(keys[1]),
         Call::Show(level, keys[2]),
+        Call::About,
         Call::Put(keys[3], random.word()),
         Call::Put(keys[4], 0),
         Call::Delete(keys[5]),

@@ -1,65 +1,135 @@
-//! The table of `bench`.
+//! The tables of `bench`.
 
-use crate::measure::{mean, words_read, Rounds, Subject};
+use crate::measure::{mean, median, words_read, Block, Rounds};
 use reference::geometry::Geometry;
+use std::fmt::Write;
 
-/// What was measured of one geometry: ratios, and times in microseconds.
+/// The lowest, the middle and the highest of some repetitions.
+#[derive(Clone, Copy)]
+pub struct Range {
+    low: f64,
+    middle: f64,
+    high: f64,
+}
+
+impl Range {
+    /// Of at least one.
+    pub fn of(numbers: Vec<f64>) -> Range {
+        Range {
+            low: numbers.iter().copied().fold(f64::INFINITY, f64::min),
+            high: numbers.iter().copied().fold(0.0, f64::max),
+            middle: median(numbers),
+        }
+    }
+
+    /// What is to be said of an aim.
+    pub fn verdict(self, most: f64) -> &'static str {
+        if self.high <= most {
+            "met"
+        } else if self.low > most {
+            "MISSED"
+        } else {
+            "within the noise"
+        }
+    }
+
+    fn text(self) -> String {
+        format!("{:.2}-{:.2}", self.low, self.high)
+    }
+}
+
+/// The figures of a block, by name: times in microseconds, and ratios.
+const NAMES: [&str; 15] = [
+    "plain pass",
+    "check",
+    "check / plain pass",
+    "check / fast check",
+    "look up / check",
+    "put, mean / check",
+    "next / check",
+    "put, still / check",
+    "put, merging / check",
+    "put, worst / check",
+    "put / fast put",
+    "rules",
+    "rules / fast",
+    "live",
+    "live / fast",
+];
+/// Where the ratios of the first table begin and end, the rest of the second, and
+/// the parts of check.
+const FIRST: std::ops::Range<usize> = 0..6;
+const SECOND: std::ops::Range<usize> = 6..11;
+const PARTS: std::ops::Range<usize> = 11..15;
+
+/// The aims, at most so much.
+const AIMS: [(usize, f64); 4] = [(2, 10.0), (3, 1.2), (4, 1.1), (5, 2.0)];
+
+/// The cold calls, in microseconds.
+const COLD: [&str; 3] = ["cold check", "cold fast check", "cold put"];
+
+/// The figures of one block.
+fn figures(block: &Block) -> [f64; NAMES.len()] {
+    let (library, fast) = (&block.library, &block.fast);
+    let (pass, check, rules) = (
+        library.pass.mean(),
+        library.check.mean(),
+        library.rules.mean(),
+    );
+    let (fast_check, fast_rules) = (fast.check.mean(), fast.rules.mean());
+    let puts = library.put.medians();
+    let of = |merging: bool| {
+        let both = puts.iter().zip(&library.merges);
+        let some = both.filter(|&(_, &merges)| (merges > 0) == merging);
+        mean(&some.map(|(&time, _)| time).collect::<Vec<_>>())
+    };
+    [
+        pass / 1000.0,
+        check / 1000.0,
+        check / pass,
+        check / fast_check,
+        library.look_up.mean() / check,
+        mean(&puts) / check,
+        library.next.mean() / check,
+        of(false) / check,
+        of(true) / check,
+        puts.iter().copied().fold(0.0, f64::max) / check,
+        mean(&puts) / fast.put.mean(),
+        rules / 1000.0,
+        rules / fast_rules,
+        (check - rules) / 1000.0,
+        (check - rules) / (fast_check - fast_rules),
+    ]
+}
+
+/// What was measured of one geometry.
 pub struct Row {
     geometry: Geometry,
     words: usize,
     rounds: usize,
-    pass_time: f64,
-    check_time: f64,
-    check_pass: f64,
-    check_fast: f64,
-    look_up: f64,
-    next: f64,
-    put_still: f64,
-    put_merging: f64,
-    put_worst: f64,
-    put_mean: f64,
-    put_fast: f64,
-    /// Check before and for the count of live keys, of the library and of the
-    /// baseline.
-    parts: [[f64; 2]; 2],
+    figures: [Range; NAMES.len()],
+    cold: [Range; COLD.len()],
+    /// Cold calls of each kind.
+    calls: usize,
     /// Puts with merges, and merges in all.
     merging: usize,
     merges: u32,
 }
 
-/// Microseconds of check without the count of live keys and of the count.
-fn parts(subject: &Subject) -> [f64; 2] {
-    let (rules, check) = (subject.rules.mean(), subject.check.mean());
-    [rules / 1000.0, (check - rules) / 1000.0]
-}
-
 impl Row {
     /// The figures of these rounds.
     pub fn new(rounds: &Rounds) -> Row {
-        let (library, fast) = (&rounds.library, &rounds.fast);
-        let (pass, check) = (library.pass.mean(), library.check.mean());
-        let (puts, merges) = (library.put.medians(), &library.merges);
-        let of = |merging: bool| {
-            let both = puts.iter().zip(merges);
-            let some = both.filter(|&(_, &merges)| (merges > 0) == merging);
-            mean(&some.map(|(&time, _)| time).collect::<Vec<_>>())
-        };
+        let blocks: Vec<_> = rounds.blocks.iter().map(figures).collect();
+        let merges = &rounds.blocks[0].library.merges;
+        let cold = &rounds.cold;
+        let thousandth = |times: &Vec<f64>| Range::of(times.iter().map(|t| t / 1000.0).collect());
         Row {
             geometry: rounds.geometry,
             words: words_read(rounds.geometry, &rounds.store),
-            rounds: rounds.number,
-            pass_time: pass / 1000.0,
-            check_time: check / 1000.0,
-            check_pass: check / pass,
-            check_fast: check / fast.check.mean(),
-            look_up: library.look_up.mean() / check,
-            next: library.next.mean() / check,
-            put_still: of(false) / check,
-            put_merging: of(true) / check,
-            put_worst: puts.iter().copied().fold(0.0, f64::max) / check,
-            put_mean: mean(&puts) / check,
-            put_fast: mean(&puts) / fast.put.mean(),
-            parts: [parts(library), parts(fast)],
+            rounds: rounds.blocks.iter().map(|block| block.rounds).sum(),
+            figures: std::array::from_fn(|i| Range::of(blocks.iter().map(|b| b[i]).collect())),
+            cold: [&cold.check, &cold.fast_check, &cold.put].map(thousandth),
+            calls: cold.check.len(),
             merging: merges.iter().filter(|&&merges| merges > 0).count(),
             merges: merges.iter().sum(),
         }
@@ -70,106 +140,117 @@ impl Row {
         self.geometry.numbers().map(|n| n.to_string()).join(" ")
     }
 
-    /// The line of the table.
-    fn print(&self) {
-        let times = [self.pass_time, self.check_time];
-        let ratios = [
-            self.check_pass,
-            self.check_fast,
-            self.look_up,
-            self.next,
-            self.put_still,
-            self.put_merging,
-            self.put_worst,
-            self.put_mean,
-            self.put_fast,
-        ];
-        let mut cells = vec![self.name()];
-        let counts = [self.geometry.key_limit(), self.words, self.rounds];
-        cells.extend(counts.map(|count| count.to_string()));
-        cells.extend(times.iter().chain(&ratios).map(|n| format!("{n:.2}")));
-        line(cells.into_iter());
+    /// Some figures as cells.
+    fn cells(&self, some: std::ops::Range<usize>) -> Vec<String> {
+        self.figures[some]
+            .iter()
+            .map(|range| range.text())
+            .collect()
     }
 
-    /// The aims with what was measured, and whether each is met.
-    fn aims(&self) -> [(&'static str, f64, f64, bool); 4] {
-        let aim = |name, measured, most| (name, measured, most, measured <= most);
-        [
-            aim("check / plain pass", self.check_pass, 10.0),
-            aim("check / fast check", self.check_fast, 1.2),
-            aim("look up / check", self.look_up, 1.1),
-            aim("put, mean / check", self.put_mean, 2.0),
-        ]
-    }
-}
-
-/// The two lines of the table's head and the one of the aims, columns parted by a
-/// comma.
-const HEAD: [&str; 2] = [
-    ",,,,plain,,check/,check/,look up,next/,put,put,put,put,put/",
-    "B w d G h P,N,words,rounds,pass,check,pass,fast,/check,check,still,merging,worst,mean,fast",
-];
-const AIMS: &str = "aim at most,,,,,,10.00,1.20,1.10,,,,,2.00,";
-
-/// Prints the table, and which aims are met at the largest geometries.
-pub fn print(rows: &[Row]) {
-    println!("Full stores, live = N, level 0 in steady state, all warm. Words: what check must");
-    println!("read. Pass and check in microseconds, all else ratios of medians.\n");
-    for text in HEAD {
-        line(text.split(','));
-    }
-    rows.iter().for_each(Row::print);
-    line(AIMS.split(','));
-    println!("\nPut as a share of check: still are the puts without a merge, merging those with,");
-    println!("worst the slowest, mean all of them. Last column: the library's mean put as a");
-    println!("share of that of the fast baseline.");
-    print_parts(rows);
-    for row in rows.iter().filter(|row| row.geometry.slots() == 8192) {
-        println!("\nAims at {}:", row.name());
-        for (name, measured, most, met) in row.aims() {
-            let word = if met { "met" } else { "NOT met" };
-            println!("  {name:<20} {measured:>6.2}, aim {most:>5.2}: {word}");
+    /// The cells of the cold calls: each range and its middle, and check's as a multiple of the warm one.
+    fn cold_cells(&self) -> Vec<String> {
+        let mut cells = Vec::new();
+        for range in self.cold {
+            cells.push(format!("{:.1}-{:.1}", range.low, range.high));
+            cells.push(format!("{:.1}", range.middle));
         }
+        cells.push(format!(
+            "{:.2}",
+            self.cold[0].middle / self.figures[1].middle
+        ));
+        cells
     }
 }
 
-/// One line of the table.
-fn line<T: AsRef<str>>(cells: impl Iterator<Item = T>) {
-    let bars = [4, 6, 8, 10, 14];
-    let mut text = String::new();
-    for (column, cell) in cells.enumerate() {
-        let bar = if bars.contains(&column) { " |" } else { "" };
-        text += &match column {
-            0 => format!("{:<20}", cell.as_ref()),
-            _ => format!("{bar} {:>7}", cell.as_ref()),
-        };
-    }
-    println!("{text}");
+/// One line of a table: a geometry, and cells of one width.
+fn line<T: AsRef<str>>(name: &str, cells: &[T]) {
+    let text: String = cells
+        .iter()
+        .map(|cell| format!(" {:>13}", cell.as_ref()))
+        .collect();
+    println!("{name:<18}{text}");
 }
 
-/// Where check spends its time, and how many puts had merges.
-fn print_parts(rows: &[Row]) {
-    println!(
-        "\nCheck in parts, in microseconds: all rules but live (timed with a breach in the last"
+/// A table: what stands above it, its head with the columns parted by a comma, and a line for each row.
+fn table(above: &str, head: &str, rows: &[Row], cells: impl Fn(&Row) -> Vec<String>) {
+    println!("\n{above}\n");
+    line("B w d G h P", &head.split(',').collect::<Vec<_>>());
+    rows.iter().for_each(|row| line(&row.name(), &cells(row)));
+}
+
+/// Prints the tables, and which aims are met at the largest geometries.
+pub fn print(rows: &[Row]) {
+    println!("Full stores, live = N, level 0 in steady state. Lowest and highest of the blocks of");
+    println!("rounds, times in microseconds. All but the cold calls are warm.");
+    let head = "plain pass,check,check/pass,check/fast,look up/check,put mean/check";
+    table(
+        "What the aims speak of. Put: the mean of all puts.",
+        head,
+        rows,
+        |row| row.cells(FIRST),
     );
-    println!("block), and the count of live keys. Then the puts with merges, and their merges.\n");
-    println!(
-        "{:<20} {:>9} {:>9} {:>6} | {:>9} {:>9} {:>6} | {:>8} {:>8}",
-        "", "rules", "fast", "ratio", "live", "fast", "ratio", "merging", "merges"
+    line("aim at most", &["", "", "10.00", "1.20", "1.10", "2.00"]);
+    let head = "next/check,put still,put merging,put worst,put/fast put,N,words read,rounds";
+    let above = "Put as a share of check: still are the puts without a merge, merging those with, worst the\n\
+        slowest. Put/fast put: the mean put as a share of the fast baseline's. Words: what check must read.";
+    table(above, head, rows, |row| {
+        let mut cells = row.cells(SECOND);
+        cells.extend([row.geometry.key_limit(), row.words, row.rounds].map(|n| n.to_string()));
+        cells
+    });
+    let above = "Check in parts, in microseconds and as a share of the fast baseline's: all rules but live (timed\n\
+        with a breach in the last block), and the count of live keys. Then the puts with merges, and their merges.";
+    table(
+        above,
+        "rules,rules/fast,live,live/fast,merging,merges",
+        rows,
+        |row| {
+            let mut cells = row.cells(PARTS);
+            cells.extend([row.merging.to_string(), row.merges.to_string()]);
+            cells
+        },
     );
-    for row in rows {
-        let [[rules, live], [fast_rules, fast_live]] = row.parts;
+    let above = format!(
+        "Cold calls, in microseconds: before each, 64 MB of other memory gone over and 65,536 random words sorted.\n\
+        {} calls of each kind: lowest and highest, then the middle. Last: the middle check as a multiple of the warm one.",
+        rows[0].calls
+    );
+    let head = "check,middle,fast check,middle,put,middle,check/warm";
+    table(&above, head, rows, Row::cold_cells);
+    rows.iter()
+        .filter(|row| row.geometry.slots() == 8192)
+        .for_each(print_aims);
+}
+
+/// The aims of one geometry.
+fn print_aims(row: &Row) {
+    println!("\nAims at {}:", row.name());
+    for (figure, most) in AIMS {
+        let (name, range) = (NAMES[figure], row.figures[figure]);
         println!(
-            "{:<20} {:>9.2} {:>9.2} {:>6.2} | {:>9.2} {:>9.2} {:>6.2} | {:>8} {:>8}",
-            row.name(),
-            rules,
-            fast_rules,
-            rules / fast_rules,
-            live,
-            fast_live,
-            live / fast_live,
-            row.merging,
-            row.merges
+            "  {name:<20} {:>6.2} to {:>5.2}, aim {most:>5.2}: {}",
+            range.low,
+            range.high,
+            range.verdict(most)
         );
     }
+}
+
+/// All figures, a line for each: geometry, name, lowest, middle, highest, parted by tabs.
+pub fn lines(rows: &[Row]) -> String {
+    let mut text = String::new();
+    for row in rows {
+        let names = NAMES.iter().chain(&COLD);
+        for (name, range) in names.zip(row.figures.iter().chain(&row.cold)) {
+            let Range { low, middle, high } = range;
+            writeln!(
+                text,
+                "{}\t{name}\t{low:.4}\t{middle:.4}\t{high:.4}",
+                row.name()
+            )
+            .expect("text");
+        }
+    }
+    text
 }

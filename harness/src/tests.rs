@@ -1,8 +1,10 @@
-//! The search is able to fail, and finds nothing in the library.
+//! The search is able to fail, and finds nothing in the library. What the benchmark
+//! says of an aim.
 
 use crate::calls::{Library, Package};
 use crate::planted::{Fault, Planted};
 use crate::search::Search;
+use crate::table::Range;
 
 /// Each planted fault is reported, and the report's group shows it again.
 #[test]
@@ -36,4 +38,13 @@ fn nothing_in_the_library() {
     println!("{counts}");
     assert!(counts.reasons.iter().all(|&stores| stores > 0));
     assert!(counts.merges > 0 && counts.full > 0 && counts.both > 0 && counts.large > 0);
+}
+
+/// An aim is met or missed by all repetitions, or else within their noise.
+#[test]
+fn aims() {
+    let said = |times: [f64; 3]| Range::of(times.to_vec()).verdict(1.2);
+    assert_eq!(said([1.0, 1.2, 1.1]), "met");
+    assert_eq!(said([1.3, 1.21, 1.4]), "MISSED");
+    assert_eq!(said([1.3, 1.1, 1.0]), "within the noise");
 }

@@ -33,6 +33,22 @@ pub struct Next {
     pub payload: u32,
 }
 
+/// The answer of about, an addition to document 01's calls.
+#[derive(Clone, Copy, Debug, Default, PartialEq, Eq)]
+pub struct About {
+    pub refusal: u32,
+    /// B, w, d, G, h, P.
+    pub numbers: [u32; 6],
+    /// Keys of the map.
+    pub live: u32,
+    /// N.
+    pub limit: u32,
+    /// Records in level 0, tombstones with them.
+    pub top: u32,
+    /// `blocks[i − 1]` is for level i; 0 above h.
+    pub blocks: [u32; MOST_LEVELS],
+}
+
 /// What put and delete answer for one level.
 #[derive(Clone, Copy, Debug, Default, PartialEq, Eq)]
 pub struct Counts {
@@ -136,6 +152,33 @@ pub fn show(words: &[u32], level: u32, key: u32) -> &[u32] {
     match slot.map(|&slot| view.slot(slot)) {
         Some(slot) if slot.span().first <= key => slot.words(),
         _ => &words[..0],
+    }
+}
+
+/// About: "the reason, or the six numbers, live, N, the records in level 0 and the
+/// blocks of each level." It counts what the levels hold, where the form check
+/// says that the size words tell the same.
+pub fn about(words: &[u32]) -> About {
+    let view = match checked(words) {
+        Err(refusal) => {
+            return About {
+                refusal,
+                ..About::default()
+            }
+        }
+        Ok(view) => view,
+    };
+    let mut blocks = [0; MOST_LEVELS];
+    for level in 1..=view.geometry.levels() {
+        blocks[level - 1] = view.list(level).len() as u32;
+    }
+    About {
+        refusal: 0,
+        numbers: view.geometry.numbers(),
+        live: view.count_live() as u32,
+        limit: view.geometry.key_limit() as u32,
+        top: view.count(0) as u32,
+        blocks,
     }
 }
 

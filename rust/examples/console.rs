@@ -19,12 +19,13 @@ enum Event {
     Sheet(u32),
     All,
     BlockAround(u32),
+    Stored,
     Check(usize),
 }
 
 use Event::*;
 
-const MORNING: [Event; 18] = [
+const MORNING: [Event; 19] = [
     Measured(10, 2410, 2490),
     Measured(20, 2420, 2480),
     Measured(30, 2430, 2470),
@@ -43,9 +44,10 @@ const MORNING: [Event; 18] = [
     All,
     BlockAround(25),
     BlockAround(55),
+    Stored,
 ];
 
-const AFTERNOON: [Event; 17] = [
+const AFTERNOON: [Event; 18] = [
     Measured(15, 2415, 2485),
     Measured(25, 2425, 2475),
     Measured(35, 2435, 2465),
@@ -56,6 +58,7 @@ const AFTERNOON: [Event; 17] = [
     Measured(49, 2449, 2451),
     Measured(55, 2455, 2445),
     Measured(100, 2500, 2400),
+    Stored,
     Measured(49, 2300, 2600),
     Deleted(60),
     Measured(100, 2500, 2400),
@@ -65,13 +68,14 @@ const AFTERNOON: [Event; 17] = [
     Sheet(60),
 ];
 
-const DAMAGED: [Event; 6] = [
+const DAMAGED: [Event; 7] = [
     Check(438),
     Sheet(15),
     Measured(49, 2449, 2451),
     Deleted(15),
     All,
     BlockAround(37),
+    Stored,
 ];
 
 const EVENING: [Event; 3] = [Check(438), Check(11), Check(437)];
@@ -162,6 +166,13 @@ fn block_around(store: &[u32], test: u32) {
     );
 }
 
+fn stored(store: &[u32]) {
+    match mewilovang::about(store) {
+        Err(r) => println!("tests stored: {}", why(r)),
+        Ok(a) => println!("{} of {} tests stored", a.live, a.limit),
+    }
+}
+
 fn check(store: &[u32], words: usize) {
     let said = match mewilovang::check(&store[..words]) {
         Ok(()) => "all is well (0)".to_string(),
@@ -182,6 +193,7 @@ fn run(store: &mut [u32], events: &[Event]) {
             Sheet(test) => sheet(store, test),
             All => all_tests(store),
             BlockAround(test) => block_around(store, test),
+            Stored => stored(store),
             Check(words) => check(store, words),
         }
     }

@@ -34,6 +34,25 @@ pub struct Part {
     pub length: usize,
 }
 
+/// live of limit keys are in the store, top records in level 0, so many blocks in each level on flash.
+#[repr(C)]
+#[derive(Clone, Copy, Debug, Default, PartialEq, Eq)]
+pub struct AboutStore {
+    pub reason: u32,
+    pub b: u32,
+    pub w: u32,
+    pub d: u32,
+    pub g: u32,
+    pub h: u32,
+    pub p: u32,
+    pub live: u32,
+    pub limit: u32,
+    pub top: u32,
+    pub blocks1: u32,
+    pub blocks2: u32,
+    pub blocks3: u32,
+}
+
 /// Merges into a level, blocks written by them, blocks written compacting the level.
 #[repr(C)]
 #[derive(Clone, Copy, Debug, Default, PartialEq, Eq)]
@@ -69,6 +88,7 @@ extern "C" {
     pub fn mewilovang_look_up(store: *const u32, words: usize, key: u32) -> Looked;
     pub fn mewilovang_next(store: *const u32, words: usize, key: u32) -> Nexted;
     pub fn mewilovang_show(store: *const u32, words: usize, level: u32, key: u32) -> Part;
+    pub fn mewilovang_about(store: *const u32, words: usize) -> AboutStore;
     pub fn mewilovang_put(store: *mut u32, words: usize, key: u32, payload: u32) -> Changed;
     pub fn mewilovang_delete(store: *mut u32, words: usize, key: u32) -> Changed;
 }

@@ -84,6 +84,20 @@ impl std::fmt::Display for Refusal {
 
 impl std::error::Error for Refusal {}
 
+/// What a store says of itself.
+#[derive(Clone, Copy, Debug, PartialEq, Eq)]
+pub struct About {
+    pub geometry: Geometry,
+    /// The keys in the store.
+    pub live: u32,
+    /// The number of keys that it holds at most.
+    pub limit: u32,
+    /// The records in level 0, delete marks with them.
+    pub top: u32,
+    /// The blocks of levels 1, 2 and 3; zeros above h.
+    pub blocks: [u32; 3],
+}
+
 /// What a put or delete did.
 #[derive(Clone, Copy, Debug, PartialEq, Eq)]
 pub struct Change {
@@ -142,6 +156,41 @@ pub fn show(store: &[u32], level: u32, key: u32) -> &[u32] {
 pub fn show_at(store: &[u32], level: u32, key: u32) -> std::ops::Range<usize> {
     let a = unsafe { border::mewilovang_show(store.as_ptr(), store.len(), level, key) };
     a.start..a.start + a.length
+}
+
+/// What a store says of itself: its geometry, how many keys it holds of how many, how full its levels are.
+///
+/// ```
+/// use mewilovang::{Geometry, Refusal};
+///
+/// let geometry = Geometry { b: 4, w: 1, d: 2, g: 4, h: 1, p: 40 };
+/// let mut store = vec![0; 438];
+/// mewilovang::format(&mut store, geometry)?;
+/// for key in [10, 20, 30, 40, 50, 60, 70, 80, 90] {
+///     mewilovang::put(&mut store, key, 2400)?;
+/// }
+/// let about = mewilovang::about(&store)?;
+/// assert_eq!(about.geometry, geometry);
+/// assert_eq!((about.live, about.limit), (9, 17));
+/// assert_eq!((about.top, about.blocks), (5, [1, 0, 0]));
+///
+/// store[6] = 8;
+/// assert_eq!(mewilovang::about(&store), Err(Refusal::Damaged));
+/// # Ok::<(), Refusal>(())
+/// ```
+pub fn about(store: &[u32]) -> Result<About, Refusal> {
+    let a = unsafe { border::mewilovang_about(store.as_ptr(), store.len()) };
+    accepted(a.reason)?;
+    let border::AboutStore {
+        b, w, d, g, h, p, ..
+    } = a;
+    Ok(About {
+        geometry: Geometry { b, w, d, g, h, p },
+        live: a.live,
+        limit: a.limit,
+        top: a.top,
+        blocks: [a.blocks1, a.blocks2, a.blocks3],
+    })
 }
 
 /// A payload for a key, over the one that it had.

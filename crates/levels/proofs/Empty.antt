@@ -31,7 +31,8 @@ empty-used : (n : ℕ) → inUse (replicate n []) ≡ []
 empty-used zero = refl
 empty-used (suc n) = empty-used n
 
-empty-at : (n i : ℕ) → getD {A = Level} (replicate n []) i [] ≡ []
+-- and none at any level
+pub empty-at : (n i : ℕ) → getD {A = Level} (replicate n []) i [] ≡ []
 empty-at zero i = refl
 empty-at (suc n) zero = refl
 empty-at (suc n) (suc i) = empty-at n i

@@ -7,7 +7,7 @@ use Rattle.geometry.specs.declared.Geometry.{Geometry}
 use Rattle.geometry.specs.Geometry.{isLegal, storeLength}
 use Rattle.levels.specs.Count as levels
 use Rattle.words.specs.Layout.{bit}
-use Rattle.words.specs.Calls.{Outcome, FormatAnswer, LookAnswer, NextAnswer, ChangeAnswer, putOf, deleteOf}
+use Rattle.words.specs.Calls.{Outcome, FormatAnswer, LookAnswer, NextAnswer, AboutAnswer, ChangeAnswer, putOf, deleteOf}
 use Rattle.writer.specs.declared.Changed as changed
 use Rattle.reader.specs.declared.Part as part
 use Rattle.store.specs.Change.{PutDone, DeleteDone}
@@ -15,6 +15,7 @@ use Rattle.mewilovang.specs.declared.Formatted.{Formatted}
 use Rattle.mewilovang.specs.declared.Looked.{Looked}
 use Rattle.mewilovang.specs.declared.Nexted.{Nexted}
 use Rattle.mewilovang.specs.declared.Part.{Part}
+use Rattle.mewilovang.specs.declared.AboutStore.{AboutStore}
 use Rattle.mewilovang.specs.declared.Counts.{Counts}
 use Rattle.mewilovang.specs.declared.Changed.{Changed}
 
@@ -40,6 +41,24 @@ nextedReply a = record { reason = a .reason; found = bit (a .found); key = a .ke
 -- "Show i, k"
 abbrev pub partReply : part.Part → Part
 partReply p = record { start = p .start; length = p .length }
+
+-- About, field by field
+abbrev pub toldReply : AboutAnswer → AboutStore
+toldReply a = record {
+  reason = a .reason;
+  b = a .b;
+  w = a .w;
+  d = a .d;
+  g = a .g;
+  h = a .h;
+  p = a .p;
+  live = a .live;
+  limit = a .limit;
+  top = a .top;
+  blocks1 = a .blocks1;
+  blocks2 = a .blocks2;
+  blocks3 = a .blocks3;
+}
 
 -- "for each level 1 to 3: merges into it, blocks written by them, blocks written compacting it", if they are words
 pub record CountsFit (c : levels.Counts) : Type 0 where

@@ -1,15 +1,15 @@
 // The calls of the store for C and Rust (include/mewilovang.h): plain numbers in and out, no `requires` on any of them.
 
 ghost use mathlib.Core.Path.{_≡_};
-ghost use Rattle.words.specs.Calls.{Outcome, formatOf, checkOf, lookUpOf, nextOf};
-ghost use Rattle.reader.specs.Answers.{lookedAnswer, nextedAnswer};
+ghost use Rattle.words.specs.Calls.{Outcome, formatOf, checkOf, lookUpOf, nextOf, aboutOf};
+ghost use Rattle.reader.specs.Answers.{lookedAnswer, nextedAnswer, toldAnswer};
 ghost use Rattle.writer.specs.Answers.{changedAnswer};
 ghost use Rattle.store.specs.Answers.{formatAnswer};
 ghost use Rattle.store.specs.Change.{SumsFit};
 ghost use Rattle.store.specs.Show.{showPart};
 ghost use Rattle.steps.specs.Running.{numbersOf};
 ghost use Rattle.mewilovang.specs.declared.Formatted.{Formatted};
-ghost use Rattle.mewilovang.specs.Answers.{wordsOf, formattedReply, formattedOutcome, lookedReply, nextedReply, partReply, CountsFit, countsReply, changedReply, PutReplied, DeleteReplied};
+ghost use Rattle.mewilovang.specs.Answers.{wordsOf, formattedReply, formattedOutcome, lookedReply, nextedReply, partReply, toldReply, CountsFit, countsReply, changedReply, PutReplied, DeleteReplied};
 use geometry::Built;
 use geometry::Geometry;
 
@@ -42,6 +42,24 @@ pub struct Nexted {
 pub struct Part {
     pub start: usize,
     pub length: usize,
+}
+
+// The reason or 0, the six numbers of the geometry, live, N, the records in level 0 and the blocks of levels 1 to 3.
+#[repr(C)]
+pub struct AboutStore {
+    pub reason: u32,
+    pub b: u32,
+    pub w: u32,
+    pub d: u32,
+    pub g: u32,
+    pub h: u32,
+    pub p: u32,
+    pub live: u32,
+    pub limit: u32,
+    pub top: u32,
+    pub blocks1: u32,
+    pub blocks2: u32,
+    pub blocks3: u32,
 }
 
 // Merges into a level, blocks written by them, blocks written compacting it.
@@ -121,6 +139,43 @@ fn next_reply(n: reader::Nexted) -> Nexted
             found: 0,
             key: 0,
             payload: 0,
+        },
+    }
+}
+
+fn told_reply(t: reader::Told) -> AboutStore
+    ensures { λ r. ⌜ r ≡ toldReply (toldAnswer t) ⌝ }
+{
+    match t {
+        reader::Told::Known(f) => AboutStore {
+            reason: 0,
+            b: f.b,
+            w: f.w,
+            d: f.d,
+            g: f.g,
+            h: f.h,
+            p: f.p,
+            live: f.live,
+            limit: f.limit,
+            top: f.top,
+            blocks1: f.blocks1,
+            blocks2: f.blocks2,
+            blocks3: f.blocks3,
+        },
+        reader::Told::Refused(n) => AboutStore {
+            reason: n,
+            b: 0,
+            w: 0,
+            d: 0,
+            g: 0,
+            h: 0,
+            p: 0,
+            live: 0,
+            limit: 0,
+            top: 0,
+            blocks1: 0,
+            blocks2: 0,
+            blocks3: 0,
         },
     }
 }
@@ -228,6 +283,13 @@ pub extern "C" fn mewilovang_show(store: &[u32], level: u32, key: u32) -> Part
         start: part.start,
         length: part.length,
     }
+}
+
+#[no_mangle]
+pub extern "C" fn mewilovang_about(store: &[u32]) -> AboutStore
+    ensures { λ r. ⌜ r ≡ toldReply (aboutOf (now (store .entry))) ⌝ }
+{
+    told_reply(store::about(store))
 }
 
 #[no_mangle]

@@ -10,14 +10,15 @@ use native.Mathlib.Omega.{arith}
 use lib.ListN.{length, take, drop}
 use borrow.Author.Tests.{le-leb, lt-leb}
 use Rattle.geometry.specs.declared.Geometry.{Geometry}
-use Rattle.geometry.specs.Geometry.{listStart, placeStart, blockWidth, within}
+use Rattle.geometry.specs.Geometry.{keyLimitOf, listStart, placeStart, blockWidth, within}
 use Rattle.geometry.proofs.Laws.{place-inside}
 use Rattle.levels.specs.Basics.{if_then_else_, orElse}
 use Rattle.levels.specs.Record.{Rec, Block}
 use Rattle.levels.specs.Map.{find, unmarked, mapOf, decides, present, firstFrom, next}
 use Rattle.levels.specs.Store.{rows}
-use Rattle.words.specs.Layout.{word, storeAt, countAt, levelAt, blockAt}
-use Rattle.words.specs.Calls.{lookAnswer, nextAnswer, enclosing, partOf, showIn}
+use Rattle.words.specs.Layout.{word, geometryAt, storeAt, liveAt, topCountAt, countAt, levelAt, blockAt}
+use Rattle.words.specs.Calls.{lookAnswer, nextAnswer, enclosing, partOf, showIn, aboutIn}
+use Rattle.words.proofs.About.{answerWith, about-read}
 use Rattle.entry.specs.declared.Opened.the-variants.{Ready}
 use Rattle.chunks.specs.Chunks.{chunkRecs}
 use Rattle.directory.specs.declared.Directory.{Directory}
@@ -35,8 +36,8 @@ use Rattle.form.proofs.Parts.{wordsFrom, Listed}
 use Rattle.form.proofs.Sizes.{lists-in, place-below}
 use Rattle.form.proofs.Blocks.{level-blocks, chunk-recs}
 use Rattle.form.proofs.Clauses.{filled-level}
-use Rattle.form.proofs.Ready.{ready-sized, ready-headed, ready-filled, ready-lists, ready-levels, ready-view, ready-decides}
-use Rattle.reader.specs.Answers.{lookedAnswer, lookedOf, nextedAnswer}
+use Rattle.form.proofs.Ready.{checked-ready, ready-sized, ready-headed, ready-filled, ready-lists, ready-levels, ready-view, ready-decides}
+use Rattle.reader.specs.Answers.{lookedAnswer, lookedOf, nextedAnswer, factsAnswer}
 use Rattle.reader.specs.Show.{emptyPart, blockPart, showPartIn}
 use Rattle.reader.specs.declared.Part.{Part}
 use Rattle.reader.specs.declared.Nexted.the-variants as nexted
@@ -211,3 +212,14 @@ module _ (ws : List ℕ) (g : Geometry) (e : checkedOf ws ≡ Ready g) where
       dite (decLt i 1) (λ l. subst (Inside ws) (part-low g ws i k l) (empty-inside ws))
       (λ l. dite (decLt (g .h) i) (λ m. subst (Inside ws) (part-high g ws i k (omega arith) m) (empty-inside ws))
       (λ m. part-inside-level i (omega arith) (omega arith) k))
+
+-- About: what the size words of a store that passes say of it, and N
+module _ (ws : List ℕ) (g : Geometry) (e : checkedOf ws ≡ Ready g) where
+  facts-ready : answerWith (geometryAt ws) (liveAt ws) (topCountAt ws) (countAt ws 1) (countAt ws 2) (countAt ws 3) ≡ aboutIn g (storeAt g ws)
+  facts-ready = let k = checked-ready ws g e in sym (about-read ws (k .1)) ∙ ap (λ (t : Geometry). aboutIn t (storeAt t ws)) (sym (k .0))
+
+  pub facts-told : (n : ℕ) → n ≡ keyLimitOf g
+      → factsAnswer (record { b = word ws 0; w = word ws 1; d = word ws 2; g = word ws 3; h = word ws 4; p = word ws 5; live = word ws 6; limit = n; top = word ws 8; blocks1 = word ws 9; blocks2 = word ws 10; blocks3 = word ws 11 }) ≡ aboutIn g (storeAt g ws)
+  facts-told n q =
+      let k : n ≡ keyLimitOf (geometryAt ws) = q ∙ ap keyLimitOf (checked-ready ws g e .0) in
+      rw k facts-ready

@@ -4,11 +4,11 @@ ghost use mathlib.Core.Path.{_≡_};
 ghost use Rattle.levels.specs.Map.{decides, next};
 ghost use Rattle.levels.specs.Store.{rows};
 ghost use Rattle.words.specs.Layout.{storeAt};
-ghost use Rattle.words.specs.Calls.{nextAnswer};
+ghost use Rattle.words.specs.Calls.{nextAnswer, aboutIn};
 ghost use Rattle.entry.specs.declared.Opened.the-variants.{Ready};
 ghost use Rattle.search.specs.Search.{foundOf};
 ghost use Rattle.form.specs.Checked.{checkedOf};
-ghost use Rattle.reader.specs.Answers.{lookedOf, nextedAnswer};
+ghost use Rattle.reader.specs.Answers.{lookedOf, nextedAnswer, factsAnswer};
 ghost use Rattle.reader.specs.Show.{showPartIn};
 use geometry::Geometry;
 use search::Enclosed;
@@ -33,6 +33,28 @@ pub enum Nexted {
 pub struct Part {
     pub start: usize,
     pub length: usize,
+}
+
+// What a store says of itself: the six numbers of its geometry, live, N, the records in level 0, the blocks of levels 1 to 3.
+pub struct Facts {
+    pub b: u32,
+    pub w: u32,
+    pub d: u32,
+    pub g: u32,
+    pub h: u32,
+    pub p: u32,
+    pub live: u32,
+    pub limit: u32,
+    pub top: u32,
+    pub blocks1: u32,
+    pub blocks2: u32,
+    pub blocks3: u32,
+}
+
+// What a store says of itself, or the reason that it is turned down for.
+pub enum Told {
+    Known(Facts),
+    Refused(u32),
 }
 
 // The record that decides for a key: that of the first level from 0 down that has one.
@@ -109,5 +131,27 @@ pub fn show_block(s: &[u32], g: Geometry, level: usize, k: usize) -> Part
     Part {
         start: g.place_start(place),
         length: g.block_width(),
+    }
+}
+
+// The facts of a store that passes. The form check has counted what the size words say, so they are read and not counted again.
+pub fn facts_of(s: &[u32], g: Geometry) -> Facts
+    requires { ⌜ checkedOf (now s) ≡ Ready g ⌝ }
+    ensures { λ r. ⌜ factsAnswer r ≡ aboutIn g (storeAt g (now (s .entry))) ⌝ }
+{
+    let limit = g.key_limit();
+    Facts {
+        b: s[0],
+        w: s[1],
+        d: s[2],
+        g: s[3],
+        h: s[4],
+        p: s[5],
+        live: s[6],
+        limit: limit as u32,
+        top: s[8],
+        blocks1: s[9],
+        blocks2: s[10],
+        blocks3: s[11],
     }
 }

@@ -12,19 +12,21 @@ use Rattle.levels.specs.Map.{decides, present, lookUp, next}
 use Rattle.levels.specs.Store.{rows}
 use Rattle.words.specs.Layout.{geometryAt, storeAt}
 use Rattle.words.specs.Form.{reasonOf}
-use Rattle.words.specs.Calls.{lookAnswer, lookUpOf, nextAnswer, nextOf, showIn, showOf, checkOf}
+use Rattle.words.specs.Calls.{lookAnswer, lookUpOf, nextAnswer, nextOf, showIn, showOf, aboutIn, aboutOf, checkOf}
 use Rattle.entry.specs.declared.Opened.{Opened}
 use Rattle.entry.specs.declared.Opened.the-variants.{Ready, Refused}
 use Rattle.search.specs.declared.Found.{Found}
 use Rattle.search.specs.Search.{foundOf}
 use Rattle.form.specs.Checked.{checkedOf}
 use Rattle.form.proofs.Ready.{checked-ready, checked-refused}
-use Rattle.reader.specs.Answers.{lookedAnswer, lookedOf, nextedAnswer}
+use Rattle.reader.specs.Answers.{lookedAnswer, lookedOf, nextedAnswer, factsAnswer, toldAnswer}
 use Rattle.reader.specs.Show.{emptyPart, showPartIn}
 use Rattle.store.specs.Show.{showPart}
 use Rattle.reader.specs.declared.Part.{Part}
 use Rattle.reader.specs.declared.Looked.the-variants as looked
 use Rattle.reader.specs.declared.Nexted.the-variants as nexted
+use Rattle.reader.specs.declared.Facts.{Facts}
+use Rattle.reader.specs.declared.Told.the-variants as told
 use Rattle.reader.proofs.Answering.{look-present, part-words-in, Inside, empty-inside, part-inside-in}
 
 -- A call that is turned down answers the reason, and nothing else.
@@ -48,6 +50,10 @@ module _ (ws : List ℕ) (n : ℕ) (e : checkedOf ws ≡ Refused n) where
   unfolding showPart
   show-refused i k = rw (refused-test, showPart)
 
+  pub about-refused : toldAnswer (told.Refused n) ≡ aboutOf ws
+  unfolding aboutOf
+  about-refused = rw (refused-test, aboutOf, checked-refused ws n e .0)
+
 module _ (ws : List ℕ) (g : Geometry) (e : checkedOf ws ≡ Ready g) where
   ready-test : eqb (reasonOf ws) 0 ≡ true
   ready-test = eq-eqb (reasonOf ws) 0 (checked-ready ws g e .1)
@@ -70,6 +76,10 @@ module _ (ws : List ℕ) (g : Geometry) (e : checkedOf ws ≡ Ready g) where
   pub show-ready : (i k : ℕ) → showPartIn g ws i k ≡ showPart ws i k
   unfolding showPart
   show-ready i k = rw (ready-test, showPart) (ap (λ (t : Geometry). showPartIn t ws i k) (checked-ready ws g e .0))
+
+  pub about-ready : (f : Facts) → factsAnswer f ≡ aboutIn g (storeAt g ws) → toldAnswer (told.Known f) ≡ aboutOf ws
+  unfolding aboutOf
+  about-ready f q = rw (ready-test, aboutOf) (q ∙ ap (λ (t : Geometry). aboutIn t (storeAt t ws)) (checked-ready ws g e .0))
 
 pub part-words : (ws : List ℕ) (i k : ℕ) → take (showPart ws i k .length) (drop (showPart ws i k .start) ws) ≡ showOf ws i k
 unfolding showPart showOf

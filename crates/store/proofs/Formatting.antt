@@ -1,8 +1,7 @@
--- What the proof of format needs: its words are the definition's, its answer is a word, and the two cases of its outcome.
+-- What the proof of format needs: its words are the definition's, and the two cases of its outcome.
 use Prim.Native.Nat.{ℕ, suc, _-_, _≤_, _<_}
 use mathlib.Core.Path.{_≡_, subst}
 use mathlib.Core.List.{List}
-use native.Mathlib.Nat.{mul-le-mul}
 use native.Mathlib.Omega.{arith}
 use lib.ListN.{length, replicate, length-replicate}
 use borrow.Author.Tests.{eq-eqb, ne-eqb}
@@ -10,7 +9,7 @@ use Rattle.slices.specs.Slices.{putAt}
 use Rattle.slices.proofs.Put.{put-all}
 use Rattle.geometry.specs.declared.Geometry.{Geometry}
 use Rattle.geometry.specs.Geometry.{Valid, keyLimitOf, sizeReason}
-use Rattle.geometry.proofs.Laws.{key-limit-high, store-length-low}
+use Rattle.geometry.proofs.Laws.{store-length-low}
 use Rattle.words.specs.Calls.{formatWords, formatOf}
 use Rattle.entry.specs.declared.Opened.the-variants.{Ready, Refused}
 use Rattle.entry.specs.Entry.{fitOf}
@@ -32,10 +31,6 @@ cleared-headed g ws h =
   where
     go : (m : ℕ) → headed (replicate (eightMore m) 0) g ≡ formatWords g (eightMore m)
     go m = let e : eightMore m - 8 ≡ m = omega arith in rw e
-
--- "answers N": N is a word
-pub limit-fits : (g : Geometry) → Valid g → keyLimitOf g < 16384
-limit-fits g v = omega (arith, key-limit-high g v, mul-le-mul (v .ranged .b-high) (v .bottom-high))
 
 -- format of words and a geometry that do not fit: "no lent word changes"
 pub format-refused : (ws : List ℕ) (s : Geometry) (n : ℕ) → fitOf (length ws) s ≡ Refused n → formatOf ws s ≡ record { answer = record { reason = n; limit = 0 }; words = ws }

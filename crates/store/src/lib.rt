@@ -4,8 +4,8 @@ ghost use mathlib.Core.Path.{_≡_};
 ghost use Prim.Native.Nat.{_≤_};
 ghost use lib.ListN.{length};
 ghost use Rattle.geometry.specs.Geometry.{Valid, keyLimitOf};
-ghost use Rattle.words.specs.Calls.{Outcome, FormatAnswer, formatOf, checkOf, lookUpOf, nextOf, showOf};
-ghost use Rattle.reader.specs.Answers.{lookedAnswer, nextedAnswer};
+ghost use Rattle.words.specs.Calls.{Outcome, FormatAnswer, formatOf, checkOf, lookUpOf, nextOf, showOf, aboutOf};
+ghost use Rattle.reader.specs.Answers.{lookedAnswer, nextedAnswer, toldAnswer};
 ghost use Rattle.store.specs.Answers.{formatAnswer};
 ghost use Rattle.store.specs.Change.{PutDone, DeleteDone};
 ghost use Rattle.store.specs.Format.{headed};
@@ -15,6 +15,7 @@ use geometry::Geometry;
 use reader::Looked;
 use reader::Nexted;
 use reader::Part;
+use reader::Told;
 use writer::Changed;
 
 // N, or the reason that the words or the geometry are turned down for.
@@ -112,6 +113,16 @@ pub fn show_at(s: &[u32], level: u32, k: u32) -> Part
         };
     };
     reader::show_block(s, g, level as usize, k as usize)
+}
+
+// What the store says of itself: its geometry, live, N, and how full its levels are.
+pub fn about(s: &[u32]) -> Told
+    ensures { λ r. ⌜ toldAnswer r ≡ aboutOf (now (s .entry)) ⌝ }
+{
+    match form::check(s) {
+        Opened::Refused(n) => Told::Refused(n),
+        Opened::Ready(g) => Told::Known(reader::facts_of(s, g)),
+    }
 }
 
 // v for k, over what k had.

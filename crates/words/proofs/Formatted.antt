@@ -1,11 +1,12 @@
 -- "Format": the words that it leaves are those of the empty store, and pass the form check.
 use Prim.Native.Nat.{ℕ, zero, suc, _-_, _*_}
 use mathlib.Core.Path.{_≡_, refl, sym, ap, _∙_}
-use mathlib.Core.Bool.{true}
+use mathlib.Core.Bool.{Bool, true, false}
 use mathlib.Core.List.{List, [], _∷_, _++_, map}
 use native.Mathlib.Omega.{arith}
+use lib.Dec.{eqb}
 use lib.ListN.{length, replicate, length-replicate}
-use borrow.Author.Tests.{eq-eqb}
+use borrow.Author.Tests.{eqb-true, eq-eqb}
 use Rattle.geometry.specs.declared.Geometry.{Geometry}
 use Rattle.geometry.specs.Geometry.{Valid, capacityOf, topCapacityOf, blockWidth, storeLength, sizeReason}
 use Rattle.levels.specs.Basics.{all}
@@ -61,6 +62,15 @@ format-words g v =
 pub empty-laid : (g : Geometry) → Laid g (clearArea g) (emptyStore g)
 unfolding emptyStore
 empty-laid g = record { full = length-replicate (g .p * blockWidth g) 0; standing = rw (empty-blocks (g .h)) tt }
+
+-- format that is not turned down: its words and its geometry fit
+pub format-fits : (ws : List ℕ) (g : Geometry) → formatOf ws g .answer .reason ≡ 0 → sizeReason (length ws) g ≡ 0
+unfolding formatOf
+format-fits ws g e = go (eqb (sizeReason (length ws) g) 0) refl
+  where
+    go : (t : Bool) → eqb (sizeReason (length ws) g) 0 ≡ t → sizeReason (length ws) g ≡ 0
+    go true q = eqb-true (sizeReason (length ws) g) 0 q
+    go false q = rw (q, formatOf) at e
 
 -- what format leaves, where it is not turned down
 pub format-leaves : (ws : List ℕ) (g : Geometry) → sizeReason (length ws) g ≡ 0 → formatOf ws g .words ≡ storeWords g (emptyStore g) (clearArea g)

@@ -30,7 +30,7 @@ use Rattle.words.specs.Passed.{Laid, Passed}
 use Rattle.words.proofs.State.{geometry-back, read-back}
 use Rattle.words.proofs.Reason.{size-legal, reason-passed, reason-most}
 use Rattle.words.proofs.Steps.{entered-laid, put-of, delete-of, put-passes, delete-passes}
-use Rattle.words.proofs.Formatted.{clearArea, empty-laid, format-leaves}
+use Rattle.words.proofs.Formatted.{clearArea, empty-laid, format-fits, format-leaves}
 
 -- the map of the words of a store is the store's
 map-back : (g : Geometry) (s : Store) (area : List ℕ) → Valid g → Fits g s → Laid g area s → mapAt (storeWords g s area) ≡ mapOf (rows s)
@@ -39,14 +39,9 @@ map-back g s area v f d =
 
 -- "Format": the map has no key
 pub format-map : (ws : List ℕ) (g : Geometry) → formatOf ws g .answer .reason ≡ 0 → mapAt (formatOf ws g .words) ≡ []
-unfolding formatOf
 format-map ws g e =
-    let z = go (eqb (sizeReason (length ws) g) 0) refl in
+    let z = format-fits ws g e in
     ap mapAt (format-leaves ws g z) ∙ map-back g (emptyStore g) (clearArea g) (size-legal (length ws) g z .0) (empty-fits g) (empty-laid g) ∙ empty-map g
-  where
-    go : (t : Bool) → eqb (sizeReason (length ws) g) 0 ≡ t → sizeReason (length ws) g ≡ 0
-    go true q = eqb-true (sizeReason (length ws) g) 0 q
-    go false q = rw (q, formatOf) at e
 
 -- the words that a call leaves which enters a record
 left-map : (g : Geometry) (ws : List ℕ) (r : Rec) (was : Bool) (live : ℕ) (ms : List Merge) (t : Store) → Passed g ws → EnterFacts g (storeAt g ws) r was live ms t → mapAt (leftWords g ws ms t) ≡ mapOf (rows t)

@@ -8,8 +8,8 @@ use lib.ListN.{length, take, drop, replicate}
 use Rattle.geometry.specs.declared.Geometry.{Geometry}
 use Rattle.geometry.specs.Geometry.{keyLimitOf, placeStart, blockWidth, sizeReason, within}
 use Rattle.levels.specs.Record.{Rec, Block, Level, firstKey, lastKey}
-use Rattle.levels.specs.Map.{mapOf, lookUp, next}
-use Rattle.levels.specs.Store.{Store, rows}
+use Rattle.levels.specs.Map.{mapOf, liveCount, lookUp, next}
+use Rattle.levels.specs.Store.{Store, rows, blocksOf}
 use Rattle.levels.specs.Call.{Compaction, Merge}
 use Rattle.levels.specs.Put.{Change, refused, absent, entered, put, delete}
 use Rattle.levels.specs.Count.{Counts, countsOf}
@@ -36,6 +36,22 @@ pub record NextAnswer : Type 0 where
   pub found : Bool
   pub key : ℕ
   pub pay : ℕ
+
+-- the six numbers of the geometry, live, N, the records in level 0 and the blocks of levels 1 to 3
+pub record AboutAnswer : Type 0 where
+  pub reason : ℕ
+  pub b : ℕ
+  pub w : ℕ
+  pub d : ℕ
+  pub g : ℕ
+  pub h : ℕ
+  pub p : ℕ
+  pub live : ℕ
+  pub limit : ℕ
+  pub top : ℕ
+  pub blocks1 : ℕ
+  pub blocks2 : ℕ
+  pub blocks3 : ℕ
 
 pub record ChangeAnswer : Type 0 where
   pub reason : ℕ
@@ -102,6 +118,35 @@ showIn g ws i k = elim (within 1 (g .h) i) [ true ↦ partOf g ws (enclosing k (
 
 unfoldable pub showOf : List ℕ → ℕ → ℕ → List ℕ
 showOf ws i k = elim (eqb (reasonOf ws) 0) [ true ↦ showIn (geometryAt ws) ws i k | false ↦ [] ]
+
+-- About, which document 01 has not ("ask the store", issue 11): "the reason, or the six numbers, live, N, the records in level 0 and the
+-- blocks of each level". Each is said by what it counts, and not by its size word: live the keys of the map; there is no block above level h.
+unfoldable pub aboutIn : Geometry → Store → AboutAnswer
+aboutIn g s = record {
+  reason = 0;
+  b = g .b;
+  w = g .w;
+  d = g .d;
+  g = g .g;
+  h = g .h;
+  p = g .p;
+  live = liveCount (rows s);
+  limit = keyLimitOf g;
+  top = length (s .top);
+  blocks1 = length (blocksOf g 1 s);
+  blocks2 = length (blocksOf g 2 s);
+  blocks3 = length (blocksOf g 3 s);
+}
+
+-- "all 0 but the reason where it is turned down"
+abbrev pub aboutRefused : ℕ → AboutAnswer
+aboutRefused n = record { reason = n; b = 0; w = 0; d = 0; g = 0; h = 0; p = 0; live = 0; limit = 0; top = 0; blocks1 = 0; blocks2 = 0; blocks3 = 0 }
+
+unfoldable pub aboutOf : List ℕ → AboutAnswer
+aboutOf ws = elim (eqb (reasonOf ws) 0) [
+  | true ↦ aboutIn (geometryAt ws) (storeAt (geometryAt ws) ws)
+  | false ↦ aboutRefused (reasonOf ws)
+]
 
 -- The blocks that compactions write, and that a list of merges with its compactings writes, in order.
 abbrev pub compactedBlocks : List Compaction → List Block

@@ -12,7 +12,7 @@ mod top;
 mod walk;
 mod weave;
 
-use crate::calls::{Changed, Counts, Formatted, Found, Next};
+use crate::calls::{About, Changed, Counts, Formatted, Found, Next};
 use merge::Work;
 use shape::Shape;
 
@@ -91,6 +91,24 @@ pub fn show(s: &[u32], level: u32, key: u32) -> &[u32] {
     match search::block(s, &shape, level, key) {
         Some(at) if key <= s[at + 1 + s[at] as usize] => &s[at..at + shape.width],
         _ => &s[..0],
+    }
+}
+
+/// About.
+pub fn about(s: &[u32]) -> About {
+    match form::check(s) {
+        Err(refusal) => About {
+            refusal,
+            ..About::default()
+        },
+        Ok(shape) => About {
+            refusal: 0,
+            numbers: [0, 1, 2, 3, 4, 5].map(|at| s[at]),
+            live: s[shape::LIVE],
+            limit: shape.limit as u32,
+            top: s[shape::COUNTS],
+            blocks: [1, 2, 3].map(|level| s[shape::COUNTS + level]),
+        },
     }
 }
 

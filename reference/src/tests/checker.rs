@@ -31,6 +31,9 @@ pub struct Statistics {
     pub above_unrounded: usize,
     /// Merges that write w + q + 1 blocks.
     pub at_write_bound: usize,
+    /// Calls that write over a block in use at entry, which an earlier merge or
+    /// compaction of the call took out of its level.
+    pub over_entry: usize,
 }
 
 /// What is wrong, in words.
@@ -187,6 +190,7 @@ impl Checker {
         self.level_zero(entry, record, merges)?;
         self.replay(entry, merges)?;
         self.untouched(entry, merges)?;
+        self.parts(entry, merges)?;
         self.count(merges);
         Ok(())
     }
@@ -289,7 +293,31 @@ impl Checker {
         Ok(())
     }
 
-    /// Look up and next at and around a key agree with the map.
+    /// What `mewilovang.h` says of the words that a put or delete changes: never
+    /// words 0 to 5; without a merge nothing but live, c and level 0; with one merge
+    /// and no compaction no place that a list named at entry.
+    fn parts(&mut self, entry: &[u32], merges: &[Merge]) -> Checked {
+        let same = |at: usize| entry[at] == self.words[at];
+        ensure!((0..LIVE).all(same), "a word of the geometry changed");
+        if merges.is_empty() {
+            let counts = (LIVE + 1..COUNTS).chain(COUNTS + 1..self.geometry.tombstones_at());
+            let rest = self.geometry.list_at(1)..entry.len();
+            ensure!(counts.chain(rest).all(same), "a call without a merge");
+        }
+        let over = listed(self.geometry, entry).into_iter().any(|slot| {
+            let at = self.geometry.slot_at(slot as usize);
+            !(at..at + self.geometry.slot_words()).all(same)
+        });
+        let compacted = merges.iter().any(|merge| !merge.compactions.is_empty());
+        ensure!(
+            !over || merges.len() > 1 || compacted,
+            "one merge wrote over a block in use"
+        );
+        self.statistics.over_entry += usize::from(over);
+        Ok(())
+    }
+
+    /// Look up, next and about, at and around a key, agree with the map.
     fn readings(&self, key: u32) -> Checked {
         let found = calls::look_up(&self.words, key);
         let expected = self.map.get(&key).copied();
@@ -311,6 +339,11 @@ impl Checker {
                 "next {from}: {next:?}"
             );
         }
+        let about = calls::about(&self.words);
+        ensure!(
+            about.refusal == 0 && about.live as usize == self.map.len(),
+            "about: {about:?}"
+        );
         Ok(())
     }
 

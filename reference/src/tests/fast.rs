@@ -78,6 +78,7 @@ impl Both {
             fast::look_up(fast, key),
         )?;
         same("next", calls::next(plain, key), fast::next(fast, key))?;
+        same("about", calls::about(plain), fast::about(fast))?;
         for level in [0, 1, 2, 3, 4, u32::MAX] {
             let part = |whole: &[u32], part: &[u32]| {
                 let start = part.as_ptr() as usize - whole.as_ptr() as usize;

@@ -73,6 +73,7 @@ fn from_unreachable_stores() {
     met(&statistics);
     assert!(statistics.above_unrounded > 0);
     assert!(statistics.most_merges > 3 && statistics.joins_above > 0);
+    assert!(statistics.over_entry > 0);
 }
 
 /// Larger stores than the call list program has, a few calls each.

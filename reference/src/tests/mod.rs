@@ -1,6 +1,7 @@
 //! The tests. The random ones take their seed from REFERENCE_SEED, or 1, and
 //! print it.
 
+mod about;
 mod checker;
 mod damage;
 mod fast;

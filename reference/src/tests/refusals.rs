@@ -29,6 +29,13 @@ fn all_refuse(words: &[u32], refusal: u32) {
                 ..Next::default()
             }
         );
+        assert_eq!(
+            about(&lent),
+            About {
+                refusal,
+                ..About::default()
+            }
+        );
         for level in [0, 1, 2, 3, 4, u32::MAX] {
             assert!(show(&lent, level, key).is_empty());
         }
@@ -228,6 +235,7 @@ fn one_of_each(words: &mut [u32], random: &mut Random) {
     look_up(words, key);
     next(words, key);
     show(words, 1, key);
+    assert_eq!(about(words).live, words[LIVE]);
     put(words, key, 1);
     assert_eq!(check(words), 0);
     delete(words, key);

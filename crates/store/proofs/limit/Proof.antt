@@ -1,5 +1,5 @@
 use native.Mathlib.Omega.{arith}
-use Rattle.store.proofs.Formatting.{limit-fits}
+use Rattle.geometry.proofs.Laws.{key-limit-word}
 use borrow.Author.Needs.{needs}
 use Rattle.store.proofs.limit.Statement.{statement}
 use Rattle.store.proofs.limit.Tie as tie
@@ -11,7 +11,7 @@ key-limit-requires : tie.Need-key-limit-requires
 key-limit-requires c κs = search needs
 
 cast-result : tie.Need-cast-result
-cast-result c = omega (arith, limit-fits _ (c .before .pre), c .key-limit .ensures)
+cast-result c = omega (arith, key-limit-word _ (c .before .pre), c .key-limit .ensures)
 
 returns : tie.Need-returns
 returns c = search needs
