@@ -12,3 +12,4 @@ pub mod Steps
 pub mod Demand
 pub mod Formatted
 pub mod MapAfter
+pub mod History
