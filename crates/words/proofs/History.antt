@@ -63,7 +63,7 @@ module _ {State Call Reply Map : Type 0} (f : StoreForm State Call Reply Map) (o
   replies-as s m (c ∷ cs) e h =
       ap (λ (r : Reply). r ∷ replies (f .store) (f .store .after s c) cs) (o .answers s c e ∙ ap (λ (n : Map). f .map .reply n c) h)
       ∙ ap (λ (rs : List Reply). f .map .reply m c ∷ rs)
-        (replies-as (f .store .after s c) (f .map .after m c) cs (o .passes s c e) (o .feeds s c e ∙ ap (λ (n : Map). f .map .after n c) h))
+      (replies-as (f .store .after s c) (f .map .after m c) cs (o .passes s c e) (o .feeds s c e ∙ ap (λ (n : Map). f .map .after n c) h))
 
   all-pass : (s : State) (cs : List Call) → f .reason s ≡ 0 → f .reason (afterAll (f .store) s cs) ≡ 0
   all-pass s [] e = e

@@ -3,7 +3,7 @@
 -- and what it is for the one to answer as the other, said once for every form of the store.
 use Prim.Native.Nat.{ℕ}
 use mathlib.Core.Path.{_≡_}
-use mathlib.Core.Bool.{Bool, true, false, not, _&&_}
+use mathlib.Core.Bool.{Bool, false, not, _&&_}
 use mathlib.Core.List.{List, [], _∷_, foldl}
 use lib.Dec.{eqb}
 use lib.ListN.{length, take}
@@ -54,13 +54,13 @@ pub data Answer : Type 0 where
 
 -- One call on lent words: its answer and the words afterwards. "Look up, Next, Show and Check change no lent word."
 unfoldable pub perform : List ℕ → Call → Outcome Answer
-perform ws (formatAs g) = record { answer = formatted (formatOf ws g .answer); words = formatOf ws g .words }
+perform ws (formatAs g) = let o = formatOf ws g in record { answer = formatted (o .answer); words = o .words }
 perform ws check = record { answer = checked (checkOf ws); words = ws }
 perform ws (lookUpKey k) = record { answer = looked (lookUpOf ws k); words = ws }
 perform ws (nextKey k) = record { answer = nexted (nextOf ws k); words = ws }
 perform ws (showKey i k) = record { answer = shown (showOf ws i k); words = ws }
-perform ws (putKey k v) = record { answer = changed (putOf ws k v .answer); words = putOf ws k v .words }
-perform ws (delKey k) = record { answer = changed (deleteOf ws k .answer); words = deleteOf ws k .words }
+perform ws (putKey k v) = let o = putOf ws k v in record { answer = changed (o .answer); words = o .words }
+perform ws (delKey k) = let o = deleteOf ws k in record { answer = changed (o .answer); words = o .words }
 
 -- What a map settles of an answer: all but the counts of a put or delete, which are demand 3's, and Show's words, which are the layout's.
 pub data Reply : Type 0 where
