@@ -10,8 +10,7 @@ use Rattle.levels.specs.Basics.{if_then_else_, orElse}
 use Rattle.levels.specs.Map.{find, view, decides}
 use Rattle.levels.specs.Store.{rows}
 use Rattle.words.specs.Layout.{geometryAt, storeAt}
-use Rattle.words.specs.Form.{formed, blocksFilled, liveExact, reasonOf}
-use Rattle.words.proofs.Form.{formed-clauses}
+use Rattle.words.specs.Form.{formed, blocksFilled, reasonOf}
 use Rattle.entry.specs.declared.Opened.{Opened}
 use Rattle.entry.specs.declared.Opened.the-variants.{Ready, Refused}
 use Rattle.entry.specs.Entry.{Sized, pickOpened, openedOf}
@@ -51,11 +50,6 @@ pub checked-refused : (ws : List ℕ) (n : ℕ) → checkedOf ws ≡ Refused n �
 unfolding checkedOf
 checked-refused ws n e = pick-refused (reasonOf ws) (geometryAt ws) n e
 
--- the other way: a store that there is no reason to turn down is ready
-pub checked-none : (ws : List ℕ) → reasonOf ws ≡ 0 → checkedOf ws ≡ Ready (geometryAt ws)
-unfolding checkedOf
-checked-none ws e = rw e
-
 -- a store that is ready has its layout's length and passes the form check
 ready-formed : (ws : List ℕ) (g : Geometry) → checkedOf ws ≡ Ready g → Sized g ws × (formed g ws ≡ true)
 ready-formed ws g e = go (openedOf ws) refl
@@ -94,10 +88,6 @@ module _ (ws : List ℕ) (g : Geometry) (e : checkedOf ws ≡ Ready g) where
   -- the searches and the walk can read its four levels
   pub ready-levels : Formed (topOf g ws) ws × (Formed (levelOf g ws 1) ws × (Formed (levelOf g ws 2) ws × Formed (levelOf g ws 3) ws))
   ready-levels = passed-formed g ws ready-sized ready-passed
-
-  -- "live is the number of keys of the map"
-  pub ready-live : liveExact g ws ≡ true
-  ready-live = formed-clauses g ws (ready-formed ws g e .1) .live-exact
 
   -- what the four levels show together is what the rows of the store show
   pub ready-view : layered ws (topOf g ws) (levelOf g ws 1) (levelOf g ws 2) (levelOf g ws 3) ≡ view (rows (storeAt g ws))

@@ -57,6 +57,7 @@ module _ (ws : List ℕ) (k : ℕ) (c : changed.Changed) (r : Changed) (out : Li
     reply = q ∙ ap (λ (o : Outcome ChangeAnswer). changedReply (o .answer)) (d .outcome);
     words = ap (λ (o : Outcome ChangeAnswer). o .words) (d .outcome);
     change = c;
+    answer = q;
     done = d;
   }
 
@@ -65,5 +66,6 @@ module _ (ws : List ℕ) (k : ℕ) (c : changed.Changed) (r : Changed) (out : Li
     reply = q ∙ ap (λ (o : Outcome ChangeAnswer). changedReply (o .answer)) (d .outcome);
     words = ap (λ (o : Outcome ChangeAnswer). o .words) (d .outcome);
     change = c;
+    answer = q;
     done = d;
   }

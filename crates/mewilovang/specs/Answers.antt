@@ -9,6 +9,7 @@ use Rattle.levels.specs.Count as levels
 use Rattle.words.specs.Layout.{bit}
 use Rattle.words.specs.Calls.{Outcome, FormatAnswer, LookAnswer, NextAnswer, AboutAnswer, ChangeAnswer, putOf, deleteOf}
 use Rattle.writer.specs.declared.Changed as changed
+use Rattle.writer.specs.Answers.{changedAnswer}
 use Rattle.reader.specs.declared.Part as part
 use Rattle.store.specs.Change.{PutDone, DeleteDone}
 use Rattle.mewilovang.specs.declared.Formatted.{Formatted}
@@ -77,7 +78,9 @@ changedReply a = record { reason = a .reason; live = bit (a .live); level1 = cou
 pub record PutReplied (ws : List ℕ) (k v : ℕ) (r : Changed) (out : List ℕ) : Type 0 where
   pub reply : r ≡ changedReply (putOf ws k v .answer)
   pub words : out ≡ putOf ws k v .words
+  -- what the store's put answers, of which all that `PutDone` says holds; r is its numbers
   pub change : changed.Changed
+  pub answer : r ≡ changedReply (changedAnswer change)
   pub done : PutDone ws k v change out
 
 -- "Delete k"
@@ -85,4 +88,5 @@ pub record DeleteReplied (ws : List ℕ) (k : ℕ) (r : Changed) (out : List ℕ
   pub reply : r ≡ changedReply (deleteOf ws k .answer)
   pub words : out ≡ deleteOf ws k .words
   pub change : changed.Changed
+  pub answer : r ≡ changedReply (changedAnswer change)
   pub done : DeleteDone ws k change out

@@ -6,9 +6,10 @@ use Rattle.geometry.specs.declared.Geometry.{Geometry}
 use Rattle.levels.specs.Store.{Store}
 use Rattle.levels.specs.Put.{put, delete, mergesOf}
 use Rattle.words.specs.Layout.{geometryAt, storeAt}
+use Rattle.words.specs.Form.{reasonOf}
 use Rattle.words.specs.Calls.{Outcome, ChangeAnswer, mapAt, changeOutcome, putOf, deleteOf}
 use Rattle.words.specs.Demand.{Demand, ownPut, ownDelete}
-use Rattle.words.proofs.Steps.{put-of, delete-of}
+use Rattle.words.proofs.Steps.{put-of, delete-of, put-passes, delete-passes}
 use Rattle.words.proofs.Demand.{put-demand, delete-demand}
 use Rattle.words.proofs.MapAfter.{put-enters, delete-takes-out, put-refused-words, delete-refused-words, put-full-only}
 use Rattle.entry.specs.declared.Opened.the-variants.{Ready, Refused}
@@ -34,6 +35,7 @@ put-done ws k v r out e =
       map = λ z q. ap mapAt w ∙ put-enters ws z k v (reason-is r out (putOf ws k v) 0 e q);
       full = λ z q. put-full-only ws k v (reason-is r out (putOf ws k v) 5 e q);
       kept = λ h. w ∙ put-refused-words ws k v (λ q. h (ap (λ (x : Outcome ChangeAnswer). x .answer .reason) e ∙ q));
+      passes = λ z. ap reasonOf w ∙ put-passes ws k v z;
       demand = λ z. let g : Geometry = geometryAt ws in
           let s : Store = storeAt g ws in
           subst (λ (x : Outcome ChangeAnswer). Demand g ws (ownPut g s k v) (mergesOf (put g s k v)) (x .answer) (x .words)) (sym e) (put-demand ws k v z);
@@ -46,6 +48,7 @@ delete-done ws k r out e =
       outcome = e;
       map = λ z q. ap mapAt w ∙ delete-takes-out ws z k (reason-is r out (deleteOf ws k) 0 e q);
       kept = λ h. w ∙ delete-refused-words ws k (λ q. h (ap (λ (x : Outcome ChangeAnswer). x .answer .reason) e ∙ q));
+      passes = λ z. ap reasonOf w ∙ delete-passes ws k z;
       demand = λ z. let g : Geometry = geometryAt ws in
           let s : Store = storeAt g ws in
           subst (λ (x : Outcome ChangeAnswer). Demand g ws (ownDelete g s k) (mergesOf (delete g s k)) (x .answer) (x .words)) (sym e) (delete-demand ws k z);

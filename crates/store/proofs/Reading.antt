@@ -7,18 +7,20 @@ use mathlib.Core.Option.{none, some}
 use native.Mathlib.Omega.{arith}
 use lib.Dec.{leb, eqb}
 use lib.ListN.{length, take, drop}
-use borrow.Author.Tests.{eqb-true, eq-eqb, ne-eqb, leb-true, leb-false, le-leb, lt-leb}
+use borrow.Author.Tests.{eq-eqb, ne-eqb, leb-true, leb-false, le-leb, lt-leb}
 use Rattle.geometry.specs.declared.Geometry.{Geometry}
 use Rattle.geometry.specs.Geometry.{within, isLegal, placeStart, blockWidth, storeLength, sizeReason}
 use Rattle.geometry.proofs.Laws.{legal-valid}
 use Rattle.levels.specs.Basics.{if_then_else_}
 use Rattle.levels.specs.Record.{Block, Level, firstKey, lastKey}
-use Rattle.levels.specs.Map.{liveCount, firstFrom, next}
-use Rattle.words.specs.Layout.{geometryAt, liveAt, levelAt, placeOf}
-use Rattle.words.specs.Form.{liveExact, formed, reasonOf}
-use Rattle.words.specs.Calls.{mapAt, nextAnswer, checkOf, lookUpOf, nextOf, enclosing, partOf, showIn, showOf}
+use Rattle.words.specs.Layout.{geometryAt, levelAt, placeOf}
+use Rattle.words.specs.Form.{formed, reasonOf}
+use Rattle.words.specs.Calls.{checkOf, lookUpOf, nextOf, enclosing, partOf, showIn, showOf}
 use Rattle.entry.proofs.Laws.{size-short, size-broken, size-other, sized-opened, ready-reason}
-use Rattle.form.proofs.Ready.{checked-none, ready-live}
+-- Demand 2: a store that passes reads as one finite map. With the contract of look up, `look-up-map` is what the map has for the key; with
+-- that of next, `next-map` is the map's first record at or above the key, which is the smallest there is (`next-smallest-map`).
+-- The map's keys rise (`map-rises`), none of its records is a mark (`map-unmarked`), their number is live (`live-map`) and at most N (`map-within`).
+pub use Rattle.words.proofs.MapAfter.{look-up-map, next-map, next-smallest-map, map-rises, map-unmarked, live-map, map-within}
 
 -- Show: levels that there are not, and those that there are.
 show-low : (g : Geometry) (ws : List ℕ) (i k : ℕ) → i < 1 → [] ≡ showIn g ws i k
@@ -36,16 +38,6 @@ show-inside g ws i k a b = rw (le-leb 1 i a, le-leb i (g .h) b, showIn)
 module _ (ws : List ℕ) (e : reasonOf ws ≡ 0) where
   none-test : eqb (reasonOf ws) 0 ≡ true
   none-test = eq-eqb (reasonOf ws) 0 e
-
-  -- Next gives the first record of the map from k on.
-  pub next-map : (k : ℕ) → nextOf ws k ≡ nextAnswer (firstFrom k (mapAt ws))
-  unfolding nextOf next
-  next-map k = rw (none-test, nextOf)
-
-  -- "live (number of keys in the map)"
-  pub live-map : liveAt ws ≡ length (mapAt ws)
-  unfolding liveExact liveCount
-  live-map = eqb-true (liveAt ws) (length (mapAt ws)) (ready-live ws (geometryAt ws) (checked-none ws e))
 
   -- Show, of a level that there is
   pub show-level : (i k : ℕ) → 1 ≤ i → i ≤ geometryAt ws .h → showOf ws i k ≡ partOf (geometryAt ws) ws (enclosing k (levelAt (geometryAt ws) ws i))

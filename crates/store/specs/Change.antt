@@ -25,6 +25,8 @@ pub record PutDone (ws : List ℕ) (k v : ℕ) (r : Changed) (out : List ℕ) : 
   pub full : reasonOf ws ≡ 0 → changedAnswer r .reason ≡ 5 → (find k (mapAt ws) ≡ none) × (length (mapAt ws) ≡ keyLimitOf (geometryAt ws))
   -- demand 1, "with every lent word unchanged after a refusal"
   pub kept : changedAnswer r .reason ≢ 0 → out ≡ ws
+  -- demand 1, a store that passes the form check passes it again: refusal 4 never follows from our own calls
+  pub passes : reasonOf ws ≡ 0 → reasonOf out ≡ 0
   -- demand 3 of the merges that it has made, where the store is not turned down
   pub demand : reasonOf ws ≡ 0
       → let g = geometryAt ws in let s = storeAt g ws in Demand g ws (ownPut g s k v) (mergesOf (put g s k v)) (changedAnswer r) out
@@ -36,6 +38,8 @@ pub record DeleteDone (ws : List ℕ) (k : ℕ) (r : Changed) (out : List ℕ) :
   pub map : reasonOf ws ≡ 0 → changedAnswer r .reason ≡ 0 → mapAt out ≡ without k (mapAt ws)
   -- demand 1, "with every lent word unchanged after a refusal"
   pub kept : changedAnswer r .reason ≢ 0 → out ≡ ws
+  -- demand 1, a store that passes the form check passes it again
+  pub passes : reasonOf ws ≡ 0 → reasonOf out ≡ 0
   pub demand : reasonOf ws ≡ 0
       → let g = geometryAt ws in let s = storeAt g ws in Demand g ws (ownDelete g s k) (mergesOf (delete g s k)) (changedAnswer r) out
 

@@ -20,7 +20,7 @@ use Rattle.words.specs.Passed.{Passed}
 use Rattle.words.proofs.State.{Holds, geometry-back, read-back, live-held, top-count-held, count-held}
 use Rattle.words.proofs.Form.{formed-clauses, clauses-hold}
 use Rattle.words.proofs.Reason.{size-legal, reason-formed, reason-passed}
-use Rattle.words.proofs.Formatted.{clearArea, empty-laid, format-fits, format-leaves, format-passes}
+use Rattle.words.proofs.Formatted.{clearArea, empty-laid, format-sizes, format-leaves, format-passes}
 
 -- the answer for a store of this geometry with so many keys in its map, records in level 0 and blocks in levels 1, 2 and 3
 abbrev pub answerWith : Geometry → ℕ → ℕ → ℕ → ℕ → ℕ → AboutAnswer
@@ -103,7 +103,7 @@ module _ (ws : List ℕ) (e : reasonOf ws ≡ 0) where
 pub about-format : (ws : List ℕ) (g : Geometry) → formatOf ws g .answer .reason ≡ 0 → aboutOf (formatOf ws g .words) ≡ answerWith g 0 0 0 0 0
 unfolding aboutIn liveCount emptyStore
 about-format ws g e =
-    let z = format-fits ws g e in
+    let z = format-sizes ws g e in
     let out = storeWords g (emptyStore g) (clearArea g) in
     let none : length (mapOf (rows (emptyStore g))) ≡ 0 = rw (empty-map g) in
     let blocks : (i : ℕ) → length (getD (emptyStore g .levels) i []) ≡ 0 = λ i. ap (λ (l : Level). length l) (empty-at (g .h) i) in

@@ -6,20 +6,21 @@ use mathlib.Core.List.{List, [], _∷_, _++_, map}
 use native.Mathlib.Omega.{arith}
 use lib.Dec.{eqb}
 use lib.ListN.{length, replicate, length-replicate}
-use borrow.Author.Tests.{eqb-true, eq-eqb}
+use mathlib.Core.Logic.{_≢_}
+use borrow.Author.Tests.{eqb-true, eq-eqb, ne-eqb}
 use Rattle.geometry.specs.declared.Geometry.{Geometry}
-use Rattle.geometry.specs.Geometry.{Valid, capacityOf, topCapacityOf, blockWidth, storeLength, sizeReason}
+use Rattle.geometry.specs.Geometry.{Valid, capacityOf, topCapacityOf, keyLimitOf, blockWidth, storeLength, sizeReason}
 use Rattle.levels.specs.Basics.{all}
 use Rattle.levels.specs.Record.{Level}
 use Rattle.levels.specs.Store.{emptyStore}
 use Rattle.levels.proofs.Every.{all-append}
 use Rattle.levels.proofs.Empty.{empty-blocks, empty-fits, empty-sound}
-use Rattle.words.specs.Layout.{pad, headerWords, topWords, listWords, storeWords}
+use Rattle.words.specs.Layout.{geometryAt, pad, headerWords, topWords, listWords, storeWords}
 use Rattle.words.specs.Form.{isZero, reasonOf}
-use Rattle.words.specs.Calls.{formatWords, formatOf}
+use Rattle.words.specs.Calls.{Outcome, FormatAnswer, formatWords, formatOf}
 use Rattle.words.specs.Passed.{Laid}
 use Rattle.words.proofs.Parts.{zeros-are, zeros-pass}
-use Rattle.words.proofs.State.{words-length}
+use Rattle.words.proofs.State.{geometry-back, words-length}
 use Rattle.words.proofs.Reason.{size-legal, reason-back}
 
 -- the words of all places, cleared
@@ -64,20 +65,37 @@ unfolding emptyStore
 empty-laid g = record { full = length-replicate (g .p * blockWidth g) 0; standing = rw (empty-blocks (g .h)) tt }
 
 -- format that is not turned down: its words and its geometry fit
-pub format-fits : (ws : List ℕ) (g : Geometry) → formatOf ws g .answer .reason ≡ 0 → sizeReason (length ws) g ≡ 0
+pub format-sizes : (ws : List ℕ) (g : Geometry) → formatOf ws g .answer .reason ≡ 0 → sizeReason (length ws) g ≡ 0
 unfolding formatOf
-format-fits ws g e = go (eqb (sizeReason (length ws) g) 0) refl
+format-sizes ws g e = go (eqb (sizeReason (length ws) g) 0) refl
   where
     go : (t : Bool) → eqb (sizeReason (length ws) g) 0 ≡ t → sizeReason (length ws) g ≡ 0
     go true q = eqb-true (sizeReason (length ws) g) 0 q
     go false q = rw (q, formatOf) at e
 
+-- format, turned down and not
+pub format-turned-down : (ws : List ℕ) (g : Geometry) → sizeReason (length ws) g ≢ 0 → formatOf ws g ≡ record { answer = record { reason = sizeReason (length ws) g; limit = 0 }; words = ws }
+unfolding formatOf
+format-turned-down ws g n = rw (ne-eqb (sizeReason (length ws) g) 0 n, formatOf)
+
+pub format-accepted : (ws : List ℕ) (g : Geometry) → sizeReason (length ws) g ≡ 0 → formatOf ws g ≡ record { answer = record { reason = 0; limit = keyLimitOf g }; words = formatWords g (length ws) }
+unfolding formatOf
+format-accepted ws g e = rw (eq-eqb (sizeReason (length ws) g) 0 e, formatOf)
+
 -- what format leaves, where it is not turned down
 pub format-leaves : (ws : List ℕ) (g : Geometry) → sizeReason (length ws) g ≡ 0 → formatOf ws g .words ≡ storeWords g (emptyStore g) (clearArea g)
-unfolding formatOf
 format-leaves ws g e =
     let k = size-legal (length ws) g e in
-    rw (eq-eqb (sizeReason (length ws) g) 0 e, formatOf) (ap (formatWords g) (k .1) ∙ format-words g (k .0))
+    ap (λ (o : Outcome FormatAnswer). o .words) (format-accepted ws g e) ∙ ap (formatWords g) (k .1) ∙ format-words g (k .0)
+
+-- as many words, with the geometry in the first six
+pub format-length : (ws : List ℕ) (g : Geometry) → sizeReason (length ws) g ≡ 0 → length (formatOf ws g .words) ≡ length ws
+format-length ws g e =
+    let k = size-legal (length ws) g e in
+    ap length (format-leaves ws g e) ∙ words-length g (emptyStore g) (clearArea g) (k .0) (empty-fits g) (length-replicate (g .p * blockWidth g) 0) ∙ sym (k .1)
+
+pub format-geometry : (ws : List ℕ) (g : Geometry) → sizeReason (length ws) g ≡ 0 → geometryAt (formatOf ws g .words) ≡ g
+format-geometry ws g e = ap geometryAt (format-leaves ws g e) ∙ geometry-back g (emptyStore g) (clearArea g)
 
 -- it passes the form check
 pub format-passes : (ws : List ℕ) (g : Geometry) → sizeReason (length ws) g ≡ 0 → reasonOf (formatOf ws g .words) ≡ 0

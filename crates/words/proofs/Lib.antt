@@ -13,3 +13,4 @@ pub mod Demand
 pub mod Formatted
 pub mod MapAfter
 pub mod About
+pub mod History

@@ -1,6 +1,6 @@
 -- Demand 2 on words: the map of the words that format, a put and a delete leave, what is looked up in them, and refusal 5.
-use Prim.Native.Nat.{ℕ}
-use mathlib.Core.Path.{_≡_, refl, sym, _∙_, ap}
+use Prim.Native.Nat.{ℕ, _≤_}
+use mathlib.Core.Path.{_≡_, refl, sym, _∙_, ap, subst}
 use mathlib.Core.Bool.{Bool, true, false, true≢false}
 use mathlib.Core.List.{List, []}
 use mathlib.Core.Option.{Option, none, some}
@@ -10,27 +10,27 @@ use lib.Dec.{eqb}
 use lib.ListN.{length}
 use borrow.Author.Tests.{eqb-true, eq-eqb}
 use Rattle.geometry.specs.declared.Geometry.{Geometry}
-use Rattle.geometry.specs.Geometry.{Valid, keyLimitOf, sizeReason}
+use Rattle.geometry.specs.Geometry.{Valid, keyLimitOf, storeLength, sizeReason}
 use Rattle.levels.specs.Basics.{isSome}
-use Rattle.levels.specs.Record.{Rec}
-use Rattle.levels.specs.Map.{find, isLive, mapOf, liveCount}
+use Rattle.levels.specs.Record.{Rec, hasTombstone}
+use Rattle.levels.specs.Map.{find, view, isLive, mapOf, liveCount, firstFrom, next}
 use Rattle.levels.specs.Store.{Store, emptyStore, rows}
 use Rattle.levels.specs.Call.{Merge}
 use Rattle.levels.specs.Put.{Change, refused, absent, entered, insert, put, delete, without, putRec}
-use Rattle.levels.specs.Rising.{Risings}
+use Rattle.levels.specs.Rising.{Rising, Risings}
 use Rattle.levels.specs.Sound.{Fits}
 use Rattle.levels.proofs.Insert.{without-none, find-insert, find-insert-other, find-without, find-without-other}
-use Rattle.levels.proofs.View.{test-risings, map-rising, look-up-find, is-live-find}
+use Rattle.levels.proofs.View.{test-risings, unmarked-clean, map-rising, look-up-find, is-live-find, Smallest, first-from-smallest}
 use Rattle.levels.proofs.Empty.{empty-map, empty-fits}
 use Rattle.levels.proofs.PutDelete.{EnterFacts, PutSays, DeleteSays, put-says, delete-says, put-map, delete-map, put-full}
-use Rattle.words.specs.Layout.{geometryAt, storeAt, areaOf, storeWords, writeBlocks}
+use Rattle.words.specs.Layout.{geometryAt, liveAt, storeAt, areaOf, storeWords, writeBlocks}
 use Rattle.words.specs.Form.{reasonOf}
-use Rattle.words.specs.Calls.{Outcome, ChangeAnswer, mapAt, lookAnswer, writtenBlocks, leftWords, changeOutcome, formatOf, lookUpOf, putOf, deleteOf}
+use Rattle.words.specs.Calls.{Outcome, ChangeAnswer, mapAt, lookAnswer, nextAnswer, writtenBlocks, leftWords, changeAnswer, changeOutcome, formatOf, lookUpOf, nextOf, putOf, deleteOf}
 use Rattle.words.specs.Passed.{Laid, Passed}
 use Rattle.words.proofs.State.{geometry-back, read-back}
 use Rattle.words.proofs.Reason.{size-legal, reason-passed, reason-most}
 use Rattle.words.proofs.Steps.{entered-laid, put-of, delete-of, put-passes, delete-passes}
-use Rattle.words.proofs.Formatted.{clearArea, empty-laid, format-fits, format-leaves}
+use Rattle.words.proofs.Formatted.{clearArea, empty-laid, format-sizes, format-leaves}
 
 -- the map of the words of a store is the store's
 map-back : (g : Geometry) (s : Store) (area : List ℕ) → Valid g → Fits g s → Laid g area s → mapAt (storeWords g s area) ≡ mapOf (rows s)
@@ -40,7 +40,7 @@ map-back g s area v f d =
 -- "Format": the map has no key
 pub format-map : (ws : List ℕ) (g : Geometry) → formatOf ws g .answer .reason ≡ 0 → mapAt (formatOf ws g .words) ≡ []
 format-map ws g e =
-    let z = format-fits ws g e in
+    let z = format-sizes ws g e in
     ap mapAt (format-leaves ws g z) ∙ map-back g (emptyStore g) (clearArea g) (size-legal (length ws) g z .0) (empty-fits g) (empty-laid g) ∙ empty-map g
 
 -- the words that a call leaves which enters a record
@@ -49,20 +49,37 @@ unfolding leftWords
 left-map g ws r was live ms t p f = map-back g t (writeBlocks g (areaOf g ws) (writtenBlocks ms)) (p .valid) (f .fits) (entered-laid g ws r was live ms t p f)
 
 -- a key that is not live is not in the map
+pub none-is : (o : Option Rec) → isSome o ≡ false → o ≡ none
+none-is none q = refl
+none-is (some r) q = absurd (true≢false q)
+
 not-found : (k : ℕ) (ls : List (List Rec)) → Risings ls → isLive k ls ≡ false → find k (mapOf ls) ≡ none
-not-found k ls h e = go (find k (mapOf ls)) (sym (is-live-find k ls h) ∙ e)
-  where
-    go : (o : Option Rec) → isSome o ≡ false → o ≡ none
-    go none q = refl
-    go (some r) q = absurd (true≢false q)
+not-found k ls h e = none-is (find k (mapOf ls)) (sym (is-live-find k ls h) ∙ e)
 
 sorted : (ws : List ℕ) → reasonOf ws ≡ 0 → Risings (rows (storeAt (geometryAt ws) ws))
 sorted ws e = test-risings (rows (storeAt (geometryAt ws) ws)) (reason-passed ws e .sound .keys-rise)
 
 -- Look up answers what the map has.
-pub look-up-of : (ws : List ℕ) (k : ℕ) → reasonOf ws ≡ 0 → lookUpOf ws k ≡ lookAnswer (find k (mapAt ws))
+pub look-up-map : (ws : List ℕ) (k : ℕ) → reasonOf ws ≡ 0 → lookUpOf ws k ≡ lookAnswer (find k (mapAt ws))
 unfolding lookUpOf
-look-up-of ws k e = rw (eq-eqb (reasonOf ws) 0 e, lookUpOf) (ap lookAnswer (look-up-find k (rows (storeAt (geometryAt ws) ws)) (sorted ws e)))
+look-up-map ws k e = rw (eq-eqb (reasonOf ws) 0 e, lookUpOf) (ap lookAnswer (look-up-find k (rows (storeAt (geometryAt ws) ws)) (sorted ws e)))
+
+-- Next answers the first record of the map at or above k.
+pub next-map : (ws : List ℕ) (k : ℕ) → reasonOf ws ≡ 0 → nextOf ws k ≡ nextAnswer (firstFrom k (mapAt ws))
+unfolding nextOf next
+next-map ws k e = rw (eq-eqb (reasonOf ws) 0 e, nextOf)
+
+-- the map's keys rise, no record of it is a mark
+pub map-rises : (ws : List ℕ) → reasonOf ws ≡ 0 → Rising 0 (mapAt ws)
+map-rises ws e = map-rising (rows (storeAt (geometryAt ws) ws)) (sorted ws e)
+
+pub map-unmarked : (ws : List ℕ) → hasTombstone (mapAt ws) ≡ false
+unfolding mapOf
+map-unmarked ws = unmarked-clean (view (rows (storeAt (geometryAt ws) ws)))
+
+-- so Next's record has the smallest key of the map at or above k
+pub next-smallest-map : (ws : List ℕ) (k : ℕ) → reasonOf ws ≡ 0 → Smallest k (λ j. find j (mapAt ws)) (firstFrom k (mapAt ws))
+next-smallest-map ws k e = first-from-smallest k 0 (mapAt ws) (map-rises ws e)
 
 -- "no lent word changes" where a put or delete is turned down, whatever the words are
 kept-words : (g : Geometry) (ws : List ℕ) (c : Change) → changeOutcome g ws c .answer .reason ≢ 0 → changeOutcome g ws c .words ≡ ws
@@ -78,6 +95,21 @@ put-refused-words ws k v h = kept-words (geometryAt ws) ws _ h
 pub delete-refused-words : (ws : List ℕ) (k : ℕ) → deleteOf ws k .answer .reason ≢ 0 → deleteOf ws k .words ≡ ws
 unfolding deleteOf
 delete-refused-words ws k h = kept-words (geometryAt ws) ws _ h
+
+-- a put and a delete leave the six words of the geometry
+kept-geometry : (ws : List ℕ) (c : Change) → geometryAt (changeOutcome (geometryAt ws) ws c .words) ≡ geometryAt ws
+unfolding changeOutcome leftWords
+kept-geometry ws (refused n) = refl
+kept-geometry ws absent = refl
+kept-geometry ws (entered was ms t) = geometry-back (geometryAt ws) t (writeBlocks (geometryAt ws) (areaOf (geometryAt ws) ws) (writtenBlocks ms))
+
+pub put-geometry : (ws : List ℕ) (k v : ℕ) → geometryAt (putOf ws k v .words) ≡ geometryAt ws
+unfolding putOf
+put-geometry ws k v = kept-geometry ws _
+
+pub delete-geometry : (ws : List ℕ) (k : ℕ) → geometryAt (deleteOf ws k .words) ≡ geometryAt ws
+unfolding deleteOf
+delete-geometry ws k = kept-geometry ws _
 
 -- Words that pass the form check.
 module _ (ws : List ℕ) (e : reasonOf ws ≡ 0) where
@@ -117,31 +149,39 @@ module _ (ws : List ℕ) (e : reasonOf ws ≡ 0) where
   -- So a key that was put is found with its payload, a key that was deleted is not found, and every other key is looked up as before.
   pub put-finds : (k v : ℕ) → putOf ws k v .answer .reason ≡ 0 → lookUpOf (putOf ws k v .words) k ≡ record { reason = 0; found = true; pay = v }
   put-finds k v q =
-      look-up-of (putOf ws k v .words) k (put-passes ws k v e)
+      look-up-map (putOf ws k v .words) k (put-passes ws k v e)
       ∙ ap (λ (m : List Rec). lookAnswer (find k m)) (put-enters k v q) ∙ ap lookAnswer (find-insert (putRec k v) (mapAt ws))
 
   pub put-others : (k v j : ℕ) → putOf ws k v .answer .reason ≡ 0 → k ≢ j → lookUpOf (putOf ws k v .words) j ≡ lookUpOf ws j
   put-others k v j q n =
-      look-up-of (putOf ws k v .words) j (put-passes ws k v e)
+      look-up-map (putOf ws k v .words) j (put-passes ws k v e)
       ∙ ap (λ (m : List Rec). lookAnswer (find j m)) (put-enters k v q) ∙ ap lookAnswer (find-insert-other j (putRec k v) (mapAt ws) n)
-      ∙ sym (look-up-of ws j e)
+      ∙ sym (look-up-map ws j e)
 
   pub delete-finds : (k : ℕ) → deleteOf ws k .answer .reason ≡ 0 → lookUpOf (deleteOf ws k .words) k ≡ record { reason = 0; found = false; pay = 0 }
   delete-finds k q =
-      look-up-of (deleteOf ws k .words) k (delete-passes ws k e)
+      look-up-map (deleteOf ws k .words) k (delete-passes ws k e)
       ∙ ap (λ (m : List Rec). lookAnswer (find k m)) (delete-takes-out k q)
-      ∙ ap lookAnswer (find-without 0 k (mapAt ws) (map-rising (rows (storeAt (geometryAt ws) ws)) (sorted ws e)))
+      ∙ ap lookAnswer (find-without 0 k (mapAt ws) (map-rises ws e))
 
   pub delete-others : (k j : ℕ) → deleteOf ws k .answer .reason ≡ 0 → k ≢ j → lookUpOf (deleteOf ws k .words) j ≡ lookUpOf ws j
   delete-others k j q n =
-      look-up-of (deleteOf ws k .words) j (delete-passes ws k e)
+      look-up-map (deleteOf ws k .words) j (delete-passes ws k e)
       ∙ ap (λ (m : List Rec). lookAnswer (find j m)) (delete-takes-out k q) ∙ ap lookAnswer (find-without-other j k (mapAt ws) n)
-      ∙ sym (look-up-of ws j e)
+      ∙ sym (look-up-map ws j e)
 
   -- "live (number of keys in the map)"
   map-length : length (mapAt ws) ≡ storeAt (geometryAt ws) ws .live
   unfolding liveCount
   map-length = reason-passed ws e .sound .live-exact
+
+  pub live-map : liveAt ws ≡ length (mapAt ws)
+  unfolding storeAt
+  live-map = sym map-length
+
+  -- "and at most N"
+  pub map-within : length (mapAt ws) ≤ keyLimitOf (geometryAt ws)
+  map-within = omega (arith, map-length, reason-passed ws e .sound .live-fits)
 
   -- Refusal 5 of words that pass: "only for a new key when the map holds its stated limit", and then it is due.
   full-passes : (k v : ℕ) → putOf ws k v .answer .reason ≡ 5 → (find k (mapAt ws) ≡ none) × (length (mapAt ws) ≡ keyLimitOf (geometryAt ws))
@@ -157,12 +197,51 @@ module _ (ws : List ℕ) (e : reasonOf ws ≡ 0) where
       go absent h z = absurd h
       go (entered was ms t) h z = absurd (omega (arith, z))
 
-  pub put-full-then : (k v : ℕ) → find k (mapAt ws) ≡ none → length (mapAt ws) ≡ keyLimitOf (geometryAt ws) → putOf ws k v .answer .reason ≡ 5
+  pub put-full-outcome : (k v : ℕ) → find k (mapAt ws) ≡ none → length (mapAt ws) ≡ keyLimitOf (geometryAt ws) → putOf ws k v ≡ record { answer = changeAnswer 5 false []; words = ws }
   unfolding changeOutcome
-  put-full-then k v h l =
+  put-full-outcome k v h l =
       let s : Store = storeAt (geometryAt ws) ws in
       let n = is-live-find k (rows s) (sorted ws e) ∙ ap isSome h in
-      ap (λ (x : Outcome ChangeAnswer). x .answer .reason) (put-of ws k v e ∙ ap (changeOutcome (geometryAt ws) ws) (put-full (geometryAt ws) s k v n (eq-eqb (s .live) (keyLimitOf (geometryAt ws)) (sym map-length ∙ l))))
+      put-of ws k v e ∙ ap (changeOutcome (geometryAt ws) ws) (put-full (geometryAt ws) s k v n (eq-eqb (s .live) (keyLimitOf (geometryAt ws)) (sym map-length ∙ l)))
+
+  pub put-full-then : (k v : ℕ) → find k (mapAt ws) ≡ none → length (mapAt ws) ≡ keyLimitOf (geometryAt ws) → putOf ws k v .answer .reason ≡ 5
+  put-full-then k v h l = ap (λ (x : Outcome ChangeAnswer). x .answer .reason) (put-full-outcome k v h l)
+
+  -- Every other put is accepted, and "The answer says if k was live."
+  pub put-accepted : (k v : ℕ) → (find k (mapAt ws) ≡ none → length (mapAt ws) ≢ keyLimitOf (geometryAt ws)) → (putOf ws k v .answer .reason ≡ 0) × (putOf ws k v .answer .live ≡ isSome (find k (mapAt ws)))
+  unfolding changeOutcome
+  put-accepted k v d =
+      let p = reason-passed ws e in
+      subst (λ (x : Outcome ChangeAnswer). (x .answer .reason ≡ 0) × (x .answer .live ≡ isSome (find k (mapAt ws)))) (sym (put-of ws k v e))
+      (go (put (geometryAt ws) (storeAt (geometryAt ws) ws) k v) (put-says (geometryAt ws) (storeAt (geometryAt ws) ws) (p .valid) (p .fits) (p .sound) k v))
+    where
+      go : (c : Change) → PutSays (geometryAt ws) (storeAt (geometryAt ws) ws) k v c → (changeOutcome (geometryAt ws) ws c .answer .reason ≡ 0) × (changeOutcome (geometryAt ws) ws c .answer .live ≡ isSome (find k (mapAt ws)))
+      go (refused n) h = absurd (d (not-found k (rows (storeAt (geometryAt ws) ws)) (sorted ws e) (h .1)) (map-length ∙ h .2))
+      go absent h = absurd h
+      go (entered was ms t) h = (refl, sym (h .was-live) ∙ is-live-find k (rows (storeAt (geometryAt ws) ws)) (sorted ws e))
+
+  -- and every delete
+  pub delete-accepted : (k : ℕ) → (deleteOf ws k .answer .reason ≡ 0) × (deleteOf ws k .answer .live ≡ isSome (find k (mapAt ws)))
+  unfolding changeOutcome
+  delete-accepted k =
+      let p = reason-passed ws e in
+      subst (λ (x : Outcome ChangeAnswer). (x .answer .reason ≡ 0) × (x .answer .live ≡ isSome (find k (mapAt ws)))) (sym (delete-of ws k e))
+      (go (delete (geometryAt ws) (storeAt (geometryAt ws) ws) k) (delete-says (geometryAt ws) (storeAt (geometryAt ws) ws) (p .valid) (p .fits) (p .sound) k))
+    where
+      go : (c : Change) → DeleteSays (geometryAt ws) (storeAt (geometryAt ws) ws) k c → (changeOutcome (geometryAt ws) ws c .answer .reason ≡ 0) × (changeOutcome (geometryAt ws) ws c .answer .live ≡ isSome (find k (mapAt ws)))
+      go (refused n) h = absurd h
+      go absent h = (refl, sym h ∙ is-live-find k (rows (storeAt (geometryAt ws) ws)) (sorted ws e))
+      go (entered was ms t) h = (refl, sym (h .1 .was-live) ∙ is-live-find k (rows (storeAt (geometryAt ws) ws)) (sorted ws e))
+
+  -- both leave as many words as there were
+  same-length : (out : List ℕ) → geometryAt out ≡ geometryAt ws → reasonOf out ≡ 0 → length out ≡ length ws
+  same-length out q z = reason-passed out z .long ∙ ap storeLength q ∙ sym (reason-passed ws e .long)
+
+  pub put-length : (k v : ℕ) → length (putOf ws k v .words) ≡ length ws
+  put-length k v = same-length (putOf ws k v .words) (put-geometry ws k v) (put-passes ws k v e)
+
+  pub delete-length : (k : ℕ) → length (deleteOf ws k .words) ≡ length ws
+  delete-length k = same-length (deleteOf ws k .words) (delete-geometry ws k) (delete-passes ws k e)
 
 -- Demand 2, of all words: "A put is turned down as full only for a new key when the map holds its stated limit."
 pub put-full-only : (ws : List ℕ) (k v : ℕ) → putOf ws k v .answer .reason ≡ 5 → (find k (mapAt ws) ≡ none) × (length (mapAt ws) ≡ keyLimitOf (geometryAt ws))

@@ -11,7 +11,7 @@ use Rattle.geometry.specs.Geometry.{capacityOf, topCapacityOf, blockWidth}
 use Rattle.levels.specs.Record.{Rec, Level}
 use Rattle.levels.specs.Bench.{geo, puts, dels, at, sameNumbers}
 use Rattle.words.specs.Layout.{markWord, headerWords, topWords, listWords, blockWords, writeBlock, writeBlocks, storeWords}
-use Rattle.words.specs.Bench.{Act, formatAs, check, breaches, lookUpKey, nextKey, showKey, putKey, delKey, perform, wordsAfter, Case, holds, failing}
+use Rattle.words.specs.Bench.{Call, formatAs, check, lookUpKey, nextKey, showKey, putKey, delKey, wordsAfter, Case, holds, failing, Breach, misjudged}
 
 abbrev pub A : Geometry
 A = geo 4 1 2 4 1 40
@@ -21,7 +21,7 @@ abbrev pub T : Geometry
 T = geo 4 1 2 3 2 104
 
 -- puts of these keys, each with the payload one above it
-abbrev pub putAll : List ℕ → List Act
+abbrev pub putAll : List ℕ → List Call
 putAll ks = map (λ (k : ℕ). putKey k (k + 1)) ks
 
 -- A after puts 10, 20 .. 90, as the layout has it: sizes; level 0's mark words, keys, payloads; the list of level 1; place 0; the other places
@@ -32,7 +32,7 @@ nine =
 
 -- the nine puts leave exactly these words, whatever stood there before format
 pub nine-words : sameNumbers (wordsAfter (formatAs A ∷ putAll (10 ∷ 20 ∷ 30 ∷ 40 ∷ 50 ∷ 60 ∷ 70 ∷ 80 ∷ 90 ∷ [])) (replicate 438 7)) nine ≡ true
-unfolding wordsAfter perform
+unfolding wordsAfter
 nine-words = refl
 
 -- the words of a store over places that held 7 in each word, for stores that no call list reaches
@@ -48,7 +48,7 @@ abbrev pub full : List ℕ
 full = laid A 17 (puts 1 (1 ∷ 2 ∷ 3 ∷ 4 ∷ 5 ∷ 6 ∷ 7 ∷ 8 ∷ [])) ((at 0 (puts 1 (11 ∷ 12 ∷ 13 ∷ 14 ∷ [])) ∷ at 1 (puts 1 (15 ∷ 16 ∷ 17 ∷ 18 ∷ [])) ∷ at 2 (puts 1 (19 ∷ [])) ∷ []) ∷ [])
 
 -- a call on `nine`
-abbrev pub asked : String → Act → List ℕ → Case
+abbrev pub asked : String → Call → List ℕ → Case
 asked t a n = record { text = t; words = nine; calls = []; last = a; answer = n }
 
 -- a check of these words
@@ -56,8 +56,8 @@ abbrev pub checked : String → List ℕ → ℕ → Case
 checked t ws n = record { text = t; words = ws; calls = []; last = check; answer = n ∷ [] }
 
 -- the clauses of the form check that these words break, by number
-abbrev pub breaks : String → Geometry → List ℕ → List ℕ → Case
-breaks t g ws ns = record { text = t; words = ws; calls = []; last = breaches g; answer = ns }
+abbrev pub breaks : String → Geometry → List ℕ → List ℕ → Breach
+breaks t g ws ns = record { text = t; geometry = g; words = ws; broken = ns }
 
 -- "Format", and a first put that merges
 unfoldable pub formatCases : List Case
@@ -129,7 +129,7 @@ unfolding failing holds reasonCases
 reason-cases-hold = refl
 
 -- the clauses of the form check about the sizes
-unfoldable pub sizeCases : List Case
+unfoldable pub sizeCases : List Breach
 unfolding storeWords headerWords topWords listWords blockWords writeBlock writeBlocks markWord capacityOf topCapacityOf blockWidth
 sizeCases =
     breaks "A after puts 10, 20 .. 90" A nine []
@@ -142,12 +142,12 @@ sizeCases =
     ∷ breaks "5: a count above h" A (set nine 10 1) (5 ∷ [])
     ∷ []
 
-pub size-cases-hold : failing sizeCases ≡ []
-unfolding failing holds sizeCases
+pub size-cases-hold : misjudged sizeCases ≡ []
+unfolding misjudged sizeCases
 size-cases-hold = refl
 
 -- about listed places, blocks and keys
-unfoldable pub blockCases : List Case
+unfoldable pub blockCases : List Breach
 unfolding storeWords headerWords topWords listWords blockWords writeBlock writeBlocks markWord capacityOf topCapacityOf blockWidth
 blockCases =
     breaks "6: a listed place is P" A (set nine 30 40) (1 ∷ 6 ∷ 8 ∷ 16 ∷ [])
@@ -160,12 +160,12 @@ blockCases =
     ∷ breaks "10: a mark in level h" A (laid A 3 [] ((at 0 (puts 1 (1 ∷ 2 ∷ 3 ∷ []) ++ dels (4 ∷ [])) ∷ []) ∷ [])) (10 ∷ [])
     ∷ []
 
-pub block-cases-hold : failing blockCases ≡ []
-unfolding failing holds blockCases
+pub block-cases-hold : misjudged blockCases ≡ []
+unfolding misjudged blockCases
 block-cases-hold = refl
 
 -- about unused parts, marks and waste
-unfoldable pub unusedCases : List Case
+unfoldable pub unusedCases : List Breach
 unfolding storeWords headerWords topWords listWords blockWords writeBlock writeBlocks markWord capacityOf topCapacityOf blockWidth
 unusedCases =
     breaks "11: an unused key of level 0" A (set nine 19 95) (11 ∷ [])
@@ -184,6 +184,6 @@ unusedCases =
     ∷ breaks "marks for keys that exist nowhere, old words in free places" A (laid A 3 (dels (5 ∷ 9 ∷ [])) ((at 7 (puts 1 (1 ∷ 2 ∷ 3 ∷ [])) ∷ []) ∷ [])) []
     ∷ []
 
-pub unused-cases-hold : failing unusedCases ≡ []
-unfolding failing holds unusedCases
+pub unused-cases-hold : misjudged unusedCases ≡ []
+unfolding misjudged unusedCases
 unused-cases-hold = refl
