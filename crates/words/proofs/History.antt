@@ -17,7 +17,7 @@ use Rattle.levels.specs.Put.{insert, without, putRec}
 use Rattle.levels.proofs.Basics.{and-left, and-right, and-both}
 use Rattle.words.specs.Layout.{geometryAt}
 use Rattle.words.specs.Form.{reasonOf}
-use Rattle.words.specs.Calls.{Outcome, ChangeAnswer, FormatAnswer, mapAt, formatOf, checkOf, putOf, deleteOf}
+use Rattle.words.specs.Calls.{Outcome, ChangeAnswer, FormatAnswer, AboutAnswer, mapAt, formatOf, checkOf, putOf, deleteOf, aboutOf}
 use Rattle.words.specs.History.{
   Call,
   formatAs,
@@ -27,12 +27,14 @@ use Rattle.words.specs.History.{
   showKey,
   putKey,
   delKey,
+  about,
   perform,
   formats,
   checks,
   looks,
   nexts,
   changes,
+  tells,
   replyOf,
   isFull,
   mapReply,
@@ -46,6 +48,7 @@ use Rattle.words.specs.History.{
 }
 use Rattle.words.proofs.Formatted.{format-sizes, format-turned-down, format-accepted, format-length, format-geometry, format-passes}
 use Rattle.words.proofs.Steps.{put-passes, delete-passes}
+use Rattle.words.proofs.About.{about-reason, about-live, about-words}
 use Rattle.words.proofs.MapAfter.{none-is, format-map, look-up-map, next-map, put-geometry, delete-geometry, put-enters, delete-takes-out, put-full-outcome, put-accepted, delete-accepted, put-length, delete-length}
 
 -- What a form of the store has to show of each call alone, from any state that passes.
@@ -146,6 +149,12 @@ module _ (ws : List ℕ) (e : reasonOf ws ≡ 0) where
   delete-held k =
       held-is (deleteOf ws k .words) (length ws) (geometryAt ws) (without k (mapAt ws)) (delete-length ws e k) (delete-geometry ws k) (delete-takes-out ws e k (delete-accepted ws e k .0))
 
+  about-reply : tells (aboutOf ws .reason) (aboutOf ws .live) (aboutOf ws .limit) ≡ mapReply (heldIn ws) about
+  unfolding checkOf
+  about-reply =
+      ap (λ (n : ℕ). tells n (aboutOf ws .live) (aboutOf ws .limit)) (about-reason ws ∙ e)
+      ∙ ap (λ (n : ℕ). tells 0 n (aboutOf ws .limit)) (about-live ws e) ∙ ap (tells 0 (length (mapAt ws))) (ap (λ (a : AboutAnswer). a .limit) (about-words ws e))
+
 -- The old form, call by call.
 words-answers : (ws : List ℕ) (c : Call) → reasonOf ws ≡ 0 → replyOf (perform ws c .answer) ≡ mapReply (heldIn ws) c
 unfolding perform checkOf
@@ -156,6 +165,7 @@ words-answers ws (nextKey k) e = ap nexts (next-map ws k e)
 words-answers ws (showKey i k) e = refl
 words-answers ws (putKey k v) e = put-reply ws e k v
 words-answers ws (delKey k) e = delete-reply ws e k
+words-answers ws about e = about-reply ws e
 
 words-pass : (ws : List ℕ) (c : Call) → reasonOf ws ≡ 0 → reasonOf (perform ws c .words) ≡ 0
 unfolding perform
@@ -166,6 +176,7 @@ words-pass ws (nextKey k) e = e
 words-pass ws (showKey i k) e = e
 words-pass ws (putKey k v) e = put-passes ws k v e
 words-pass ws (delKey k) e = delete-passes ws k e
+words-pass ws about e = e
 
 words-feed : (ws : List ℕ) (c : Call) → reasonOf ws ≡ 0 → heldIn (perform ws c .words) ≡ mapAfter (heldIn ws) c
 unfolding perform
@@ -176,6 +187,7 @@ words-feed ws (nextKey k) e = refl
 words-feed ws (showKey i k) e = refl
 words-feed ws (putKey k v) e = put-held ws e k v
 words-feed ws (delKey k) e = delete-held ws e k
+words-feed ws about e = refl
 
 pub words-step : OneStep wordsForm
 words-step = record { answers = words-answers; passes = words-pass; feeds = words-feed }

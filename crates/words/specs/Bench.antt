@@ -71,9 +71,11 @@ use Rattle.words.specs.Calls.{
   changeOutcome,
   putOf,
   deleteOf,
+  aboutIn,
+  aboutOf,
 }
-use Rattle.words.specs.History.{Answer, formatted, checked, looked, nexted, shown, changed}
-pub use Rattle.words.specs.History.{Call, formatAs, check, lookUpKey, nextKey, showKey, putKey, delKey}
+use Rattle.words.specs.History.{Answer, formatted, checked, looked, nexted, shown, changed, told}
+pub use Rattle.words.specs.History.{Call, formatAs, check, lookUpKey, nextKey, showKey, putKey, delKey, about}
 unfoldable pub use Rattle.words.specs.History.{perform}
 
 -- the numbers that document 01 gives each answer
@@ -90,6 +92,8 @@ numbersOf (looked a) = a .reason ∷ bit (a .found) ∷ a .pay ∷ []
 numbersOf (nexted a) = a .reason ∷ bit (a .found) ∷ a .key ∷ a .pay ∷ []
 numbersOf (shown ws) = ws
 numbersOf (changed a) = changeNumbers a
+numbersOf (told a) =
+    a .reason ∷ a .b ∷ a .w ∷ a .d ∷ a .g ∷ a .h ∷ a .p ∷ a .live ∷ a .limit ∷ a .top ∷ a .blocks1 ∷ a .blocks2 ∷ a .blocks3 ∷ []
 
 -- one call, computed
 unfoldable pub computed : List ℕ → Call → Outcome (List ℕ)
@@ -100,7 +104,7 @@ unfolding
     put delete blocksMerged blocksCompacted countsOf slotsAt pageSlots topSlots topRecs listAt listedAt blockSlots blockAt levelAt storeAt markWord
     headerWords topWords listWords blockWords writeBlock writeBlocks storeWords listedPlaces liveExact liveFits cursorInside topFits roomOf countsFit placesInside placesOnce
     blocksFilled keysRise bottomUnmarked topUnusedZero listsUnusedZero blocksUnusedZero tombstonesClean pairsKept levelsKept clauses formed reasonOf formatWords formatOf
-    checkOf lookUpOf nextOf enclosing showIn showOf leftWords changeOutcome putOf deleteOf perform
+    checkOf lookUpOf nextOf enclosing showIn showOf leftWords changeOutcome putOf deleteOf aboutIn aboutOf perform
 computed ws c = let o = perform ws c in record { answer = numbersOf (o .answer); words = o .words }
 
 -- the words after some calls

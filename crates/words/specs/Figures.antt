@@ -11,7 +11,7 @@ use Rattle.geometry.specs.Geometry.{capacityOf, topCapacityOf, blockWidth}
 use Rattle.levels.specs.Record.{Rec, Level}
 use Rattle.levels.specs.Bench.{geo, puts, dels, at, sameNumbers}
 use Rattle.words.specs.Layout.{markWord, headerWords, topWords, listWords, blockWords, writeBlock, writeBlocks, storeWords}
-use Rattle.words.specs.Bench.{Call, formatAs, check, lookUpKey, nextKey, showKey, putKey, delKey, wordsAfter, Case, holds, failing, Breach, misjudged}
+use Rattle.words.specs.Bench.{Call, formatAs, check, lookUpKey, nextKey, showKey, putKey, delKey, about, wordsAfter, Case, holds, failing, Breach, misjudged}
 
 abbrev pub A : Geometry
 A = geo 4 1 2 4 1 40
@@ -98,6 +98,8 @@ callCases =
     ∷ asked "show of level 2" (showKey 2 50) []
     ∷ asked "a put on a live key" (putKey 20 1) (0 ∷ 1 ∷ 0 ∷ 0 ∷ 0 ∷ 0 ∷ 0 ∷ 0 ∷ 0 ∷ 0 ∷ 0 ∷ [])
     ∷ asked "a delete of an absent key" (delKey 25) (0 ∷ 0 ∷ 0 ∷ 0 ∷ 0 ∷ 0 ∷ 0 ∷ 0 ∷ 0 ∷ 0 ∷ 0 ∷ [])
+    ∷ asked "about: nine keys of 17, five records in level 0, one block in level 1" about (0 ∷ 4 ∷ 1 ∷ 2 ∷ 4 ∷ 1 ∷ 40 ∷ 9 ∷ 17 ∷ 5 ∷ 1 ∷ 0 ∷ 0 ∷ [])
+    ∷ record { text = "about counts no deleted key, but its mark"; words = nine; calls = delKey 20 ∷ []; last = about; answer = 0 ∷ 4 ∷ 1 ∷ 2 ∷ 4 ∷ 1 ∷ 40 ∷ 8 ∷ 17 ∷ 6 ∷ 1 ∷ 0 ∷ 0 ∷ [] }
     ∷ record { text = "look up of a deleted key"; words = nine; calls = delKey 20 ∷ []; last = lookUpKey 20; answer = 0 ∷ 0 ∷ 0 ∷ [] }
     ∷ record { text = "next steps over a mark"; words = nine; calls = delKey 20 ∷ []; last = nextKey 20; answer = 0 ∷ 1 ∷ 30 ∷ 31 ∷ [] }
     ∷ []
@@ -120,6 +122,7 @@ reasonCases =
     ∷ record { text = "next: 3"; words = take 437 nine; calls = []; last = nextKey 50; answer = 3 ∷ 0 ∷ 0 ∷ 0 ∷ [] }
     ∷ record { text = "show: an empty part"; words = set nine 6 8; calls = []; last = showKey 1 20; answer = [] }
     ∷ record { text = "put: 2"; words = set nine 0 1; calls = []; last = putKey 50 1; answer = 2 ∷ 0 ∷ 0 ∷ 0 ∷ 0 ∷ 0 ∷ 0 ∷ 0 ∷ 0 ∷ 0 ∷ 0 ∷ [] }
+    ∷ record { text = "about: 1"; words = take 11 nine; calls = []; last = about; answer = 1 ∷ 0 ∷ 0 ∷ 0 ∷ 0 ∷ 0 ∷ 0 ∷ 0 ∷ 0 ∷ 0 ∷ 0 ∷ 0 ∷ 0 ∷ [] }
     ∷ record { text = "delete: 1"; words = take 11 nine; calls = []; last = delKey 50; answer = 1 ∷ 0 ∷ 0 ∷ 0 ∷ 0 ∷ 0 ∷ 0 ∷ 0 ∷ 0 ∷ 0 ∷ 0 ∷ [] }
     ∷ record { text = "put: 5"; words = full; calls = []; last = putKey 100 1; answer = 5 ∷ 0 ∷ 0 ∷ 0 ∷ 0 ∷ 0 ∷ 0 ∷ 0 ∷ 0 ∷ 0 ∷ 0 ∷ [] }
     ∷ []

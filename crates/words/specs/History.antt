@@ -20,6 +20,7 @@ use Rattle.words.specs.Calls.{
   FormatAnswer,
   LookAnswer,
   NextAnswer,
+  AboutAnswer,
   ChangeAnswer,
   lookAnswer,
   nextAnswer,
@@ -31,9 +32,10 @@ use Rattle.words.specs.Calls.{
   showOf,
   putOf,
   deleteOf,
+  aboutOf,
 }
 
--- Document 01's calls.
+-- Document 01's calls, and About.
 pub data Call : Type 0 where
   formatAs : Geometry → Call
   check : Call
@@ -42,6 +44,7 @@ pub data Call : Type 0 where
   showKey : ℕ → ℕ → Call
   putKey : ℕ → ℕ → Call
   delKey : ℕ → Call
+  about : Call
 
 -- Their answers.
 pub data Answer : Type 0 where
@@ -51,6 +54,7 @@ pub data Answer : Type 0 where
   nexted : NextAnswer → Answer
   shown : List ℕ → Answer
   changed : ChangeAnswer → Answer
+  told : AboutAnswer → Answer
 
 -- One call on lent words: its answer and the words afterwards. "Look up, Next, Show and Check change no lent word."
 unfoldable pub perform : List ℕ → Call → Outcome Answer
@@ -61,8 +65,9 @@ perform ws (nextKey k) = record { answer = nexted (nextOf ws k); words = ws }
 perform ws (showKey i k) = record { answer = shown (showOf ws i k); words = ws }
 perform ws (putKey k v) = let o = putOf ws k v in record { answer = changed (o .answer); words = o .words }
 perform ws (delKey k) = let o = deleteOf ws k in record { answer = changed (o .answer); words = o .words }
+perform ws about = record { answer = told (aboutOf ws); words = ws }
 
--- What a map settles of an answer: all but the counts of a put or delete, which are demand 3's, and Show's words, which are the layout's.
+-- What a map settles of an answer: all but the counts of a put or delete, which are demand 3's, and Show's words and About's geometry and blocks, which are the layout's.
 pub data Reply : Type 0 where
   formats : FormatAnswer → Reply
   checks : ℕ → Reply
@@ -71,6 +76,8 @@ pub data Reply : Type 0 where
   shows : Reply
   -- the reason or 0, and "if k was live"
   changes : ℕ → Bool → Reply
+  -- the reason or 0, the number of keys, and N
+  tells : ℕ → ℕ → ℕ → Reply
 
 abbrev pub replyOf : Answer → Reply
 replyOf (formatted a) = formats a
@@ -79,6 +86,7 @@ replyOf (looked a) = looks a
 replyOf (nexted a) = nexts a
 replyOf (shown ws) = shows
 replyOf (changed a) = changes (a .reason) (a .live)
+replyOf (told a) = tells (a .reason) (a .live) (a .limit)
 
 -- A finite map: its records in key order, and N, the keys that it takes at most. It stands in `size` words, which format asks for.
 pub record Held : Type 0 where
@@ -101,6 +109,7 @@ mapReply m (nextKey k) = nexts (nextAnswer (firstFrom k (m .records)))
 mapReply m (showKey i k) = shows
 mapReply m (putKey k v) = if isFull m k then changes 5 false else changes 0 (isSome (find k (m .records)))
 mapReply m (delKey k) = changes 0 (isSome (find k (m .records)))
+mapReply m about = tells 0 (length (m .records)) (m .limit)
 
 -- The map afterwards: it is fed with the accepted puts and deletes, and an accepted format empties it.
 abbrev pub mapAfter : Held → Call → Held
@@ -111,6 +120,7 @@ mapAfter m (nextKey k) = m
 mapAfter m (showKey i k) = m
 mapAfter m (putKey k v) = if isFull m k then m else record { size = m .size; limit = m .limit; records = insert (putRec k v) (m .records) }
 mapAfter m (delKey k) = record { size = m .size; limit = m .limit; records = without k (m .records) }
+mapAfter m about = m
 
 -- Something that takes calls: what it answers, and what it is afterwards.
 pub record Machine (State Call Reply : Type 0) : Type 0 where
