@@ -111,7 +111,7 @@
  *
  *     check            1
  *     look_up, next    0.8 to 1.0
- *     show, about      about 1, not timed: show searches one level, about reads the size words once more
+ *     show, about      1.0 to 1.1; timed once, at three geometries, not in that file
  *     put              1 and its merges. On average 1.0 to 1.1 in stores of 1160 places and more, 1.2 and 1.4 in those
  *                      of 264 and 136, 2.8 in one of 40. The slowest put seen took 1.7 to 9.8
  *     delete           as put; not timed
