@@ -88,7 +88,7 @@ module _ (g : Geometry) where
     pub cursor : d .cursor ≡ a .cursor
     pub marks : Marks (d .used) (a .used)
 
-  same-place : (a : Allocation) (d : Flash) → Agrees a d → nextMark (g .p) (d .used) (d .cursor) ≡ firstFree (g .p) a
+  pub same-place : (a : Allocation) (d : Flash) → Agrees a d → nextMark (g .p) (d .used) (d .cursor) ≡ firstFree (g .p) a
   same-place a d k = ap (freeMark (g .p) (g .p) (d .used)) (k .cursor) ∙ free-same (g .p) (g .p) (d .used) (a .used) (a .cursor) (k .marks) ∙ sym (first-is a)
 
   place-low : (a : Allocation) (d : Flash) → Agrees a d → firstFree (g .p) a < g .p
