@@ -1,5 +1,5 @@
 -- What the proof of format needs: its words are the definition's, and the two cases of its outcome.
-use Prim.Native.Nat.{ℕ, suc, _-_, _≤_, _<_}
+use Prim.Native.Nat.{ℕ, suc, _-_, _≤_}
 use mathlib.Core.Path.{_≡_, subst}
 use mathlib.Core.List.{List}
 use native.Mathlib.Omega.{arith}
@@ -8,7 +8,7 @@ use borrow.Author.Tests.{eq-eqb, ne-eqb}
 use Rattle.slices.specs.Slices.{putAt}
 use Rattle.slices.proofs.Put.{put-all}
 use Rattle.geometry.specs.declared.Geometry.{Geometry}
-use Rattle.geometry.specs.Geometry.{Valid, keyLimitOf, sizeReason}
+use Rattle.geometry.specs.Geometry.{keyLimitOf, sizeReason}
 use Rattle.geometry.proofs.Laws.{store-length-low}
 use Rattle.words.specs.Calls.{formatWords, formatOf}
 use Rattle.entry.specs.declared.Opened.the-variants.{Ready, Refused}

@@ -10,7 +10,7 @@ use lib.Dec.{eqb}
 use lib.ListN.{length}
 use borrow.Author.Tests.{eqb-true, eq-eqb}
 use Rattle.geometry.specs.declared.Geometry.{Geometry}
-use Rattle.geometry.specs.Geometry.{Valid, keyLimitOf, sizeReason}
+use Rattle.geometry.specs.Geometry.{Valid, keyLimitOf}
 use Rattle.levels.specs.Basics.{isSome}
 use Rattle.levels.specs.Record.{Rec}
 use Rattle.levels.specs.Map.{find, isLive, mapOf, liveCount}
