@@ -10,7 +10,7 @@ use lib.Dec.{eqb}
 use lib.ListN.{length}
 use borrow.Author.Tests.{eqb-true, eq-eqb}
 use Rattle.geometry.specs.declared.Geometry.{Geometry}
-use Rattle.geometry.specs.Geometry.{Valid, keyLimitOf, storeLength, sizeReason}
+use Rattle.geometry.specs.Geometry.{Valid, keyLimitOf, storeLength}
 use Rattle.levels.specs.Basics.{isSome}
 use Rattle.levels.specs.Record.{Rec, hasTombstone}
 use Rattle.levels.specs.Map.{find, view, isLive, mapOf, liveCount, firstFrom, next}
