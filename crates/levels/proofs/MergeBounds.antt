@@ -72,7 +72,7 @@ module _ (g : Geometry) (e : Store) (m : Merge) (v : Valid g) (f : MergeFacts g 
   unfolding overlapOf runOf
   overlap-is = ap (λ (j : ℕ). overlap (underOf g m) (take (m .window) (drop j (aboveOf g m)))) (f .first-is) ∙ choice .overlaps
 
-  -- Law 3, demand 3: "every other run of w neighbours in that level overlaps at least q blocks below"
+  -- Demand 3: "every other run of w neighbours in that level overlaps at least q blocks below"
   pub run-fewest : (j : ℕ) → j + m .window ≤ aboveCount g m → overlapOf g m ≤ overlap (underOf g m) (take (m .window) (drop j (aboveOf g m)))
   unfolding aboveCount
   run-fewest j h = omega (arith, overlap-is, choice .fewest j h)
@@ -111,7 +111,7 @@ module _ (g : Geometry) (e : Store) (m : Merge) (v : Valid g) (f : MergeFacts g 
       let k = ap (λ (w : ℕ). choose w (aboveOf g m) (underOf g m) .value) (f .window-is) in
       omega (arith, overlap-is, k, c, window-grows g (m .level), ap (λ (w : ℕ). g .g * w) (f .window-is))
 
-  -- Law 4. "Blocks written by a merge are the places in use at its end that were not in use at its start": those in the list of blocks written.
+  -- "Blocks written by a merge are the places in use at its end that were not in use at its start": those in the list of blocks written.
   pub merge-written : blocksMerged m ≡ length (m .written)
   unfolding blocksMerged
   merge-written = changed-newly (g .p) (allocationOf (m .start)) (usedIn (m .finish)) (placesOf (m .written)) (f .changed) ∙ f .takes-each
@@ -128,7 +128,7 @@ module _ (g : Geometry) (e : Store) (m : Merge) (v : Valid g) (f : MergeFacts g 
   pub merge-writes-growth : blocksMerged m ≤ (g .g + 1) * m .window + 1
   merge-writes-growth = omega (arith, merge-writes-most, overlap-growth)
 
-  -- Law 5: after its step 5 level h is within K(h)
+  -- After its step 5 level h is within K(h)
   pub merge-bottom : Entry g e → length (blocksOf g (g .h) (afterMerge m)) ≤ capacityOf g (g .h)
   merge-bottom t = inside-bottom g e (afterMerge m) (f .five .inside) v t (f .after-ruled)
 
@@ -136,7 +136,7 @@ module _ (g : Geometry) (e : Store) (m : Merge) (v : Valid g) (f : MergeFacts g 
   pub merge-lists : (j : ℕ) → (length (getD (m .start .levels) j []) ≤ 2 * capacityOf g (suc j)) × (length (getD (m .finish .levels) j []) ≤ 2 * capacityOf g (suc j)) × (length (getD (afterMerge m .levels) j []) ≤ 2 * capacityOf g (suc j))
   merge-lists j = (f .start-inside .doubled j, f .finish-inside .doubled j, f .five .inside .doubled j)
 
-  -- Law 6: each block written takes the first free place after the cursor
+  -- Each block written takes the first free place after the cursor
   pub merge-takes : Takes (g .p) (allocationOf (m .start)) (placesOf (m .written))
   merge-takes = f .changed .takes
 
@@ -153,7 +153,7 @@ module _ (g : Geometry) (e : Store) (m : Merge) (v : Valid g) (f : MergeFacts g 
   merge-ruled zero l = absurd (omega arith)
   merge-ruled (suc j) l = f .after-ruled j
 
-  -- Law 1: a merge leaves the map
+  -- A merge leaves the map
   pub merge-map : mapOf (rows (afterMerge m)) ≡ mapOf (rows (m .start))
   merge-map = same-map (rows (afterMerge m)) (rows (m .start)) (f .five .inside .sorted) (f .start-inside .sorted) (λ k. f .five .inside .looks k ∙ sym (f .start-inside .looks k))
 

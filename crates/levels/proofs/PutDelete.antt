@@ -253,7 +253,7 @@ module _ (g : Geometry) (s : Store) (v : Valid g) (f : Fits g s) (o : Sound g s)
   pub delete-facts : (k : ℕ) (was : Bool) (ms : List Merge) (t : Store) → delete g s k ≡ entered was ms t → (was ≡ true) × EnterFacts g s (deleteRec k) was (s .live - 1) ms t
   delete-facts k was ms t e = subst (DeleteSays g s k) e (delete-says k)
 
-  -- Law 1, demand 2: the merges of a call leave the map
+  -- Demand 2: the merges of a call leave the map
   pub call-map : (k : ℕ) → mapOf (rows (afterMerges s (mergesFor g s k))) ≡ mapOf (rows s)
   call-map k = list-map g s s (mergesFor g s k) (entry-of g s v f o) (call-facts g s v f o k)
 
@@ -291,14 +291,14 @@ module _ (g : Geometry) (s : Store) (v : Valid g) (f : Fits g s) (o : Sound g s)
       let d = delete-facts k was ms t e in
       count-without (rows s) (rows t) sorted-here (d .1 .sorted) k (d .1 .was-live ∙ d .0) (delete-map k was ms t e)
 
-  -- Law 2: the store passes the form check again
+  -- The store passes the form check again
   pub put-sound : (k p : ℕ) (was : Bool) (ms : List Merge) (t : Store) → put g s k p ≡ entered was ms t → Fits g t × Sound g t
   put-sound k p was ms t e = let d = put-facts k p was ms t e in (d .fits, d .sound)
 
   pub delete-sound : (k : ℕ) (was : Bool) (ms : List Merge) (t : Store) → delete g s k ≡ entered was ms t → Fits g t × Sound g t
   delete-sound k was ms t e = let d = delete-facts k was ms t e .1 in (d .fits, d .sound)
 
-  -- Law 9: "A put is turned down as full only for a new key when the map holds its stated limit", and then it is
+  -- "A put is turned down as full only for a new key when the map holds its stated limit", and then it is
   pub put-refused : (k p : ℕ) → (put g s k p ≡ refused 5 → (isLive k (rows s) ≡ false) × (s .live ≡ keyLimitOf g)) × ((isLive k (rows s) ≡ false) × (s .live ≡ keyLimitOf g) → put g s k p ≡ refused 5)
   put-refused k p = (
     (λ e. let d = subst (PutSays g s k p) e (put-says k p) in (d .1, d .2)),

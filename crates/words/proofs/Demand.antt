@@ -157,7 +157,7 @@ delete-case g ws k p (entered was ms t) h =
     subst (λ (o : Option Own). Demand g ws o ms (changeOutcome g ws (entered was ms t) .answer) (changeOutcome g ws (entered was ms t) .words)) (sym q)
     (entered-demand g ws (deleteRec k) was (storeAt g ws .live - 1) ms t p (h .1))
 
--- Law 8, demand 3, of every put on words that pass the form check.
+-- Demand 3, of every put on words that pass the form check.
 pub put-demand : (ws : List ℕ) (k v : ℕ) → reasonOf ws ≡ 0
     → let g = geometryAt ws in let s = storeAt g ws in Demand g ws (ownPut g s k v) (mergesOf (put g s k v)) (putOf ws k v .answer) (putOf ws k v .words)
 put-demand ws k v e =

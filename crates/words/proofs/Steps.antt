@@ -83,7 +83,7 @@ pub delete-of : (ws : List ℕ) (k : ℕ) → reasonOf ws ≡ 0 → deleteOf ws 
 unfolding deleteOf
 delete-of ws k e = rw (eq-eqb (reasonOf ws) 0 e, deleteOf)
 
--- Law 2 on words: what a put leaves passes the form check, so refusal 4 never follows from our own calls.
+-- What a put leaves passes the form check, so refusal 4 never follows from our own calls.
 pub put-passes : (ws : List ℕ) (k v : ℕ) → reasonOf ws ≡ 0 → reasonOf (putOf ws k v .words) ≡ 0
 unfolding changeOutcome
 put-passes ws k v e =
