@@ -1,10 +1,8 @@
 -- Document 01, "Call list program": what a line does to the store and what is printed for it.
-use Prim.Native.Nat.{ℕ, _+_, _≤_}
-use mathlib.Core.Path.{_≡_}
+use Prim.Native.Nat.{ℕ, _+_}
 use mathlib.Core.Bool.{true, false}
 use mathlib.Core.List.{List}
 use lib.Dec.{leb}
-use lib.ListN.{length, take}
 use Rattle.geometry.specs.declared.Geometry.{Geometry}
 use Rattle.geometry.specs.Geometry.{isLegal, storeLength, keyLimitOf}
 use Rattle.words.specs.Layout.{bit}
@@ -18,14 +16,6 @@ use Rattle.lines.specs.Lines.{formatLine, getLine, changeLine, unreadableLine}
 pub record Said : Type 0 where
   pub store : List ℕ
   pub bytes : List ℕ
-
--- A line has been answered: n of the words are the store then, and the first r bytes are to be printed.
-pub record Replied (s : Said) (n r : ℕ) (words out : List ℕ) : Type 0 where
-  pub fits : n ≤ 16384
-  pub inside : r ≤ length out
-  pub count : r ≡ length (take r out)
-  pub store : take n words ≡ s .store
-  pub printed : take r out ≡ s .bytes
 
 -- "for f N (0 if refused)"
 abbrev pub formattedLine : FormatAnswer → List ℕ

@@ -1,0 +1,3 @@
+pub mod Said
+pub mod Dialogue
+pub mod State
