@@ -63,3 +63,15 @@ endedOn ws (x ∷ xs) = saidOf ws (lineOf (x ∷ xs))
 
 abbrev pub ended : Session → Said
 ended s = endedOn (s .store) (s .begun)
+
+-- The parts of the input in the order in which they come, each from the session that the part before it left.
+unfoldable pub heardParts : Session → List (List ℕ) → Heard
+heardParts s [] = record { session = s; bytes = [] }
+heardParts s (p ∷ ps) = let h = heard s p in after (h .bytes) (heardParts (h .session) ps)
+
+-- What the program prints for the parts and then at the end of the input, and the store that it ends with.
+unfoldable pub inParts : List (List ℕ) → Said
+inParts ps =
+    let h = heardParts opening ps in
+    let e = ended (h .session) in
+    record { store = e .store; bytes = h .bytes ++ e .bytes }
