@@ -27,6 +27,9 @@ use writer::Changed;
 // The words that the program works on.
 pub const BENCH_WORDS: usize = 16384;
 
+// No answer to a line has more bytes. A line may be one byte, its end, so a part may have as many answers as bytes.
+pub const LONGEST_ANSWER: usize = 46;
+
 // Between two parts of the input: how many words are the store, and how far the line that has begun is read.
 pub struct State {
     words: usize,
