@@ -43,7 +43,7 @@ pub struct Fed {
 }
 
 // What a format takes of the bench's words, or the reason why it takes none.
-pub enum Room {
+enum Room {
     Words(usize),
     Refused(u32),
 }
