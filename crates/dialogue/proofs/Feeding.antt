@@ -11,7 +11,6 @@ use borrow.Author.Tests.{eq-eqb, ne-eqb}
 use Rattle.slices.proofs.Put.{put-none}
 use Rattle.lines.specs.declared.Reading.the-variants.{Start}
 use Rattle.lines.specs.Bytes.{Printed, lineEnd}
-use Rattle.lines.specs.Lines.{lineOf}
 use Rattle.lines.specs.Machine.{step, run, lineAfter, isStart}
 use Rattle.lines.proofs.Laws.{line-is, run-then, run-begun}
 use Rattle.lines.proofs.Print.{printed-then}
@@ -20,7 +19,7 @@ use Rattle.dialogue.specs.declared.Fed.{Fed}
 use Rattle.dialogue.specs.Said.{Said, saidOf}
 use Rattle.dialogue.specs.Dialogue.{Session, Heard, heard, endedOn, ended}
 use Rattle.dialogue.specs.State.{Holds, Feeds, closed}
-use Rattle.dialogue.proofs.Laws.{answerAt, anew, further, heard-end, heard-byte, heard-append}
+use Rattle.dialogue.proofs.Laws.{answerAt, anew, heard-end, heard-byte, heard-append}
 
 -- nothing is printed
 pub printed-none : (xs : List ℕ) (i : ℕ) → i ≤ length xs → Printed xs xs i i []
@@ -31,18 +30,16 @@ said-line : (d : State) (ws : List ℕ) (s : Session) → Holds d ws s → saidO
 said-line d ws s h =
     ap (λ (w : List ℕ). saidOf w (lineAfter (d .reading))) (h .store) ∙ ap (saidOf (s .store)) (ap lineAfter (h .begun) ∙ line-is (s .begun))
 
-answer-feeds : (d : State) (ws : List ℕ) (s : Session) (at : ℕ) (r : Fed) (us before after : List ℕ) → Holds d ws s
-    → Feeds (closed (saidOf (take (d .words) ws) (lineAfter (d .reading)))) at r us before after → Feeds (closed (answerAt s)) at r us before after
-answer-feeds d ws s at r us before after h f = subst (λ (a : Said). Feeds (closed a) at r us before after) (said-line d ws s h) f
-
 -- a line end
+heard-line : (s : Session) (x : ℕ) → x ≡ lineEnd → heard s (x ∷ []) ≡ closed (answerAt s)
+unfolding heard
+heard-line s x e =
+    heard-end s x [] (eq-eqb x lineEnd e) ∙ ap (λ (bs : List ℕ). record { session = anew (answerAt s); bytes = bs }) (append-nil (answerAt s .bytes))
+
 pub end-feeds : (d : State) (ws : List ℕ) (x at : ℕ) (r : Fed) (us before after : List ℕ) → x ≡ lineEnd
     → Feeds (closed (saidOf (take (d .words) ws) (lineAfter (d .reading)))) at r us before after → (s : Session) → Holds d ws s → Feeds (heard s (x ∷ [])) at r us before after
-unfolding heard
 end-feeds d ws x at r us before after e f s h =
-    let a = answerAt s in
-    let q = heard-end s x [] (eq-eqb x lineEnd e) ∙ ap (λ (bs : List ℕ). record { session = anew a; bytes = bs }) (append-nil (a .bytes)) in
-    subst (λ (k : Heard). Feeds k at r us before after) (sym q) (answer-feeds d ws s at r us before after h f)
+    subst (λ (k : Heard). Feeds k at r us before after) (sym (heard-line s x e)) (subst (λ (a : Said). Feeds (closed a) at r us before after) (said-line d ws s h) f)
 
 -- any other byte
 pub byte-feeds : (d : State) (ws : List ℕ) (x at : ℕ) (out : List ℕ) → (x ≡ lineEnd → ⊥) → at ≤ length out
@@ -92,10 +89,12 @@ start-ends d ws out e s h = go (s .begun) (s .store) h
     go (x ∷ xs) st k = absurd (true≢false (sym e ∙ ap isStart (k .begun) ∙ run-begun Start x xs))
 
 pub line-ends : (d : State) (ws : List ℕ) (r : Fed) (us before after : List ℕ) → isStart (d .reading) ≡ false
-    → Feeds (closed (saidOf (take (d .words) ws) (lineAfter (d .reading)))) 0 r us before after → (s : Session) → Holds d ws s → Feeds (closed (ended s)) 0 r us before after
+    → ((s : Session) → Holds d ws s → Feeds (heard s (lineEnd ∷ [])) 0 r us before after) → (s : Session) → Holds d ws s → Feeds (closed (ended s)) 0 r us before after
 unfolding run
 line-ends d ws r us before after e f s h = go (s .begun) (s .store) h
   where
     go : (bs st : List ℕ) → Holds d ws (record { store = st; begun = bs }) → Feeds (closed (endedOn st bs)) 0 r us before after
     go [] st k = absurd (true≢false (sym (ap isStart (k .begun)) ∙ e))
-    go (x ∷ xs) st k = answer-feeds d ws (record { store = st; begun = x ∷ xs }) 0 r us before after k f
+    go (x ∷ xs) st k =
+        let t : Session = record { store = st; begun = x ∷ xs } in
+        subst (λ (m : Heard). Feeds m 0 r us before after) (heard-line t lineEnd refl) (f t k)

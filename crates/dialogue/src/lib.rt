@@ -207,15 +207,14 @@ pub fn feed(words: &mut [u32], d: State, input: &[u8], out: &mut [u8]) -> Fed
     fed
 }
 
-// The end of the input: a last line may lack its line end.
+// The end of the input: a last line may lack its line end, and is answered as if it had come.
 pub fn finish(words: &mut [u32], d: State, out: &mut [u8]) -> Fed
     requires { ⌜ (length (now words) ≡ benchWords) × ((d .words ≤ benchWords) × (longestLine ≤ length (now out))) ⌝ }
     ensures { λ r. ⌜ (r .bytes ≤ length (now (out .entry))) × ((s : Session) → Holds d (now (words .entry)) s → Feeds (closed (ended s)) 0 r (now (words .exit)) (now (out .entry)) (now (out .exit))) ⌝ }
 {
-    let n = d.words;
     let reading = d.reading;
     if reading.is_start() {
         return Fed { state: d, bytes: 0 };
     }
-    answer(words, n, out, 0, reading.line())
+    hear(words, d, b'\n', out, 0)
 }

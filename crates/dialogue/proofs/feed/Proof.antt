@@ -2,7 +2,6 @@ use native.Mathlib.Omega.{arith}
 use Prim.Native.Nat.{_*_, _-_, _≤_}
 use mathlib.Core.Path.{_≡_}
 use lib.ListN.{length}
-use borrow.Author.Needs.{needs}
 use Rattle.lines.specs.Lines.{longestLine}
 use Rattle.dialogue.specs.Bench.{benchWords}
 use Rattle.dialogue.proofs.Feeding.{FedSo, fed-none, fed-more, fed-all}

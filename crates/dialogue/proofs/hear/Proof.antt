@@ -1,7 +1,4 @@
 use native.Mathlib.Omega.{arith}
-use mathlib.Core.Path.{subst}
-use Rattle.lines.specs.declared.Line.{Line}
-use Rattle.lines.specs.declared.Reading.{Reading}
 use Rattle.dialogue.proofs.Feeding.{end-feeds, byte-feeds}
 use borrow.Author.Needs.{needs}
 use Rattle.dialogue.proofs.hear.Statement.{statement}
