@@ -3,12 +3,10 @@ use Prim.Native.Nat.{ℕ, _+_, _-_, _*_, _≤_, _<_}
 use mathlib.Core.Path.{_≡_, refl, sym}
 use mathlib.Core.Bool.{Bool, true, false, _&&_, _||_, and-eq-true-iff, and-false}
 use mathlib.Core.List.{List, [], _∷_, _++_, map, append-assoc}
-use native.Mathlib.Numerals.{add-one}
 use native.Mathlib.Omega.{arith}
 use borrow.Author.Tests.{ltb-true, ltb-false, leb-true, lt-ltb, le-ltb, ne-eqb}
 use lib.Dec.{ltb, eqb}
-use lib.ListN.{length, getD, drop, length-append, drop-of-length-le}
-use lib.Seq.{drop-cons}
+use lib.ListN.{length, length-append}
 use Rattle.lines.specs.declared.Line.{Line}
 use Rattle.lines.specs.declared.Line.the-variants.{Unreadable}
 use Rattle.lines.specs.declared.Numbers.{Numbers}
@@ -16,12 +14,7 @@ use Rattle.lines.specs.declared.Reading.{Reading}
 use Rattle.lines.specs.declared.Reading.the-variants.{Start, Letter, Space, Digits, Spoiled}
 use Rattle.lines.specs.Bytes.{digitNine, space, letterD, letterF, letterP, isDigit, if_then_else_, every}
 use Rattle.lines.specs.Lines.{firstField, furtherFields, valueFrom, valueOf, wordLimit, isNumber, spoken, named, lineOf}
-use Rattle.lines.specs.Machine.{noNumbers, pushed, isLetter, afterStart, afterLetter, afterSpace, grown, afterDigits, step, said, lineAfter}
-
--- the bytes of a line, first to last
-unfoldable pub run : Reading → List ℕ → Reading
-run r [] = r
-run r (x ∷ xs) = run (step r x) xs
+use Rattle.lines.specs.Machine.{noNumbers, pushed, isLetter, afterStart, afterLetter, afterSpace, grown, afterDigits, step, run, said, lineAfter, isStart}
 
 -- small facts of tests
 pub if-same : {A : Type 0} (t : Bool) (a : A) → (if t then a else a) ≡ a
@@ -36,6 +29,11 @@ pub or-right-no : (s t : Bool) → (s || t) ≡ false → t ≡ false
 or-right-no true true e = e
 or-right-no true false e = refl
 or-right-no false t e = e
+
+-- what holds of both branches
+if-either : {A : Type 0} (P : A → Type 0) (t : Bool) (a b : A) → P a → P b → P (if t then a else b)
+if-either P true a b p q = p
+if-either P false a b p q = q
 
 -- a digit is at least 48, and so no space
 pub digit-low : (x : ℕ) → isDigit x ≡ true → 48 ≤ x
@@ -368,11 +366,24 @@ line-is (x ∷ xs) = go (isLetter x) refl
     go true e = rw (run-cons, after-start-letter x e) (letter-line x (letter-no-space x e) xs)
     go false e = rw (run-cons, after-start-other x e, spoiled-line xs, other-line x xs e)
 
--- The same over a slice, by index: one byte more, and the end.
-pub run-more : (r : Reading) (s : List ℕ) (i : ℕ) → i < length s → run r (drop i s) ≡ run (step r (getD s i 0)) (drop (i + 1) s)
+-- one byte more at the end
+pub run-then : (r : Reading) (xs : List ℕ) (x : ℕ) → run r (xs ++ (x ∷ [])) ≡ step (run r xs) x
 unfolding run
-run-more r s i h = rw (add-one i, drop-cons s i 0 h)
+run-then r [] x = refl
+run-then r (y ∷ xs) x = run-then (step r y) xs x
 
-pub run-end : (r : Reading) (s : List ℕ) (i : ℕ) → length s ≤ i → run r (drop i s) ≡ r
+-- a line that has begun does not go back to its start
+step-begun : (r : Reading) (x : ℕ) → isStart (step r x) ≡ false
+unfolding step afterStart afterLetter afterSpace afterDigits grown
+step-begun Start x = if-either (λ r. isStart r ≡ false) (isLetter x) _ _ refl refl
+step-begun (Letter letter) x = if-either (λ r. isStart r ≡ false) (eqb x space) _ _ refl refl
+step-begun (Space letter ns) x = if-either (λ r. isStart r ≡ false) (ltb (ns .count) 6 && isDigit x) _ _ refl refl
+step-begun (Digits letter ns) x =
+    if-either (λ r. isStart r ≡ false) (eqb x space) _ _ refl
+    (if-either (λ r. isStart r ≡ false) (isDigit x) _ _ (if-either (λ r. isStart r ≡ false) (ltb (ns .n1 * 10 + (x - 48)) wordLimit) _ _ refl refl) refl)
+step-begun Spoiled x = refl
+
+pub run-begun : (r : Reading) (x : ℕ) (xs : List ℕ) → isStart (run r (x ∷ xs)) ≡ false
 unfolding run
-run-end r s i h = rw (drop-of-length-le s h)
+run-begun r x [] = step-begun r x
+run-begun r x (y ∷ xs) = run-begun (step r x) y xs

@@ -1,14 +1,11 @@
 -- Laws of printing: bytes put one after the other are the whole line.
 use Prim.Native.Nat.{ℕ, _+_, _≤_, _<_}
-use mathlib.Core.Path.{_≡_, refl, sym, _∙_}
+use mathlib.Core.Path.{_≡_, refl, _∙_}
 use mathlib.Core.List.{List, [], _∷_, _++_}
-use native.Mathlib.Nat.{zero-add}
 use native.Mathlib.Omega.{arith}
-use lib.ListN.{length, drop, set, length-append, length-set}
-use lib.Seq.{take-at, length-take-le}
-use Rattle.slices.specs.Slices.{putAt}
-use Rattle.slices.proofs.Put.{put-length, put-drop, put-join, set-put}
-use Rattle.lines.specs.Bytes.{Printed, Filled}
+use lib.ListN.{length, set, length-append, length-set}
+use Rattle.slices.proofs.Put.{put-length, put-join, set-put}
+use Rattle.lines.specs.Bytes.{Printed}
 
 -- one byte is printed by setting it
 pub printed-one : (xs : List ℕ) (i b : ℕ) → i < length xs → Printed xs (set xs i b) i (i + 1) (b ∷ [])
@@ -24,23 +21,10 @@ printed-then xs ys zs i j k bs cs p q =
       words = q .words ∙ rw (p .words, p .ends) (put-join i bs cs xs (omega arith));
     }
 
--- what is printed from the start on stands there, and nothing else changed
-pub printed-filled : (xs ys : List ℕ) (r : ℕ) (bs : List ℕ) → Printed xs ys 0 r bs → Filled xs ys r bs
-unfolding putAt
-printed-filled xs ys r bs p =
-    let e : r ≡ length bs = omega arith in
-    let l : length ys ≡ length xs = rw (p .words) (put-length 0 bs xs (omega arith)) in
-    let i : r ≤ length ys = omega arith in
-    record {
-      inside = i;
-      count = sym (length-take-le r ys i);
-      front = rw (p .words, zero-add (length bs)) (take-at bs (drop (length bs) xs) r (sym e));
-      back = rw (p .words) (put-drop 0 r bs xs (omega arith) (omega arith));
-    }
-
 -- two bytes, the start of a line with a letter
-pub printed-pair : (xs : List ℕ) (a b : ℕ) → 2 ≤ length xs → Printed xs (set (set xs 0 a) 1 b) 0 2 (a ∷ b ∷ [])
-printed-pair xs a b h =
-    let p : Printed xs (set xs 0 a) 0 1 (a ∷ []) = printed-one xs 0 a (omega arith) in
-    let l : 1 < length (set xs 0 a) = simp length-set (omega arith) in
-    printed-then xs (set xs 0 a) (set (set xs 0 a) 1 b) 0 1 2 (a ∷ []) (b ∷ []) p (printed-one (set xs 0 a) 1 b l)
+pub printed-pair : (xs : List ℕ) (i a b : ℕ) → i + 2 ≤ length xs → Printed xs (set (set xs i a) (i + 1) b) i (i + 2) (a ∷ b ∷ [])
+printed-pair xs i a b h =
+    let p : Printed xs (set xs i a) i (i + 1) (a ∷ []) = printed-one xs i a (omega arith) in
+    let l : i + 1 < length (set xs i a) = simp length-set (omega arith) in
+    let e : i + 1 + 1 ≡ i + 2 = omega arith in
+    rw e at (printed-then xs (set xs i a) (set (set xs i a) (i + 1) b) i (i + 1) (i + 1 + 1) (a ∷ []) (b ∷ []) p (printed-one (set xs i a) (i + 1) b l))

@@ -6,7 +6,7 @@ use Prim.Native.String.{String, [] as ε, _∷_ as _▸_}
 use mathlib.Core.Bool.{Bool, true, false, _&&_}
 use mathlib.Core.List.{List, [], _∷_}
 use lib.Dec.{leb}
-use lib.ListN.{length, take, drop}
+use lib.ListN.{length}
 use Rattle.slices.specs.Slices.{putAt}
 
 abbrev pub lineEnd : ℕ
@@ -55,14 +55,6 @@ pub record Printed (before after : List ℕ) (i r : ℕ) (bs : List ℕ) : Type 
   pub ends : r ≡ i + length bs
   pub inside : r ≤ length before
   pub words : after ≡ putAt i bs before
-
--- The first r bytes are bs now, and the others are as they were. The first two facts follow from r's being the length of bs;
--- they are stated because a caller that hands on `&out[..r]` is asked for them.
-pub record Filled (before after : List ℕ) (r : ℕ) (bs : List ℕ) : Type 0 where
-  pub inside : r ≤ length after
-  pub count : r ≡ length (take r after)
-  pub front : take r after ≡ bs
-  pub back : drop r after ≡ drop r before
 
 -- a quoted text as bytes, for the computed cases
 unfoldable pub bytes : String → List ℕ

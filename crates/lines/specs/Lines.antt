@@ -73,6 +73,10 @@ decimal n = decimalWithin n n
 unfoldable pub field : ℕ → ℕ → List ℕ
 field n after = decimal n ++ (after ∷ [])
 
+-- No line is longer: a letter, a space, and four numbers of at most ten digits with a byte after each.
+abbrev pub longestLine : ℕ
+longestLine = 46
+
 -- "Each line prints: letter, refusal number or 0, then for f N (0 if refused)"; reading 23: with a line end
 unfoldable pub formatLine : ℕ → ℕ → List ℕ
 formatLine reason limit = letterF ∷ space ∷ (field reason space ++ field limit lineEnd)

@@ -2,6 +2,7 @@
 -- `Lines.lineOf`, the law `line-is` of `proofs/Laws.antt`.
 use Prim.Native.Nat.{ℕ, _+_, _-_, _*_}
 use mathlib.Core.Bool.{Bool, true, false, _&&_, _||_}
+use mathlib.Core.List.{List, [], _∷_}
 use lib.Dec.{ltb, eqb}
 use Rattle.lines.specs.declared.Line.{Line}
 use Rattle.lines.specs.declared.Line.the-variants.{Format, Put, Delete, Get, Unreadable}
@@ -50,6 +51,11 @@ step (Letter letter) x = afterLetter letter x
 step (Space letter ns) x = afterSpace letter ns x
 step (Digits letter ns) x = afterDigits letter ns x
 step Spoiled x = Spoiled
+
+-- the bytes of a line, first to last
+unfoldable pub run : Reading → List ℕ → Reading
+run r [] = r
+run r (x ∷ xs) = run (step r x) xs
 
 -- what a letter says with the numbers held
 unfoldable pub said : ℕ → Numbers → Line

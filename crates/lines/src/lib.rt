@@ -4,8 +4,8 @@ ghost use mathlib.Core.Path.{_≡_};
 ghost use Prim.Native.Nat.{_+_, _-_, _*_, _≤_, _<_};
 ghost use mathlib.Core.List.{[], _∷_};
 ghost use lib.ListN.{length};
-ghost use Rattle.lines.specs.Bytes.{isDigit, Printed, Filled};
-ghost use Rattle.lines.specs.Lines.{lineOf, decimal, field, formatLine, getLine, changeLine, unreadableLine};
+ghost use Rattle.lines.specs.Bytes.{isDigit, Printed};
+ghost use Rattle.lines.specs.Lines.{longestLine, decimal, field, formatLine, getLine, changeLine, unreadableLine};
 ghost use Rattle.lines.specs.Machine.{noNumbers, pushed, relast, isLetter, afterStart, afterLetter, afterSpace, grown, afterDigits, step, said, lineAfter, isStart};
 
 // What a line says.
@@ -244,18 +244,6 @@ impl Reading {
     }
 }
 
-// What a whole line says.
-pub fn read_line(s: &[u8]) -> Line
-    ensures { λ r. ⌜ r ≡ lineOf (now (s .entry)) ⌝ }
-{
-    let mut reading = Reading::start();
-    for i in 0..s.len() {
-        let byte = s[i];
-        reading = reading.take(byte);
-    }
-    reading.line()
-}
-
 // Writes the digits of n from place `at` on and answers the place after them. The digits before the last are those of
 // n / 10 and are written first, so that none has to be counted or turned round.
 pub fn print_number(out: &mut [u8], at: usize, n: u32) -> usize
@@ -282,29 +270,31 @@ fn print_field(out: &mut [u8], at: usize, n: u32, after: u8) -> usize
 }
 
 // The two bytes that a line begins with.
-fn print_pair(out: &mut [u8], a: u8, b: u8) -> usize
-    requires { ⌜ 2 ≤ length (now out) ⌝ }
-    ensures { λ r. ⌜ (r ≤ 2) × Printed (now (out .entry)) (now (out .exit)) 0 r (a ∷ b ∷ []) ⌝ }
+fn print_pair(out: &mut [u8], at: usize, a: u8, b: u8) -> usize
+    requires { ⌜ at + 2 ≤ length (now out) ⌝ }
+    ensures { λ r. ⌜ (r ≤ at + 2) × Printed (now (out .entry)) (now (out .exit)) at r (a ∷ b ∷ []) ⌝ }
 {
-    out[0] = a;
-    out[1] = b;
-    2
+    out[at] = a;
+    out[at + 1] = b;
+    at + 2
 }
 
-// The line for f, from the buffer's start; the answer is its length.
-pub fn print_format(out: &mut [u8; 64], reason: u32, limit: u32) -> usize
-    ensures { λ r. ⌜ Filled (now (out .entry)) (now (out .exit)) r (formatLine reason limit) ⌝ }
+// The line for f, from place `at` on; the answer is the place after it. A caller leaves room for the longest line there is.
+pub fn print_format(out: &mut [u8], at: usize, reason: u32, limit: u32) -> usize
+    requires { ⌜ at + longestLine ≤ length (now out) ⌝ }
+    ensures { λ r. ⌜ (r ≤ at + longestLine) × Printed (now (out .entry)) (now (out .exit)) at r (formatLine reason limit) ⌝ }
 {
-    let a = print_pair(out, b'f', b' ');
+    let a = print_pair(out, at, b'f', b' ');
     let b = print_field(out, a, reason, b' ');
     print_field(out, b, limit, b'\n')
 }
 
 // The line for g.
-pub fn print_get(out: &mut [u8; 64], reason: u32, found: u32, payload: u32) -> usize
-    ensures { λ r. ⌜ Filled (now (out .entry)) (now (out .exit)) r (getLine reason found payload) ⌝ }
+pub fn print_get(out: &mut [u8], at: usize, reason: u32, found: u32, payload: u32) -> usize
+    requires { ⌜ at + longestLine ≤ length (now out) ⌝ }
+    ensures { λ r. ⌜ (r ≤ at + longestLine) × Printed (now (out .entry)) (now (out .exit)) at r (getLine reason found payload) ⌝ }
 {
-    let a = print_pair(out, b'g', b' ');
+    let a = print_pair(out, at, b'g', b' ');
     let b = print_field(out, a, reason, b' ');
     let c = print_field(out, b, found, b' ');
     print_field(out, c, payload, b'\n')
@@ -312,16 +302,18 @@ pub fn print_get(out: &mut [u8; 64], reason: u32, found: u32, payload: u32) -> u
 
 // The line for p and d, as `letter` says.
 pub fn print_change(
-    out: &mut [u8; 64],
+    out: &mut [u8],
+    at: usize,
     letter: u8,
     reason: u32,
     live: u32,
     merged: u32,
     compacted: u32,
 ) -> usize
-    ensures { λ r. ⌜ Filled (now (out .entry)) (now (out .exit)) r (changeLine letter reason live merged compacted) ⌝ }
+    requires { ⌜ at + longestLine ≤ length (now out) ⌝ }
+    ensures { λ r. ⌜ (r ≤ at + longestLine) × Printed (now (out .entry)) (now (out .exit)) at r (changeLine letter reason live merged compacted) ⌝ }
 {
-    let a = print_pair(out, letter, b' ');
+    let a = print_pair(out, at, letter, b' ');
     let b = print_field(out, a, reason, b' ');
     let c = print_field(out, b, live, b' ');
     let d = print_field(out, c, merged, b' ');
@@ -329,8 +321,9 @@ pub fn print_change(
 }
 
 // The line for an unreadable line.
-pub fn print_unreadable(out: &mut [u8; 64]) -> usize
-    ensures { λ r. ⌜ Filled (now (out .entry)) (now (out .exit)) r unreadableLine ⌝ }
+pub fn print_unreadable(out: &mut [u8], at: usize) -> usize
+    requires { ⌜ at + longestLine ≤ length (now out) ⌝ }
+    ensures { λ r. ⌜ (r ≤ at + longestLine) × Printed (now (out .entry)) (now (out .exit)) at r unreadableLine ⌝ }
 {
-    print_pair(out, b'?', b'\n')
+    print_pair(out, at, b'?', b'\n')
 }

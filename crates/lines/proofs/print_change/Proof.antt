@@ -1,5 +1,6 @@
+use native.Mathlib.Omega.{arith}
 use Rattle.lines.specs.Lines.{changeLine}
-use Rattle.lines.proofs.Print.{printed-then, printed-filled}
+use Rattle.lines.proofs.Print.{printed-then}
 use borrow.Author.Needs.{needs}
 use Rattle.lines.proofs.print_change.Statement.{statement}
 use Rattle.lines.proofs.print_change.Tie as tie
@@ -8,36 +9,33 @@ use Rattle.lines.proofs.print_change.Lts as lts
 use Rattle.lines.proofs.print_field.Reads as print-field-reads
 use Rattle.lines.proofs.print_pair.Reads as print-pair-reads
 
--- src/lib.rt:319:9
 print-pair-requires : tie.Need-print-pair-requires
 print-pair-requires c κs = search needs
 
--- src/lib.rt:320:9
 print-field-requires : tie.Need-print-field-requires
 print-field-requires c κs = search needs
 
--- src/lib.rt:321:9
 print-field-requires-2 : tie.Need-print-field-requires-2
 print-field-requires-2 c κs = search needs
 
--- src/lib.rt:322:9
 print-field-requires-3 : tie.Need-print-field-requires-3
 print-field-requires-3 c κs = search needs
 
--- src/lib.rt:323:5
 print-field-requires-4 : tie.Need-print-field-requires-4
 print-field-requires-4 c κs = search needs
 
--- src/lib.rt:309:1
+same-length : tie.Need-same-length
+same-length c = search needs
+
 returns : tie.Need-returns
 unfolding changeLine
 returns c =
-    let l = c .before .before .before .before .before .before .before .before .print-pair .ensures .1 in
-    let f1 = c .before .before .before .before .before .before .print-field .ensures .1 in
-    let f2 = c .before .before .before .before .print-field2 .ensures .1 in
-    let f3 = c .before .before .print-field3 .ensures .1 in
-    let f4 = c .print-field4 .ensures .1 in
-    printed-filled _ _ _ _ (printed-then _ _ _ _ _ _ _ _ l (printed-then _ _ _ _ _ _ _ _ f1 (printed-then _ _ _ _ _ _ _ _ f2 (printed-then _ _ _ _ _ _ _ _ f3 f4))))
+    let l = c .before .before .before .before .before .before .before .before .before .before .before .before .before .before .before .before .before .before .print-pair .ensures in
+    let f1 = c .before .before .before .before .before .before .before .before .before .before .before .before .before .before .print-field .ensures in
+    let f2 = c .before .before .before .before .before .before .before .before .before .before .print-field2 .ensures in
+    let f3 = c .before .before .before .before .before .before .print-field3 .ensures in
+    let f4 = c .before .before .print-field4 .ensures in
+    (omega arith, printed-then _ _ _ _ _ _ _ _ (l .1) (printed-then _ _ _ _ _ _ _ _ (f1 .1) (printed-then _ _ _ _ _ _ _ _ (f2 .1) (printed-then _ _ _ _ _ _ _ _ (f3 .1) (f4 .1)))))
 
 pub print-change-spec : {M : Type 1} → statement M
 print-change-spec =
@@ -48,4 +46,5 @@ print-change-spec =
     print-field-requires-2
     print-field-requires-3
     print-field-requires-4
+    same-length
     returns)

@@ -1,8 +1,8 @@
 use borrow.Author.Needs.{needs}
-use Rattle.calls.proofs.print_looked.Statement.{statement}
-use Rattle.calls.proofs.print_looked.Tie as tie
-use Rattle.calls.proofs.print_looked.Reads as reads
-use Rattle.calls.proofs.print_looked.Lts as lts
+use Rattle.dialogue.proofs.print_looked.Statement.{statement}
+use Rattle.dialogue.proofs.print_looked.Tie as tie
+use Rattle.dialogue.proofs.print_looked.Reads as reads
+use Rattle.dialogue.proofs.print_looked.Lts as lts
 use Rattle.lines.proofs.print_get.Reads as print-get-reads
 
 enum-known-l : tie.Need-enum-known-l
@@ -23,14 +23,23 @@ enum-known-l-2 c = search needs
 print-get-requires-3 : tie.Need-print-get-requires-3
 print-get-requires-3 c κs = search needs
 
+same-length : tie.Need-same-length
+same-length c = search needs
+
 returns : tie.Need-returns
-returns c = rw (c .before .before .before .l .given .1) (c .print-get .ensures)
+returns c = rw (c .before .before .before .before .before .l .given .1) (c .before .before .print-get .ensures)
+
+same-length-2 : tie.Need-same-length-2
+same-length-2 c = search needs
 
 returns-2 : tie.Need-returns-2
-returns-2 c = rw (c .before .before .enum-told .given .1) (c .print-get2 .ensures)
+returns-2 c = rw (c .before .before .before .before .enum-told .given .1) (c .before .before .print-get2 .ensures)
+
+same-length-3 : tie.Need-same-length-3
+same-length-3 c = search needs
 
 returns-3 : tie.Need-returns-3
-returns-3 c = rw (c .before .before .before .l2 .given .1) (c .print-get3 .ensures)
+returns-3 c = rw (c .before .before .before .before .before .l2 .given .1) (c .before .before .print-get3 .ensures)
 
 pub print-looked-spec : {M : Type 1} → statement M
 print-looked-spec =
@@ -42,6 +51,9 @@ print-looked-spec =
     print-get-requires-2
     enum-known-l-2
     print-get-requires-3
+    same-length
     returns
+    same-length-2
     returns-2
+    same-length-3
     returns-3)
