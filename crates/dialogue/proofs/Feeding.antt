@@ -88,13 +88,13 @@ start-ends d ws out e s h = go (s .begun) (s .store) h
     go [] st k = record { session = k; output = printed-none out 0 (omega arith) }
     go (x ∷ xs) st k = absurd (true≢false (sym e ∙ ap isStart (k .begun) ∙ run-begun Start x xs))
 
-pub line-ends : (d : State) (ws : List ℕ) (r : Fed) (us before after : List ℕ) → isStart (d .reading) ≡ false
-    → ((s : Session) → Holds d ws s → Feeds (heard s (lineEnd ∷ [])) 0 r us before after) → (s : Session) → Holds d ws s → Feeds (closed (ended s)) 0 r us before after
+pub line-ends : (d : State) (ws : List ℕ) (x : ℕ) (r : Fed) (us before after : List ℕ) → isStart (d .reading) ≡ false
+    → ((s : Session) → Holds d ws s → Feeds (heard s (x ∷ [])) 0 r us before after) → x ≡ lineEnd → (s : Session) → Holds d ws s → Feeds (closed (ended s)) 0 r us before after
 unfolding run
-line-ends d ws r us before after e f s h = go (s .begun) (s .store) h
+line-ends d ws x r us before after e f q s h = go (s .begun) (s .store) h
   where
     go : (bs st : List ℕ) → Holds d ws (record { store = st; begun = bs }) → Feeds (closed (endedOn st bs)) 0 r us before after
     go [] st k = absurd (true≢false (sym (ap isStart (k .begun)) ∙ e))
-    go (x ∷ xs) st k =
-        let t : Session = record { store = st; begun = x ∷ xs } in
-        subst (λ (m : Heard). Feeds m 0 r us before after) (heard-line t lineEnd refl) (f t k)
+    go (b ∷ bs) st k =
+        let t : Session = record { store = st; begun = b ∷ bs } in
+        subst (λ (m : Heard). Feeds m 0 r us before after) (heard-line t x q) (f t k)

@@ -30,5 +30,6 @@ pub record Feeds (h : Heard) (at : ℕ) (r : Fed) (words before after : List ℕ
 abbrev pub closed : Said → Heard
 closed a = record { session = record { store = a .store; begun = [] }; bytes = a .bytes }
 
+-- The same as the code holds it: the store is n words, and the place behind the answer is `end`.
 abbrev pub answeredAs : ℕ → ℕ → Fed
 answeredAs n end = record { state = record { words = n; reading = Start }; bytes = end }
