@@ -7,17 +7,17 @@ use mathlib.Core.Bool.{Bool, _&&_}
 use mathlib.Core.List.{List, [], _∷_, _++_}
 use Rattle.levels.specs.Basics.{if_then_else_}
 use Rattle.levels.specs.Bench.{sameNumbers}
-use Rattle.words.specs.Bench.{perform}
+use Rattle.words.specs.Bench.{computed}
 use Rattle.lines.specs.Bytes.{bytes}
 use Rattle.lines.specs.Lines.{firstField, furtherFields, valueFrom, spoken, named, lineOf, decimalWithin, decimal, field, formatLine, getLine, changeLine, unreadableLine}
 use Rattle.dialogue.specs.Said.{Said, formatSaid}
 use Rattle.dialogue.specs.Dialogue.{linesOf, answersTo, dialogue}
 
--- `perform` opens the definitions of the calls with all that they name
-unfoldable pub computed : List ℕ → Said
+-- the dialogue, computed; `computed` opens the definitions of the calls with all that they name
+unfoldable pub heardWhole : List ℕ → Said
 unfolding
-    perform firstField furtherFields valueFrom spoken named lineOf decimalWithin decimal field formatLine getLine changeLine unreadableLine formatSaid linesOf answersTo dialogue
-computed input = dialogue input
+    computed firstField furtherFields valueFrom spoken named lineOf decimalWithin decimal field formatLine getLine changeLine unreadableLine formatSaid linesOf answersTo dialogue
+heardWhole input = dialogue input
 
 -- What is printed for an input, whole; or lines that another line leaves the store of as it was, its length too.
 pub data Case : Type 0 where
@@ -25,9 +25,9 @@ pub data Case : Type 0 where
   keeps : String → String → String → Case
 
 unfoldable pub holds : Case → Bool
-unfolding computed bytes
-holds (prints name input output) = sameNumbers (computed (bytes input) .bytes) (bytes output)
-holds (keeps name lines line) = sameNumbers (computed (bytes lines ++ bytes line) .store) (computed (bytes lines) .store)
+unfolding heardWhole bytes
+holds (prints name input output) = sameNumbers (heardWhole (bytes input) .bytes) (bytes output)
+holds (keeps name lines line) = sameNumbers (heardWhole (bytes lines ++ bytes line) .store) (heardWhole (bytes lines) .store)
 
 abbrev pub nameOf : Case → String
 nameOf (prints name input output) = name

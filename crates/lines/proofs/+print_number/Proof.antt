@@ -28,42 +28,36 @@ print-number-below t =
     (falls 1 print-number-kinds.ps _<_ μ-print-number t)
     print-number.Pre
 
--- src/lib.rt:261:26
 print-number-cast-out : (t : ℕ) → print-number-lts.Need-cast-out (
   print-number-below t,
   print-number.Post,
 ) (print-number-at t) print-number.Post
 print-number-cast-out t c = search needs
 
--- src/lib.rt:261:19
 print-number-add-out : (t : ℕ) → print-number-lts.Need-add-out (
   print-number-below t,
   print-number.Post,
 ) (print-number-at t) print-number.Post
 print-number-add-out t c = search needs
 
--- src/lib.rt:261:9
 print-number-slice-write-out : (t : ℕ) → print-number-lts.Need-slice-write-out (
   print-number-below t,
   print-number.Post,
 ) (print-number-at t) print-number.Post
 print-number-slice-write-out t c = omega (arith, length-small _ (c .if1 .taken))
 
--- src/lib.rt:262:16
 print-number-add-result : (t : ℕ) → print-number-lts.Need-add-result (
   print-number-below t,
   print-number.Post,
 ) (print-number-at t) print-number.Post
 print-number-add-result t c = omega (arith, length-small _ (c .if1 .taken))
 
--- src/lib.rt:262:9
 print-number-same-length : (t : ℕ) → print-number-lts.Need-same-length (
   print-number-below t,
   print-number.Post,
 ) (print-number-at t) print-number.Post
 print-number-same-length t c = simp length-set
 
--- src/lib.rt:262:9
 print-number-returns : (t : ℕ) → print-number-lts.Need-returns (
   print-number-below t,
   print-number.Post,
@@ -72,49 +66,42 @@ print-number-returns t c =
     let l : c .before .before .args .at < length (c .before .before .args .out .now) = omega (arith, length-small _ (c .if1 .taken)) in
     rw (decimal-small _ (c .if1 .taken)) (printed-one _ _ _ l)
 
--- src/lib.rt:264:9
 print-number-print-number-requires : (t : ℕ) → print-number-lts.Need-print-number-requires (
   print-number-below t,
   print-number.Post,
 ) (print-number-at t) print-number.Post
 print-number-print-number-requires t c κs = (omega arith, omega (arith, length-more _ (c .before .if1 .left)))
 
--- src/lib.rt:265:23
 print-number-cast-out-2 : (t : ℕ) → print-number-lts.Need-cast-out-2 (
   print-number-below t,
   print-number.Post,
 ) (print-number-at t) print-number.Post
 print-number-cast-out-2 t c = search needs
 
--- src/lib.rt:265:16
 print-number-add-out-2 : (t : ℕ) → print-number-lts.Need-add-out-2 (
   print-number-below t,
   print-number.Post,
 ) (print-number-at t) print-number.Post
 print-number-add-out-2 t c = search needs
 
--- src/lib.rt:265:5
 print-number-slice-write-out-2 : (t : ℕ) → print-number-lts.Need-slice-write-out-2 (
   print-number-below t,
   print-number.Post,
 ) (print-number-at t) print-number.Post
 print-number-slice-write-out-2 t c = omega (arith, length-more _ (c .before .before .before .before .if1 .left), c .before .before .print-number .kept .0)
 
--- src/lib.rt:266:5
 print-number-add-result-2 : (t : ℕ) → print-number-lts.Need-add-result-2 (
   print-number-below t,
   print-number.Post,
 ) (print-number-at t) print-number.Post
 print-number-add-result-2 t c = omega (arith, length-more _ (c .before .before .before .before .if1 .left))
 
--- src/lib.rt:256:1
 print-number-same-length-2 : (t : ℕ) → print-number-lts.Need-same-length-2 (
   print-number-below t,
   print-number.Post,
 ) (print-number-at t) print-number.Post
 print-number-same-length-2 t c = simp length-set (c .before .before .print-number .kept .0)
 
--- src/lib.rt:256:1
 print-number-returns-2 : (t : ℕ) → print-number-lts.Need-returns-2 (
   print-number-below t,
   print-number.Post,

@@ -11,23 +11,18 @@ use Rattle.lines.proofs.print_field.Reads as reads
 use Rattle.lines.proofs.print_field.Lts as lts
 use Rattle.lines.proofs.print_number.Reads as print-number-reads
 
--- src/lib.rt:274:9
 print-number-requires : tie.Need-print-number-requires
 print-number-requires c κs = omega (arith, decimal-length _ (c .before .before .fits .n .fits))
 
--- src/lib.rt:275:5
 slice-write-out : tie.Need-slice-write-out
 slice-write-out c = omega (arith, decimal-length _ (c .before .before .before .before .before .fits .n .fits), c .before .before .print-number .kept .0)
 
--- src/lib.rt:276:5
 add-result : tie.Need-add-result
 add-result c = search needs
 
--- src/lib.rt:270:1
 same-length : tie.Need-same-length
 same-length c = search needs
 
--- src/lib.rt:270:1
 returns : tie.Need-returns
 unfolding field
 returns c =
