@@ -100,10 +100,10 @@ fn print_changed(out: &mut [u8], at: usize, letter: u8, c: Changed) -> usize
 {
     match c {
         Changed::Refused(n) => lines::print_change(out, at, letter, n, 0, 0, 0),
-        Changed::Done(d) => {
-            let one = d.tally.one;
-            let two = d.tally.two;
-            let three = d.tally.three;
+        Changed::Done(change) => {
+            let one = change.tally.one;
+            let two = change.tally.two;
+            let three = change.tally.three;
             let merged = one.written + two.written + three.written;
             let compacted = one.compacted + two.compacted + three.compacted;
             lines::print_change(
@@ -111,7 +111,7 @@ fn print_changed(out: &mut [u8], at: usize, letter: u8, c: Changed) -> usize
                 at,
                 letter,
                 0,
-                flag(d.live),
+                flag(change.live),
                 merged as u32,
                 compacted as u32,
             )
@@ -176,12 +176,12 @@ fn answer(words: &mut [u32], n: usize, out: &mut [u8], at: usize, line: Line) ->
 }
 
 // One byte more of the input: a line end has the line that has begun answered, any other byte is one more of it.
-fn hear(words: &mut [u32], d: State, byte: u8, out: &mut [u8], at: usize) -> Fed
-    requires { ⌜ (length (now words) ≡ benchWords) × ((d .words ≤ benchWords) × (at + longestLine ≤ length (now out))) ⌝ }
-    ensures { λ r. ⌜ (r .state .words ≤ benchWords) × ((r .bytes ≤ at + longestLine) × ((s : Session) → Holds d (now (words .entry)) s → Feeds (heard s (byte ∷ [])) at r (now (words .exit)) (now (out .entry)) (now (out .exit)))) ⌝ }
+fn hear(words: &mut [u32], state: State, byte: u8, out: &mut [u8], at: usize) -> Fed
+    requires { ⌜ (length (now words) ≡ benchWords) × ((state .words ≤ benchWords) × (at + longestLine ≤ length (now out))) ⌝ }
+    ensures { λ r. ⌜ (r .state .words ≤ benchWords) × ((r .bytes ≤ at + longestLine) × ((s : Session) → Holds state (now (words .entry)) s → Feeds (heard s (byte ∷ [])) at r (now (words .exit)) (now (out .entry)) (now (out .exit)))) ⌝ }
 {
-    let n = d.words;
-    let reading = d.reading;
+    let n = state.words;
+    let reading = state.reading;
     if byte == b'\n' {
         return answer(words, n, out, at, reading.line());
     }
@@ -195,11 +195,11 @@ fn hear(words: &mut [u32], d: State, byte: u8, out: &mut [u8], at: usize) -> Fed
 }
 
 // A part of the input, cut anywhere: the answers to the lines that end in it.
-pub fn feed(words: &mut [u32], d: State, input: &[u8], out: &mut [u8]) -> Fed
-    requires { ⌜ (length (now words) ≡ benchWords) × ((d .words ≤ benchWords) × (longestLine * length (now input) ≤ length (now out))) ⌝ }
-    ensures { λ r. ⌜ (r .state .words ≤ benchWords) × ((r .bytes ≤ length (now (out .entry))) × ((s : Session) → Holds d (now (words .entry)) s → Feeds (heard s (now (input .entry))) 0 r (now (words .exit)) (now (out .entry)) (now (out .exit)))) ⌝ }
+pub fn feed(words: &mut [u32], state: State, input: &[u8], out: &mut [u8]) -> Fed
+    requires { ⌜ (length (now words) ≡ benchWords) × ((state .words ≤ benchWords) × (longestLine * length (now input) ≤ length (now out))) ⌝ }
+    ensures { λ r. ⌜ (r .state .words ≤ benchWords) × ((r .bytes ≤ length (now (out .entry))) × ((s : Session) → Holds state (now (words .entry)) s → Feeds (heard s (now (input .entry))) 0 r (now (words .exit)) (now (out .entry)) (now (out .exit)))) ⌝ }
 {
-    let mut fed = Fed { state: d, bytes: 0 };
+    let mut fed = Fed { state: state, bytes: 0 };
     for i in 0..input.len() {
         let at = fed.bytes;
         fed = hear(words, fed.state, input[i], out, at);
@@ -208,13 +208,13 @@ pub fn feed(words: &mut [u32], d: State, input: &[u8], out: &mut [u8]) -> Fed
 }
 
 // The end of the input: a last line may lack its line end, and is answered as if it had come.
-pub fn finish(words: &mut [u32], d: State, out: &mut [u8]) -> Fed
-    requires { ⌜ (length (now words) ≡ benchWords) × ((d .words ≤ benchWords) × (longestLine ≤ length (now out))) ⌝ }
-    ensures { λ r. ⌜ (r .bytes ≤ length (now (out .entry))) × ((s : Session) → Holds d (now (words .entry)) s → Feeds (closed (ended s)) 0 r (now (words .exit)) (now (out .entry)) (now (out .exit))) ⌝ }
+pub fn finish(words: &mut [u32], state: State, out: &mut [u8]) -> Fed
+    requires { ⌜ (length (now words) ≡ benchWords) × ((state .words ≤ benchWords) × (longestLine ≤ length (now out))) ⌝ }
+    ensures { λ r. ⌜ (r .bytes ≤ length (now (out .entry))) × ((s : Session) → Holds state (now (words .entry)) s → Feeds (closed (ended s)) 0 r (now (words .exit)) (now (out .entry)) (now (out .exit))) ⌝ }
 {
-    let reading = d.reading;
+    let reading = state.reading;
     if reading.is_start() {
-        return Fed { state: d, bytes: 0 };
+        return Fed { state: state, bytes: 0 };
     }
-    hear(words, d, b'\n', out, 0)
+    hear(words, state, b'\n', out, 0)
 }
