@@ -5,9 +5,7 @@ closing bracket), or is a clause of the one before.
 """
 import glob
 import re
-import sys
 
-sys.dont_write_bytecode = True
 
 
 class Declaration:

@@ -8,6 +8,11 @@ ghost use Rattle.geometry.specs.Geometry.{Valid};
 ghost use Rattle.blocks.specs.Blocks.{Sized, layoutOf, startOf, afterBy, SomeFree, nextMark, marked, pushed, emptyBuffer, written, WritesRecords};
 use geometry::Geometry;
 
+// A mark for each place that a geometry may have, and room for a level's place list, for the crates that know no geometry.
+pub const PLACES: usize = Geometry::MAX_P;
+
+pub const LIST_ROOM: usize = Geometry::LIST_ROOM;
+
 // What a merge reads of the geometry at every step, computed once: B, P, K(0), and where level 0's
 // mark words, keys and payloads and place 0 start.
 pub struct Layout {
@@ -73,7 +78,7 @@ impl Buffer {
     }
 }
 
-// The first word of a place.
+// The first word of a place. A million is more than any offset: no store is longer than 288,524 words.
 pub fn place_start(z: Layout, place: usize) -> usize
     requires { ⌜ (z .b ≤ 16) × (z .base ≤ 1000000) × (place ≤ 8192) ⌝ }
     ensures { λ r. ⌜ r ≡ startOf z place ⌝ }
@@ -95,7 +100,7 @@ fn place_after(p: usize, cursor: usize, k: usize) -> usize
 }
 
 // The first free place after the cursor, going round.
-pub fn first_free(used: &[bool; 8192], p: usize, cursor: usize) -> usize
+pub fn first_free(used: &[bool; Geometry::MAX_P], p: usize, cursor: usize) -> usize
     requires { ⌜ (p ≤ 8192) × (cursor < p) × SomeFree (now used) p ⌝ }
     ensures { λ r. ⌜ r ≡ nextMark p (now (used .entry)) cursor ⌝ }
 {
@@ -110,7 +115,7 @@ pub fn first_free(used: &[bool; 8192], p: usize, cursor: usize) -> usize
 }
 
 // The first n places of a list are marked as in use.
-pub fn mark_listed(used: &mut [bool; 8192], list: &[u32; 4096], n: usize)
+pub fn mark_listed(used: &mut [bool; Geometry::MAX_P], list: &[u32; Geometry::LIST_ROOM], n: usize)
     requires { ⌜ (n ≤ 4096) × ((i : ℕ) → i < n → getD (now list) i 0 < 8192) ⌝ }
     ensures { λ _. ⌜ now (used .exit) ≡ marked (now (used .entry)) (now (list .entry)) n ⌝ }
 {

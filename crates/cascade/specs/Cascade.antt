@@ -15,11 +15,15 @@ use Rattle.words.specs.Passed.{Passed}
 use Rattle.words.specs.Layout.{geometryAt, topCountAt, storeAt}
 use Rattle.steps.specs.declared.Tally.{Tally}
 use Rattle.steps.specs.declared.Run.{Run}
-use Rattle.steps.specs.Running.{storeOf, Stands, numbersOf, Small}
+use Rattle.steps.specs.Running.{storeOf, Stands, numbersOf, countsBefore, Small}
 
 -- the deepest level over its capacity, by the lengths of levels 1 and 2
 unfoldable pub deepestFor : Geometry → ℕ → ℕ → ℕ → ℕ
 deepestFor g h n1 n2 = elim (eqb h 3 && ltb (capacityOf g 2) n2) [ true ↦ 2 | false ↦ elim (ltb 1 h && ltb (capacityOf g 1) n1) [ true ↦ 1 | false ↦ 0 ] ]
+
+-- The largest load that a store has: at most so many merges follow each other in a call.
+abbrev pub loadMost : ℕ
+loadMost = 98304
 
 -- A moment of a call between two merges, with at most so many to come: the load falls with each. A merge adds at most 16,384 to a
 -- count, so that the bound leaves room for all of them.
@@ -33,7 +37,7 @@ pub record Rolling (steps : ℕ) (g : Geometry) (ws one two three : List ℕ) (r
   pub load-low : load (rows (storeOf g ws one two three r)) ≤ steps
   pub bound : ℕ
   pub small : Small bound (r .tally)
-  pub bound-low : bound + 16384 * steps ≤ 1900000000
+  pub bound-low : bound + 16384 * steps ≤ countsBefore
 
 -- the counts of a list of merges
 abbrev pub listCounts : List Merge → ℕ → levels.Counts

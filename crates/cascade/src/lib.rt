@@ -7,7 +7,7 @@ ghost use Rattle.levels.specs.Store.{Store};
 ghost use Rattle.levels.specs.Call.{afterMerges, mergesBelow};
 ghost use Rattle.words.specs.Calls.{writtenBlocks};
 ghost use Rattle.steps.specs.Running.{storeOf, Leaving};
-ghost use Rattle.cascade.specs.Cascade.{deepestFor, Rolling, listCounts, FullStore, Loaded, MergedAll};
+ghost use Rattle.cascade.specs.Cascade.{deepestFor, Rolling, listCounts, FullStore, Loaded, MergedAll, loadMost};
 use geometry::Geometry;
 use steps::Counts;
 use steps::Run;
@@ -30,27 +30,27 @@ fn deepest(g: Geometry, r: Run) -> usize
     0
 }
 
-// Step 6: while a level holds more blocks than its capacity, the deepest such merges next. No store has a load (`Inside.load`)
-// above 98,304, and each merge lowers it.
+// Step 6: while a level holds more blocks than its capacity, the deepest such merges next. Each merge lowers the store's
+// load (`Inside.load`), so there are `loadMost` at most.
 fn merge_below(
     s: &mut [u32],
-    one: &mut [u32; 4096],
-    two: &mut [u32; 4096],
-    three: &mut [u32; 4096],
+    one: &mut [u32; Geometry::LIST_ROOM],
+    two: &mut [u32; Geometry::LIST_ROOM],
+    three: &mut [u32; Geometry::LIST_ROOM],
     g: Geometry,
     r: Run,
 ) -> Run
-    requires { ⌜ Rolling 98304 g (now s) (now one) (now two) (now three) r ⌝ }
+    requires { ⌜ Rolling loadMost g (now s) (now one) (now two) (now three) r ⌝ }
     ensures { λ u. ⌜ ((t : Store) → t ≡ storeOf g (now (s .entry)) (now (one .entry)) (now (two .entry)) (now (three .entry)) r
-        → Leaving g (afterMerges t (mergesBelow 98304 g t)) (writtenBlocks (mergesBelow 98304 g t)) (listCounts (mergesBelow 98304 g t)) (now (s .entry)) r (now (s .exit)) (now (one .exit)) (now (two .exit)) (now (three .exit)) u) ⌝ }
+        → Leaving g (afterMerges t (mergesBelow loadMost g t)) (writtenBlocks (mergesBelow loadMost g t)) (listCounts (mergesBelow loadMost g t)) (now (s .entry)) r (now (s .exit)) (now (one .exit)) (now (two .exit)) (now (three .exit)) u) ⌝ }
 {
     let mut v = r;
     loop {
-        let d = deepest(g, v);
-        if d == 0 {
+        let level = deepest(g, v);
+        if level == 0 {
             break v;
         }
-        v = steps::merge_step(s, one, two, three, g, d, v);
+        v = steps::merge_step(s, one, two, three, g, level, v);
     }
 }
 
@@ -58,9 +58,9 @@ fn merge_below(
 fn load_run(
     s: &[u32],
     g: Geometry,
-    one: &mut [u32; 4096],
-    two: &mut [u32; 4096],
-    three: &mut [u32; 4096],
+    one: &mut [u32; Geometry::LIST_ROOM],
+    two: &mut [u32; Geometry::LIST_ROOM],
+    three: &mut [u32; Geometry::LIST_ROOM],
 ) -> Run
     requires { ⌜ FullStore g (now s) ⌝ }
     ensures { λ r. ⌜ Loaded g (now (s .entry)) (now (one .exit)) (now (two .exit)) (now (three .exit)) r ⌝ }
@@ -93,13 +93,13 @@ pub fn merge_all(s: &mut [u32], g: Geometry) -> Tally
     requires { ⌜ FullStore g (now s) ⌝ }
     ensures { λ r. ⌜ MergedAll g (now (s .entry)) (now (s .exit)) r ⌝ }
 {
-    let mut one = [0u32; 4096];
-    let mut two = [0u32; 4096];
-    let mut three = [0u32; 4096];
+    let mut one = [0u32; Geometry::LIST_ROOM];
+    let mut two = [0u32; Geometry::LIST_ROOM];
+    let mut three = [0u32; Geometry::LIST_ROOM];
     let r = load_run(s, g, &mut one, &mut two, &mut three);
     let a = steps::merge_step(s, &mut one, &mut two, &mut three, g, 0, r);
-    let b = merge_below(s, &mut one, &mut two, &mut three, g, a);
-    lists::store_back(s, g, &one, &two, &three, b.n1, b.n2, b.n3, b.cursor);
-    let tally = b.tally;
+    let v = merge_below(s, &mut one, &mut two, &mut three, g, a);
+    lists::store_back(s, g, &one, &two, &three, v.n1, v.n2, v.n3, v.cursor);
+    let tally = v.tally;
     tally
 }

@@ -22,21 +22,21 @@ use stream::Progress;
 // so the block that is read keeps its words.
 fn gather_chunk(
     s: &mut [u32],
-    used: &mut [bool; 8192],
-    out: &mut [u32; 4096],
+    used: &mut [bool; Geometry::MAX_P],
+    out: &mut [u32; Geometry::LIST_ROOM],
     z: Layout,
-    w: Progress,
+    st: Progress,
     q: usize,
 ) -> Progress
-    requires { ⌜ Gathering z q (record { words = now s; used = now used; out = now out; st = w }) ⌝ }
-    ensures { λ r. ⌜ _≡_ {A = Memory} (record { words = now (s .exit); used = now (used .exit); out = now (out .exit); st = r }) (chunkGathered z q (record { words = now (s .entry); used = now (used .entry); out = now (out .entry); st = w })) ⌝ }
+    requires { ⌜ Gathering z q (record { words = now s; used = now used; out = now out; st = st }) ⌝ }
+    ensures { λ r. ⌜ _≡_ {A = Memory} (record { words = now (s .exit); used = now (used .exit); out = now (out .exit); st = r }) (chunkGathered z q (record { words = now (s .entry); used = now (used .entry); out = now (out .entry); st = st })) ⌝ }
 {
-    let c = sides::block_chunk(s, z, q);
-    let n = c.n;
-    let mut v = w;
+    let chunk = sides::block_chunk(s, z, q);
+    let n = chunk.n;
+    let mut v = st;
     for j in 0..n {
-        let h = sides::head_at(s, c, j);
-        v = stream::gather(s, used, out, z, false, v, h);
+        let head = sides::head_at(s, chunk, j);
+        v = stream::gather(s, used, out, z, false, v, head);
     }
     v
 }
@@ -44,17 +44,17 @@ fn gather_chunk(
 // The records of the first n listed blocks, into the buffer.
 fn gather_blocks(
     s: &mut [u32],
-    used: &mut [bool; 8192],
-    out: &mut [u32; 4096],
-    list: &[u32; 4096],
+    used: &mut [bool; Geometry::MAX_P],
+    out: &mut [u32; Geometry::LIST_ROOM],
+    list: &[u32; Geometry::LIST_ROOM],
     z: Layout,
-    w: Progress,
+    st: Progress,
     n: usize,
 ) -> Progress
-    requires { ⌜ (n ≤ 4096) × ((i : ℕ) → i < n → Gathering z (getD (now list) i 0) (blocksGathered z (now list) i (record { words = now s; used = now used; out = now out; st = w }))) ⌝ }
-    ensures { λ r. ⌜ _≡_ {A = Memory} (record { words = now (s .exit); used = now (used .exit); out = now (out .exit); st = r }) (blocksGathered z (now (list .entry)) n (record { words = now (s .entry); used = now (used .entry); out = now (out .entry); st = w })) ⌝ }
+    requires { ⌜ (n ≤ 4096) × ((i : ℕ) → i < n → Gathering z (getD (now list) i 0) (blocksGathered z (now list) i (record { words = now s; used = now used; out = now out; st = st }))) ⌝ }
+    ensures { λ r. ⌜ _≡_ {A = Memory} (record { words = now (s .exit); used = now (used .exit); out = now (out .exit); st = r }) (blocksGathered z (now (list .entry)) n (record { words = now (s .entry); used = now (used .entry); out = now (out .entry); st = st })) ⌝ }
 {
-    let mut v = w;
+    let mut v = st;
     for i in 0..n {
         let q = sides::listed(list, i);
         v = gather_chunk(s, used, out, z, v, q);
@@ -84,9 +84,9 @@ fn begin(cursor: usize) -> Progress
 // marked, and the new list is in `out`.
 pub fn compact(
     s: &mut [u32],
-    used: &mut [bool; 8192],
-    out: &mut [u32; 4096],
-    list: &[u32; 4096],
+    used: &mut [bool; Geometry::MAX_P],
+    out: &mut [u32; Geometry::LIST_ROOM],
+    list: &[u32; Geometry::LIST_ROOM],
     g: Geometry,
     n: usize,
     cursor: usize,
@@ -96,8 +96,8 @@ pub fn compact(
         → Leaves g (settle (g .p) a (waste.compact (g .b) (map (blockAt g (now (s .entry))) (take n (now (list .entry)))))) (now (s .entry)) (now (s .exit)) (now (used .exit)) (now (out .exit)) r) ⌝ }
 {
     let z = Layout::of(g);
-    let w = begin(cursor);
-    let v = gather_blocks(s, used, out, list, z, w, n);
+    let st = begin(cursor);
+    let v = gather_blocks(s, used, out, list, z, st, n);
     let r = stream::flush(s, used, out, z, v);
     Merged {
         count: r.m,
@@ -107,7 +107,7 @@ pub fn compact(
 }
 
 // The records of the first n listed blocks.
-fn record_sum(s: &[u32], list: &[u32; 4096], z: Layout, n: usize) -> usize
+fn record_sum(s: &[u32], list: &[u32; Geometry::LIST_ROOM], z: Layout, n: usize) -> usize
     requires { ⌜ Summable z (now s) (now list) n ⌝ }
     ensures { λ r. ⌜ r ≡ recordSum z (now (s .entry)) (now (list .entry)) n ⌝ }
 {
@@ -121,7 +121,7 @@ fn record_sum(s: &[u32], list: &[u32; 4096], z: Layout, n: usize) -> usize
 }
 
 // The level of the n listed blocks needs compacting.
-pub fn needs_compacting(s: &[u32], list: &[u32; 4096], g: Geometry, n: usize) -> bool
+pub fn needs_compacting(s: &[u32], list: &[u32; Geometry::LIST_ROOM], g: Geometry, n: usize) -> bool
     requires { ⌜ Countable g (now s) (now list) n ⌝ }
     ensures { λ r. ⌜ r ≡ needsCompact (g .b) (map (blockAt g (now (s .entry))) (take n (now (list .entry)))) ⌝ }
 {

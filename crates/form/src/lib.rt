@@ -108,7 +108,13 @@ pub fn header_ok(s: &[u32], g: Geometry) -> bool
 }
 
 // The n places listed from word `start` on are below p, and none is marked as used or listed twice. They get marked.
-pub fn list_fresh(s: &[u32], used: &mut [bool; 8192], start: usize, n: usize, p: usize) -> bool
+pub fn list_fresh(
+    s: &[u32],
+    used: &mut [bool; Geometry::MAX_P],
+    start: usize,
+    n: usize,
+    p: usize,
+) -> bool
     requires { ⌜ (start + n ≤ length (now s)) × (p ≤ 8192) ⌝ }
     ensures { λ r. ⌜ (r ≡ freshOf (now (s .entry)) p start n (now (used .entry)))
         × (r ≡ true → now (used .exit) ≡ markOf (now (s .entry)) start n (now (used .entry))) ⌝ }
@@ -134,7 +140,7 @@ pub fn lists_ok(s: &[u32], g: Geometry) -> bool
 {
     let h = g.levels();
     let p = g.places();
-    let mut used = [false; 8192];
+    let mut used = [false; Geometry::MAX_P];
     for i in 0..h {
         let room = g.capacity(i + 1);
         let level = level_of(s, g, i + 1);

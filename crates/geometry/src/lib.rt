@@ -34,6 +34,7 @@ fn power(g: usize, i: usize) -> usize
     }
 }
 
+// The limits of document 01's "Geometry". Contracts write the numbers out: they cannot name a constant of the code.
 impl Geometry {
     pub const MIN_B: usize = 2;
 
@@ -58,6 +59,10 @@ impl Geometry {
     pub const MAX_P: usize = 8192;
 
     pub const MAX_BOTTOM: usize = 1024;
+
+    // Room for a level's place list in a work array: during a call a list has at most 2 × K(i) entries, which is 2,048 at most, and
+    // a merge builds the new list of a level before the old one is given up.
+    pub const LIST_ROOM: usize = 4096;
 
     // Every six words are legal input. The tests of the ranges come first, so that no product overflows.
     pub fn new(b: u32, w: u32, d: u32, g: u32, h: u32, p: u32) -> Built

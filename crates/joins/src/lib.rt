@@ -39,14 +39,14 @@ fn append_block(s: &[u32], z: Layout, q: usize, buf: Buffer) -> Buffer
 }
 
 // The records of two buffers.
-fn append_buffer(a: Buffer, b: Buffer) -> Buffer
-    requires { ⌜ Clean a × (a .n + b .n ≤ 16) ⌝ }
-    ensures { λ r. ⌜ r ≡ joined a (b .keys) (b .pays) (b .marks) (b .n) ⌝ }
+fn append_buffer(a: Buffer, more: Buffer) -> Buffer
+    requires { ⌜ Clean a × (a .n + more .n ≤ 16) ⌝ }
+    ensures { λ r. ⌜ r ≡ joined a (more .keys) (more .pays) (more .marks) (more .n) ⌝ }
 {
-    let keys = b.keys;
-    let pays = b.pays;
-    let m = b.marks;
-    let n = b.n;
+    let keys = more.keys;
+    let pays = more.pays;
+    let m = more.marks;
+    let n = more.n;
     let mut r = a;
     for j in 0..n {
         let k = keys[j];
@@ -57,49 +57,49 @@ fn append_buffer(a: Buffer, b: Buffer) -> Buffer
 }
 
 // The last block listed is taken back: its records stand before those of the buffer.
-fn pull_last(s: &[u32], z: Layout, out: &[u32; 4096], w: Progress) -> Progress
-    requires { ⌜ Pullable z (now s) (now out) w ⌝ }
-    ensures { λ r. ⌜ r ≡ pulled z (now (s .entry)) (now (out .entry)) w ⌝ }
+fn pull_last(s: &[u32], z: Layout, out: &[u32; blocks::LIST_ROOM], st: Progress) -> Progress
+    requires { ⌜ Pullable z (now s) (now out) st ⌝ }
+    ensures { λ r. ⌜ r ≡ pulled z (now (s .entry)) (now (out .entry)) st ⌝ }
 {
-    let m = w.m - 1;
+    let m = st.m - 1;
     let q = sides::listed(out, m);
     let none = blocks::empty();
     let last = append_block(s, z, q, none);
-    let old = w.buf;
-    let mut v = w;
+    let old = st.buf;
+    let mut v = st;
     v.m = m;
     v.buf = append_buffer(last, old);
     v
 }
 
 // A leftover that with the last block holds B or fewer joins it.
-fn join_left(s: &[u32], z: Layout, out: &[u32; 4096], w: Progress) -> Progress
-    requires { ⌜ Lefts z (now s) (now out) w ⌝ }
-    ensures { λ r. ⌜ r ≡ leftJoined z (now (s .entry)) (now (out .entry)) w ⌝ }
+fn join_left(s: &[u32], z: Layout, out: &[u32; blocks::LIST_ROOM], st: Progress) -> Progress
+    requires { ⌜ Lefts z (now s) (now out) st ⌝ }
+    ensures { λ r. ⌜ r ≡ leftJoined z (now (s .entry)) (now (out .entry)) st ⌝ }
 {
-    let buf = w.buf;
+    let buf = st.buf;
     let n = buf.n;
     if n == 0 {
-        return w;
+        return st;
     }
-    let m = w.m;
+    let m = st.m;
     let e = sides::last_size(s, z, out, m);
     let b = z.b;
     if e + n <= b {
-        return pull_last(s, z, out, w);
+        return pull_last(s, z, out, st);
     }
-    w
+    st
 }
 
 // The block after Y joins the buffer.
-fn take_after(s: &[u32], z: Layout, q: usize, w: Progress) -> Progress
-    requires { ⌜ Loadable z (now s) q (w .buf) × (w .y .i < 4096) ⌝ }
-    ensures { λ r. ⌜ r ≡ afterTaken z (now (s .entry)) q w ⌝ }
+fn take_after(s: &[u32], z: Layout, q: usize, st: Progress) -> Progress
+    requires { ⌜ Loadable z (now s) q (st .buf) × (st .y .i < 4096) ⌝ }
+    ensures { λ r. ⌜ r ≡ afterTaken z (now (s .entry)) q st ⌝ }
 {
-    let buf = w.buf;
-    let y = w.y;
+    let buf = st.buf;
+    let y = st.y;
     let next = Point { i: y.i + 1, j: 0 };
-    let mut v = w;
+    let mut v = st;
     v.y = next;
     v.buf = append_block(s, z, q, buf);
     v
@@ -109,42 +109,48 @@ fn take_after(s: &[u32], z: Layout, q: usize, w: Progress) -> Progress
 fn join_after(
     s: &[u32],
     z: Layout,
-    out: &[u32; 4096],
-    ys: &[u32; 4096],
-    w: Progress,
+    out: &[u32; blocks::LIST_ROOM],
+    ys: &[u32; blocks::LIST_ROOM],
+    st: Progress,
     end: usize,
 ) -> Progress
-    requires { ⌜ Afters z (now s) (now out) (now ys) w end ⌝ }
-    ensures { λ r. ⌜ r ≡ afterJoined z (now (s .entry)) (now (out .entry)) (now (ys .entry)) w end ⌝ }
+    requires { ⌜ Afters z (now s) (now out) (now ys) st end ⌝ }
+    ensures { λ r. ⌜ r ≡ afterJoined z (now (s .entry)) (now (out .entry)) (now (ys .entry)) st end ⌝ }
 {
-    let y = w.y;
+    let y = st.y;
     let i = y.i;
     if end <= i {
-        return w;
+        return st;
     }
     let q = sides::listed(ys, i);
     let at = blocks::place_start(z, q);
     let size = slices::word(s, at);
-    let buf = w.buf;
+    let buf = st.buf;
     let n = buf.n;
     let b = z.b;
     if n == 0 {
-        let m = w.m;
+        let m = st.m;
         let e = sides::last_size(s, z, out, m);
         if e + size <= b {
-            let v = pull_last(s, z, out, w);
+            let v = pull_last(s, z, out, st);
             return take_after(s, z, q, v);
         }
-        return w;
+        return st;
     }
     if n + size <= b {
-        return take_after(s, z, q, w);
+        return take_after(s, z, q, st);
     }
-    w
+    st
 }
 
 // The entries of a place list from `from` to `end`, into another list from entry m on.
-pub fn copy_entries(out: &mut [u32; 4096], ys: &[u32; 4096], m: usize, from: usize, end: usize)
+pub fn copy_entries(
+    out: &mut [u32; blocks::LIST_ROOM],
+    ys: &[u32; blocks::LIST_ROOM],
+    m: usize,
+    from: usize,
+    end: usize,
+)
     requires { ⌜ (end ≤ 4096) × (m + (end - from) ≤ 4096) ⌝ }
     ensures { λ _. ⌜ now (out .exit) ≡ restedOut (now (out .entry)) m (now (ys .entry)) from (end - from) ⌝ }
 {
@@ -159,19 +165,19 @@ pub fn copy_entries(out: &mut [u32; 4096], ys: &[u32; 4096], m: usize, from: usi
 // Step 4 of a merge: the joins, the last write, and the blocks after.
 pub fn close(
     s: &mut [u32],
-    used: &mut [bool; 8192],
-    out: &mut [u32; 4096],
-    ys: &[u32; 4096],
+    used: &mut [bool; blocks::PLACES],
+    out: &mut [u32; blocks::LIST_ROOM],
+    ys: &[u32; blocks::LIST_ROOM],
     z: Layout,
-    w: Progress,
+    st: Progress,
     end: usize,
 ) -> Progress
-    requires { ⌜ Closable z (now ys) end (record { words = now s; used = now used; out = now out; st = w }) ⌝ }
-    ensures { λ r. ⌜ _≡_ {A = Memory} (record { words = now (s .exit); used = now (used .exit); out = now (out .exit); st = r }) (closed z (now (ys .entry)) end (record { words = now (s .entry); used = now (used .entry); out = now (out .entry); st = w })) ⌝ }
+    requires { ⌜ Closable z (now ys) end (record { words = now s; used = now used; out = now out; st = st }) ⌝ }
+    ensures { λ r. ⌜ _≡_ {A = Memory} (record { words = now (s .exit); used = now (used .exit); out = now (out .exit); st = r }) (closed z (now (ys .entry)) end (record { words = now (s .entry); used = now (used .entry); out = now (out .entry); st = st })) ⌝ }
 {
-    let a = join_left(s, z, out, w);
-    let b = join_after(s, z, out, ys, a, end);
-    let mut v = stream::flush(s, used, out, z, b);
+    let a = join_left(s, z, out, st);
+    let joined = join_after(s, z, out, ys, a, end);
+    let mut v = stream::flush(s, used, out, z, joined);
     let m = v.m;
     let y = v.y;
     let from = y.i;

@@ -7,7 +7,7 @@ ghost use Prim.Native.Nat.{_*_, _≤_};
 ghost use Rattle.levels.specs.Waste.{wasteful};
 
 // The level rule: a blocks of b slots hold the records in more blocks than needed, and more than a
-// fifth of the slots is empty.
+// fifth of the slots is empty. During a call a level has at most 2 × K(i) blocks, which is 2,048 at most.
 pub fn is_wasteful(b: usize, a: usize, records: usize) -> bool
     requires { ⌜ (1 ≤ b) × (b ≤ 16) × (a ≤ 2048) × (records ≤ a * b) ⌝ }
     ensures { λ r. ⌜ r ≡ wasteful b a records ⌝ }

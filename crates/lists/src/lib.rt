@@ -14,7 +14,7 @@ use geometry::Geometry;
 
 // The listed places of a level, to the front of `out`, and how many they are. Above h the count is 0, and nothing is
 // copied.
-pub fn load(s: &[u32], g: Geometry, level: usize, out: &mut [u32; 4096]) -> usize
+pub fn load(s: &[u32], g: Geometry, level: usize, out: &mut [u32; Geometry::LIST_ROOM]) -> usize
     requires { ⌜ Valid g × ((length (now s) ≡ storeLength g) × ((1 ≤ level) × ((level ≤ 3) × (countAt (now s) level ≤ roomOf g level)))) ⌝ }
     ensures { λ r. ⌜ (r ≡ countAt (now (s .entry)) level) × ((take r (now (out .exit)) ≡ listedAt g (now (s .entry)) level) × (length (now (out .exit)) ≡ 4096)) ⌝ }
 {
@@ -28,9 +28,9 @@ pub fn load(s: &[u32], g: Geometry, level: usize, out: &mut [u32; 4096]) -> usiz
 pub fn store_back(
     s: &mut [u32],
     g: Geometry,
-    one: &[u32; 4096],
-    two: &[u32; 4096],
-    three: &[u32; 4096],
+    one: &[u32; Geometry::LIST_ROOM],
+    two: &[u32; Geometry::LIST_ROOM],
+    three: &[u32; Geometry::LIST_ROOM],
     n1: usize,
     n2: usize,
     n3: usize,
@@ -65,7 +65,7 @@ fn put_counts(s: &mut [u32], n1: usize, n2: usize, n3: usize, cursor: usize)
 
 // One list to all K(i) words of its level, so that no old entry stays behind it. That the array has n entries is told
 // where it is lent as a slice, so the caller learns it here.
-fn put_list(s: &mut [u32], g: Geometry, level: usize, list: &[u32; 4096], n: usize)
+fn put_list(s: &mut [u32], g: Geometry, level: usize, list: &[u32; Geometry::LIST_ROOM], n: usize)
     requires { ⌜ Valid g × ((length (now s) ≡ storeLength g) × ((1 ≤ level) × ((level ≤ g .h) × (n ≤ capacityOf g level)))) ⌝ }
     ensures { λ _. ⌜ (now (s .exit) ≡ putAt (listStart g level) (pad (capacityOf g level) (take n (now (list .entry)))) (now (s .entry))) × (length (take n (now (list .entry))) ≡ n) ⌝ }
 {

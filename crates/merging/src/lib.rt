@@ -75,26 +75,26 @@ impl Cut {
 // in key order; the new list is in `out`.
 pub fn merge_blocks(
     s: &mut [u32],
-    used: &mut [bool; 8192],
-    out: &mut [u32; 4096],
-    xs: &[u32; 4096],
-    ys: &[u32; 4096],
+    used: &mut [bool; Geometry::MAX_P],
+    out: &mut [u32; Geometry::LIST_ROOM],
+    xs: &[u32; Geometry::LIST_ROOM],
+    ys: &[u32; Geometry::LIST_ROOM],
     g: Geometry,
-    c: Cut,
+    parts: Cut,
     cursor: usize,
 ) -> Merged
-    requires { ⌜ Mergeable g (now s) (now used) (now out) (now xs) (now ys) c cursor ⌝ }
+    requires { ⌜ Mergeable g (now s) (now used) (now out) (now xs) (now ys) parts cursor ⌝ }
     ensures { λ r. ⌜ ((a : Allocation) → a .cursor ≡ cursor → Marks (now (used .entry)) (a .used)
-        → Leaves g (settle (g .p) a (mergeOf g (now (s .entry)) (now (xs .entry)) (now (ys .entry)) c)) (now (s .entry)) (now (s .exit)) (now (used .exit)) (now (out .exit)) r) ⌝ }
+        → Leaves g (settle (g .p) a (mergeOf g (now (s .entry)) (now (xs .entry)) (now (ys .entry)) parts)) (now (s .entry)) (now (s .exit)) (now (used .exit)) (now (out .exit)) r) ⌝ }
 {
     let z = Layout::of(g);
-    let t = c.inputs();
-    let y = c.y;
-    let end = c.end;
-    let w = c.begin(cursor);
-    let limit = c.limit();
+    let t = parts.inputs();
+    let y = parts.y;
+    let end = parts.end;
+    let st = parts.begin(cursor);
+    let limit = parts.limit();
     joins::copy_entries(out, ys, 0, 0, y);
-    let v = stream::stream(s, used, out, xs, ys, z, t, w, limit);
+    let v = stream::stream(s, used, out, xs, ys, z, t, st, limit);
     let r = joins::close(s, used, out, ys, z, v, end);
     Merged {
         count: r.m,

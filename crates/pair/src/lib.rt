@@ -17,6 +17,9 @@ use geometry::Geometry;
 use merging::Cut;
 use merging::Merged;
 
+// The blocks of a level at most, whose first and last keys the choice goes by: 2 × K(i) during a call.
+const FENCES: usize = 2 * Geometry::MAX_BOTTOM;
+
 // What a merge answers: the lengths of the two lists afterwards, the allocation cursor, the blocks
 // written, the run's first block and the number of blocks below that the run overlaps.
 pub struct Step {
@@ -57,7 +60,7 @@ impl Picked {
 // Step 1, over the fences of the level above and those of the listed level below.
 fn pick(
     s: &[u32],
-    lower: &[u32; 4096],
+    lower: &[u32; Geometry::LIST_ROOM],
     g: Geometry,
     firsts: &[u32],
     lasts: &[u32],
@@ -68,15 +71,15 @@ fn pick(
     requires { ⌜ Valid g × ((length (now s) ≡ storeLength g) × ((1 ≤ w) × ((w ≤ a) × (Fenced (now firsts) (now lasts) 0 a × Readables g (now s) (now lower) n)))) ⌝ }
     ensures { λ r. ⌜ ((above : Level) → fencesOf (now (firsts .entry)) (now (lasts .entry)) a ≡ map fenceOf above → Chosen w above (levelOf g (now (s .entry)) (now (lower .entry)) n) r) ⌝ }
 {
-    let mut starts = [0u32; 2048];
-    let mut ends = [0u32; 2048];
+    let mut starts = [0u32; FENCES];
+    let mut ends = [0u32; FENCES];
     choice::fence_blocks(s, g, lower, n, &mut starts, &mut ends);
-    let c = choice::choose_run(firsts, lasts, a, &starts, &ends, n, w);
-    let first = c.first;
+    let run = choice::choose_run(firsts, lasts, a, &starts, &ends, n, w);
+    let first = run.first;
     let y = choice::below_run(firsts, lasts, first, w, &starts, &ends, n);
     Picked {
         first: first,
-        overlap: c.overlap,
+        overlap: run.overlap,
         start: y.start,
         end: y.end,
     }
@@ -85,8 +88,8 @@ fn pick(
 // Step 1 between two listed levels.
 fn choose_listed(
     s: &[u32],
-    upper: &[u32; 4096],
-    lower: &[u32; 4096],
+    upper: &[u32; Geometry::LIST_ROOM],
+    lower: &[u32; Geometry::LIST_ROOM],
     g: Geometry,
     a: usize,
     n: usize,
@@ -95,19 +98,26 @@ fn choose_listed(
     requires { ⌜ Valid g × ((length (now s) ≡ storeLength g) × ((1 ≤ w) × ((w ≤ a) × (Readables g (now s) (now upper) a × Readables g (now s) (now lower) n)))) ⌝ }
     ensures { λ r. ⌜ Chosen w (levelOf g (now (s .entry)) (now (upper .entry)) a) (levelOf g (now (s .entry)) (now (lower .entry)) n) r ⌝ }
 {
-    let mut firsts = [0u32; 2048];
-    let mut lasts = [0u32; 2048];
+    let mut firsts = [0u32; FENCES];
+    let mut lasts = [0u32; FENCES];
     choice::fence_blocks(s, g, upper, a, &mut firsts, &mut lasts);
     pick(s, lower, g, &firsts, &lasts, a, n, w)
 }
 
 // Step 1 out of level 0, all of whose pages are full.
-fn choose_pages(s: &[u32], lower: &[u32; 4096], g: Geometry, a: usize, n: usize, w: usize) -> Picked
+fn choose_pages(
+    s: &[u32],
+    lower: &[u32; Geometry::LIST_ROOM],
+    g: Geometry,
+    a: usize,
+    n: usize,
+    w: usize,
+) -> Picked
     requires { ⌜ Valid g × ((length (now s) ≡ storeLength g) × ((1 ≤ w) × ((w ≤ a) × (Paged g (now s) a × Readables g (now s) (now lower) n)))) ⌝ }
     ensures { λ r. ⌜ Chosen w (pages (g .b) (topRecs g (now (s .entry)))) (levelOf g (now (s .entry)) (now (lower .entry)) n) r ⌝ }
 {
-    let mut firsts = [0u32; 2048];
-    let mut lasts = [0u32; 2048];
+    let mut firsts = [0u32; FENCES];
+    let mut lasts = [0u32; FENCES];
     choice::fence_pages(s, g, a, &mut firsts, &mut lasts);
     pick(s, lower, g, &firsts, &lasts, a, n, w)
 }
@@ -115,19 +125,19 @@ fn choose_pages(s: &[u32], lower: &[u32; 4096], g: Geometry, a: usize, n: usize,
 // Steps 3 and 4 with the new list put in the place of the old one, which its blocks are read from till the end.
 fn merge_list(
     s: &mut [u32],
-    used: &mut [bool; 8192],
-    list: &mut [u32; 4096],
-    xs: &[u32; 4096],
+    used: &mut [bool; Geometry::MAX_P],
+    list: &mut [u32; Geometry::LIST_ROOM],
+    xs: &[u32; Geometry::LIST_ROOM],
     g: Geometry,
-    c: Cut,
+    parts: Cut,
     cursor: usize,
 ) -> Merged
-    requires { ⌜ InUse (now used) × Mergeable g (now s) (now used) (now list) (now xs) (now list) c cursor ⌝ }
+    requires { ⌜ InUse (now used) × Mergeable g (now s) (now used) (now list) (now xs) (now list) parts cursor ⌝ }
     ensures { λ r. ⌜ ((a : Allocation) → a .cursor ≡ cursor → Marks (now (used .entry)) (a .used)
-        → Leaves g (settle (g .p) a (mergeOf g (now (s .entry)) (now (xs .entry)) (now (list .entry)) c)) (now (s .entry)) (now (s .exit)) (now (used .exit)) (now (list .exit)) r) ⌝ }
+        → Leaves g (settle (g .p) a (mergeOf g (now (s .entry)) (now (xs .entry)) (now (list .entry)) parts)) (now (s .entry)) (now (s .exit)) (now (used .exit)) (now (list .exit)) r) ⌝ }
 {
-    let mut out = [0u32; 4096];
-    let r = merging::merge_blocks(s, used, &mut out, xs, list, g, c, cursor);
+    let mut out = [0u32; Geometry::LIST_ROOM];
+    let r = merging::merge_blocks(s, used, &mut out, xs, list, g, parts, cursor);
     let count = r.count;
     joins::copy_entries(list, &out, 0, 0, count);
     r
@@ -136,9 +146,9 @@ fn merge_list(
 // Step 2: the run leaves the list, and its two neighbours join if they can: a merge of nothing between them.
 fn close_run(
     s: &mut [u32],
-    used: &mut [bool; 8192],
-    upper: &mut [u32; 4096],
-    xs: &[u32; 4096],
+    used: &mut [bool; Geometry::MAX_P],
+    upper: &mut [u32; Geometry::LIST_ROOM],
+    xs: &[u32; Geometry::LIST_ROOM],
     g: Geometry,
     first: usize,
     w: usize,
@@ -150,7 +160,7 @@ fn close_run(
         → Leaves g (settle (g .p) al (close (g .b) 1 (leftOf g (now (s .entry)) (now (upper .entry)) first) (rightOf g (now (s .entry)) (now (upper .entry)) first w a))) (now (s .entry)) (now (s .exit)) (now (used .exit)) (now (upper .exit)) r) ⌝ }
 {
     joins::copy_entries(upper, xs, first, first + w, a);
-    let c = Cut {
+    let parts = Cut {
         x: 0,
         xend: 0,
         y: first,
@@ -159,15 +169,15 @@ fn close_run(
         pages: false,
         bottom: false,
     };
-    merge_list(s, used, upper, xs, g, c, cursor)
+    merge_list(s, used, upper, xs, g, parts, cursor)
 }
 
 // Steps 1 to 4 of a merge from a listed level to the next. Step 2 writes first, so its block takes its place before those of steps 3 and 4.
 pub fn merge_pair(
     s: &mut [u32],
-    used: &mut [bool; 8192],
-    upper: &mut [u32; 4096],
-    lower: &mut [u32; 4096],
+    used: &mut [bool; Geometry::MAX_P],
+    upper: &mut [u32; Geometry::LIST_ROOM],
+    lower: &mut [u32; Geometry::LIST_ROOM],
     g: Geometry,
     level: usize,
     a: usize,
@@ -180,19 +190,19 @@ pub fn merge_pair(
 {
     let h = g.levels();
     let w = g.window(level);
-    let p = choose_listed(s, upper, lower, g, a, n, w);
-    let mut xs = [0u32; 4096];
+    let picked = choose_listed(s, upper, lower, g, a, n, w);
+    let mut xs = [0u32; Geometry::LIST_ROOM];
     joins::copy_entries(&mut xs, upper, 0, 0, a);
-    let u = close_run(s, used, upper, &xs, g, p.first, w, a, cursor);
-    let c = p.cut(w, n, false, level + 1 == h);
-    let l = merge_list(s, used, lower, &xs, g, c, u.cursor);
+    let u = close_run(s, used, upper, &xs, g, picked.first, w, a, cursor);
+    let parts = picked.cut(w, n, false, level + 1 == h);
+    let l = merge_list(s, used, lower, &xs, g, parts, u.cursor);
     Step {
         above: u.count,
         under: l.count,
         cursor: l.cursor,
         writes: u.writes + l.writes,
-        first: p.first,
-        overlap: p.overlap,
+        first: picked.first,
+        overlap: picked.overlap,
     }
 }
 
@@ -200,8 +210,8 @@ pub fn merge_pair(
 // caller takes the pages out afterwards, `above` of them staying.
 pub fn merge_pages(
     s: &mut [u32],
-    used: &mut [bool; 8192],
-    lower: &mut [u32; 4096],
+    used: &mut [bool; Geometry::MAX_P],
+    lower: &mut [u32; Geometry::LIST_ROOM],
     g: Geometry,
     n: usize,
     cursor: usize,
@@ -213,16 +223,16 @@ pub fn merge_pages(
     let h = g.levels();
     let a = g.capacity(0);
     let w = g.window(0);
-    let p = choose_pages(s, lower, g, a, n, w);
-    let xs = [0u32; 4096];
-    let c = p.cut(w, n, true, 1 == h);
-    let l = merge_list(s, used, lower, &xs, g, c, cursor);
+    let picked = choose_pages(s, lower, g, a, n, w);
+    let xs = [0u32; Geometry::LIST_ROOM];
+    let parts = picked.cut(w, n, true, 1 == h);
+    let l = merge_list(s, used, lower, &xs, g, parts, cursor);
     Step {
         above: a - w,
         under: l.count,
         cursor: l.cursor,
         writes: l.writes,
-        first: p.first,
-        overlap: p.overlap,
+        first: picked.first,
+        overlap: picked.overlap,
     }
 }

@@ -20,6 +20,12 @@ use reader::Looked;
 use reader::Nexted;
 use store::Formatted;
 
+// The longest store, in words.
+const ROOM: usize = 4096;
+
+// The program ends after so many commands, whatever the input is.
+const COMMANDS: u32 = 1000000;
+
 // The next word of the input, or 0 at its end.
 fn word() -> u32 {
     let mut bytes = [0u8; 4];
@@ -150,9 +156,9 @@ fn perform(s: &mut [u32], n: usize, command: u32) -> usize
 }
 
 fn main() {
-    let mut words = [0u32; 4096];
+    let mut words = [0u32; ROOM];
     let mut n: usize = 0;
-    for _ in 0..1000000u32 {
+    for _ in 0..COMMANDS {
         let command = word();
         if command == 0 {
             return;

@@ -34,7 +34,7 @@ pub struct Head {
 }
 
 // Entry i of a place list, as a number to compute offsets with.
-pub fn listed(list: &[u32; 4096], i: usize) -> usize
+pub fn listed(list: &[u32; blocks::LIST_ROOM], i: usize) -> usize
     requires { ⌜ i < 4096 ⌝ }
     ensures { λ r. ⌜ r ≡ getD (now (list .entry)) i 0 ⌝ }
 {
@@ -59,7 +59,7 @@ pub fn block_chunk(s: &[u32], z: Layout, q: usize) -> Chunk
     }
 }
 
-// Page i of level 0. It is full: level 0 is merged only when it has no room.
+// Page i of level 0. It is full: level 0 is merged only when it has no room. A million is more than any offset.
 fn page_chunk(z: Layout, i: usize) -> Chunk
     requires { ⌜ (z .marks + i ≤ 1000000) × (z .keys + i * z .b ≤ 1000000) × (z .pays + i * z .b ≤ 1000000) ⌝ }
     ensures { λ r. ⌜ r ≡ pageChunk z i ⌝ }
@@ -76,7 +76,7 @@ fn page_chunk(z: Layout, i: usize) -> Chunk
 }
 
 // Chunk i of a side: a page of level 0, or the block at the list's i-th place.
-fn chunk_at(s: &[u32], z: Layout, pages: bool, list: &[u32; 4096], i: usize) -> Chunk
+fn chunk_at(s: &[u32], z: Layout, pages: bool, list: &[u32; blocks::LIST_ROOM], i: usize) -> Chunk
     requires { ⌜ Chunked z pages (now s) (now list) i ⌝ }
     ensures { λ r. ⌜ r ≡ chunkOf z pages (now (s .entry)) (now (list .entry)) i ⌝ }
 {
@@ -88,28 +88,28 @@ fn chunk_at(s: &[u32], z: Layout, pages: bool, list: &[u32; 4096], i: usize) -> 
 }
 
 // Record j of a chunk.
-pub fn head_at(s: &[u32], c: Chunk, j: usize) -> Head
-    requires { ⌜ (c .marks < length (now s)) × (c .keys + c .n ≤ length (now s)) × (c .pays + c .n ≤ length (now s)) × (j < c .n) × (c .n ≤ 16) ⌝ }
-    ensures { λ r. ⌜ r ≡ headAt (now (s .entry)) c j ⌝ }
+pub fn head_at(s: &[u32], chunk: Chunk, j: usize) -> Head
+    requires { ⌜ (chunk .marks < length (now s)) × (chunk .keys + chunk .n ≤ length (now s)) × (chunk .pays + chunk .n ≤ length (now s)) × (j < chunk .n) × (chunk .n ≤ 16) ⌝ }
+    ensures { λ r. ⌜ r ≡ headAt (now (s .entry)) chunk j ⌝ }
 {
-    let n = c.n;
-    let ma = c.marks;
-    let ka = c.keys;
-    let va = c.pays;
+    let n = chunk.n;
+    let ma = chunk.marks;
+    let ka = chunk.keys;
+    let va = chunk.pays;
     let m = s[ma];
     let k = s[ka + j];
     let v = s[va + j];
     let l = s[ka + (n - 1)];
     Head {
         some: true,
-        whole: c.listed & (j == 0),
+        whole: chunk.listed & (j == 0),
         key: k,
         tombstone: (m >> j) % 2,
         pay: v,
         last: l,
         marks: m,
         n: n,
-        place: c.place,
+        place: chunk.place,
     }
 }
 
@@ -118,7 +118,7 @@ pub fn peek(
     s: &[u32],
     z: Layout,
     pages: bool,
-    list: &[u32; 4096],
+    list: &[u32; blocks::LIST_ROOM],
     i: usize,
     j: usize,
     end: usize,
@@ -139,12 +139,12 @@ pub fn peek(
             place: 0,
         };
     }
-    let c = chunk_at(s, z, pages, list, i);
-    head_at(s, c, j)
+    let chunk = chunk_at(s, z, pages, list, i);
+    head_at(s, chunk, j)
 }
 
 // The size of the last block of the list so far; B where there is none.
-pub fn last_size(s: &[u32], z: Layout, out: &[u32; 4096], m: usize) -> usize
+pub fn last_size(s: &[u32], z: Layout, out: &[u32; blocks::LIST_ROOM], m: usize) -> usize
     requires { ⌜ Sized z (now s) × (m ≤ 4096) × ((i : ℕ) → i < m → getD (now out) i 0 < z .p) ⌝ }
     ensures { λ r. ⌜ r ≡ lastSize z (now (s .entry)) (now (out .entry)) m ⌝ }
 {
@@ -157,20 +157,20 @@ pub fn last_size(s: &[u32], z: Layout, out: &[u32; 4096], m: usize) -> usize
 }
 
 // a's next record comes before that of b.
-pub fn before(a: Head, b: Head) -> bool
-    ensures { λ r. ⌜ r ≡ first a b ⌝ }
+pub fn before(a: Head, other: Head) -> bool
+    ensures { λ r. ⌜ r ≡ first a other ⌝ }
 {
-    a.some & (!b.some | (a.key < b.key))
+    a.some & (!other.some | (a.key < other.key))
 }
 
 // a's block may follow as it stands: the buffer has n records, the last block e.
-pub fn reusable(z: Layout, bottom: bool, a: Head, b: Head, n: usize, e: usize) -> bool
+pub fn reusable(z: Layout, bottom: bool, a: Head, other: Head, n: usize, e: usize) -> bool
     requires { ⌜ (z .b ≤ 16) × (a .n ≤ 16) × (n ≤ 16) × (e < 2 ^ 32) ⌝ }
-    ensures { λ r. ⌜ r ≡ follows z bottom a b n e ⌝ }
+    ensures { λ r. ⌜ r ≡ follows z bottom a other n e ⌝ }
 {
     let cap = z.b;
     let size = a.n;
-    let ends = !b.some | (a.last < b.key);
+    let ends = !other.some | (a.last < other.key);
     let clean = !(bottom & !(a.marks == 0));
     if n == 0 {
         return (a.whole & ends) & (clean & (cap < e + size));

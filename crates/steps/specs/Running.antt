@@ -91,8 +91,15 @@ counted t level c = elim (eqb level 1) [
   ]
 ]
 
--- Counts that are at most n each. No call counts 2,000,000,000 of anything: it makes at most 98,304 merges (`cascade`), and each
--- adds at most 16,384 to a count. So no sum wraps.
+-- No call counts so many of anything: it makes at most 98,304 merges (`cascade`), and each adds at most 16,384 to a count. So no
+-- sum wraps. A step begins with fewer, so that it ends within it.
+abbrev pub countsMost : ℕ
+countsMost = 2000000000
+
+abbrev pub countsBefore : ℕ
+countsBefore = 1900000000
+
+-- counts that are at most n each
 pub record Few (n : ℕ) (c : Counts) : Type 0 where
   pub merges : c .merges ≤ n
   pub written : c .written ≤ n
@@ -145,7 +152,7 @@ pub record OneReady (e t : Store) (g : Geometry) (ws : List ℕ) (used : List Bo
   pub marks-long : length used ≡ 8192
   pub cursor-is : cursor ≡ t .cursor
   pub level : j < g .h
-  pub small : Small 2000000000 tally
+  pub small : Small countsMost tally
 
 pub record OneAsked (g : Geometry) (ws : List ℕ) (used : List Bool) (list : List ℕ) (j n cursor : ℕ) (tally : Tally) : Type 0 where
   pub entry : Store
@@ -193,7 +200,7 @@ pub record TwoReady (e t : Store) (j : ℕ) (g : Geometry) (ws : List ℕ) (used
   pub marks : Marks used (usedIn t)
   pub marks-long : length used ≡ 8192
   pub cursor-is : cursor ≡ t .cursor
-  pub small : Small 2000000000 tally
+  pub small : Small countsMost tally
 
 pub record TwoAsked (g : Geometry) (ws : List ℕ) (used : List Bool) (upper lower : List ℕ) (level a n cursor : ℕ) (tally : Tally) : Type 0 where
   pub entry : Store
@@ -219,7 +226,7 @@ pub record PageReady (e t : Store) (g : Geometry) (ws : List ℕ) (used : List B
   pub marks : Marks used (usedIn t)
   pub marks-long : length used ≡ 8192
   pub cursor-is : cursor ≡ t .cursor
-  pub small : Small 2000000000 tally
+  pub small : Small countsMost tally
 
 pub record PageAsked (g : Geometry) (ws : List ℕ) (used : List Bool) (list : List ℕ) (n cursor : ℕ) (tally : Tally) : Type 0 where
   pub entry : Store

@@ -16,7 +16,7 @@ ghost use Rattle.levels.specs.Store.{Store};
 ghost use Rattle.levels.specs.Call.{compactIfNeeded, afterCompactions, mergeLevel, afterMerge};
 ghost use Rattle.words.specs.Calls.{compactedBlocks};
 ghost use Rattle.blocks.specs.Blocks.{Marks};
-ghost use Rattle.steps.specs.Running.{namedIn, storeOf, Markable, sumOf, counted, Few, Small, Leaving, Running, compactedCounts, wastes, dueOf, OneReady, OneAsked, OneLeft, relisted, relistedTwo, mergedCounts, TwoReady, TwoAsked, TwoLeft, PageReady, PageAsked, StepReady, stepCounts};
+ghost use Rattle.steps.specs.Running.{namedIn, storeOf, Markable, sumOf, counted, countsMost, countsBefore, Few, Small, Leaving, Running, compactedCounts, wastes, dueOf, OneReady, OneAsked, OneLeft, relisted, relistedTwo, mergedCounts, TwoReady, TwoAsked, TwoLeft, PageReady, PageAsked, StepReady, stepCounts};
 use geometry::Geometry;
 use merging::Merged;
 
@@ -59,55 +59,60 @@ struct Two {
 }
 
 // What is counted already, and what one merge or compaction adds: at most one for each of the 8,192 places.
-fn sum(a: Counts, b: Counts) -> Counts
-    requires { ⌜ Few 2000000000 a × Few 8192 b ⌝ }
-    ensures { λ r. ⌜ r ≡ sumOf a b ⌝ }
+fn sum(a: Counts, more: Counts) -> Counts
+    requires { ⌜ Few countsMost a × Few 8192 more ⌝ }
+    ensures { λ r. ⌜ r ≡ sumOf a more ⌝ }
 {
     Counts {
-        merges: a.merges + b.merges,
-        written: a.written + b.written,
-        compacted: a.compacted + b.compacted,
+        merges: a.merges + more.merges,
+        written: a.written + more.written,
+        compacted: a.compacted + more.compacted,
     }
 }
 
 // c more for a level.
-fn count(t: Tally, level: usize, c: Counts) -> Tally
-    requires { ⌜ Small 2000000000 t × Few 8192 c ⌝ }
-    ensures { λ r. ⌜ r ≡ counted t level c ⌝ }
+fn count(t: Tally, level: usize, more: Counts) -> Tally
+    requires { ⌜ Small countsMost t × Few 8192 more ⌝ }
+    ensures { λ r. ⌜ r ≡ counted t level more ⌝ }
 {
     let one = t.one;
     let two = t.two;
     let three = t.three;
     if level == 1 {
-        let d = sum(one, c);
+        let grown = sum(one, more);
         return Tally {
-            one: d,
+            one: grown,
             two: two,
             three: three,
         };
     }
     if level == 2 {
-        let d = sum(two, c);
+        let grown = sum(two, more);
         return Tally {
             one: one,
-            two: d,
+            two: grown,
             three: three,
         };
     }
-    let d = sum(three, c);
+    let grown = sum(three, more);
     Tally {
         one: one,
         two: two,
-        three: d,
+        three: grown,
     }
 }
 
-// The marks of the places in use.
-fn marks(one: &[u32; 4096], two: &[u32; 4096], three: &[u32; 4096], r: Run) -> [bool; 8192]
+// The marks of the places in use, as document 01 has them: `[false; 8192]` filled from the lists.
+fn marks(
+    one: &[u32; Geometry::LIST_ROOM],
+    two: &[u32; Geometry::LIST_ROOM],
+    three: &[u32; Geometry::LIST_ROOM],
+    r: Run,
+) -> [bool; Geometry::MAX_P]
     requires { ⌜ Markable (now one) (now two) (now three) r ⌝ }
     ensures { λ used. ⌜ Marks used (namedIn (now (one .entry)) (now (two .entry)) (now (three .entry)) r) × (length used ≡ 8192) ⌝ }
 {
-    let mut used = [false; 8192];
+    let mut used = [false; Geometry::MAX_P];
     blocks::mark_listed(&mut used, three, r.n3);
     blocks::mark_listed(&mut used, two, r.n2);
     blocks::mark_listed(&mut used, one, r.n1);
@@ -117,8 +122,8 @@ fn marks(one: &[u32; 4096], two: &[u32; 4096], three: &[u32; 4096], r: Run) -> [
 // A level anew, in the place of its list.
 fn compact_list(
     s: &mut [u32],
-    used: &mut [bool; 8192],
-    list: &mut [u32; 4096],
+    used: &mut [bool; Geometry::MAX_P],
+    list: &mut [u32; Geometry::LIST_ROOM],
     g: Geometry,
     n: usize,
     cursor: usize,
@@ -127,7 +132,7 @@ fn compact_list(
     ensures { λ r. ⌜ ((a : Allocation) → a .cursor ≡ cursor → Marks (now (used .entry)) (a .used)
         → Leaves g (settle (g .p) a (waste.compact (g .b) (map (blockAt g (now (s .entry))) (take n (now (list .entry)))))) (now (s .entry)) (now (s .exit)) (now (used .exit)) (now (list .exit)) r) ⌝ }
 {
-    let mut out = [0u32; 4096];
+    let mut out = [0u32; Geometry::LIST_ROOM];
     let r = compaction::compact(s, used, &mut out, list, g, n, cursor);
     let m = r.count;
     joins::copy_entries(list, &out, 0, 0, m);
@@ -137,8 +142,8 @@ fn compact_list(
 // Step 5 for level j + 1, whose list this is and which needs it.
 fn compact_one(
     s: &mut [u32],
-    used: &mut [bool; 8192],
-    list: &mut [u32; 4096],
+    used: &mut [bool; Geometry::MAX_P],
+    list: &mut [u32; Geometry::LIST_ROOM],
     g: Geometry,
     j: usize,
     n: usize,
@@ -150,12 +155,12 @@ fn compact_one(
         → OneLeft (afterCompactions t (compactIfNeeded g (suc j) t)) (compactedBlocks (compactIfNeeded g (suc j) t)) (compactedCounts (compactIfNeeded g (suc j) t)) g (now (s .entry)) (now (s .exit)) (now (list .exit)) j tally r) ⌝ }
 {
     let m = compact_list(s, used, list, g, n, cursor);
-    let c = Counts {
+    let counts = Counts {
         merges: 0,
         written: 0,
         compacted: m.writes,
     };
-    let more = count(tally, j + 1, c);
+    let more = count(tally, j + 1, counts);
     One {
         n: m.count,
         cursor: m.cursor,
@@ -174,34 +179,34 @@ fn length_of(new: bool, n: usize, old: usize) -> usize
 }
 
 // The numbers of level j + 1 anew.
-fn relist(r: Run, j: usize, d: One) -> Run
-    ensures { λ u. ⌜ u ≡ relisted r j d ⌝ }
+fn relist(r: Run, j: usize, after: One) -> Run
+    ensures { λ u. ⌜ u ≡ relisted r j after ⌝ }
 {
-    let n = d.n;
-    let tally = d.tally;
+    let n = after.n;
+    let tally = after.tally;
     Run {
         n1: length_of(j == 0, n, r.n1),
         n2: length_of(j == 1, n, r.n2),
         n3: length_of(j == 2, n, r.n3),
-        cursor: d.cursor,
+        cursor: after.cursor,
         tally: tally,
     }
 }
 
 // The numbers of levels j + 1 and j + 2 anew.
-fn relist_two(r: Run, j: usize, d: Two) -> Run
+fn relist_two(r: Run, j: usize, after: Two) -> Run
     requires { ⌜ j ≤ 1 ⌝ }
-    ensures { λ u. ⌜ u ≡ relistedTwo r j d ⌝ }
+    ensures { λ u. ⌜ u ≡ relistedTwo r j after ⌝ }
 {
-    let tally = d.tally;
+    let tally = after.tally;
     let upper = One {
-        n: d.a,
-        cursor: d.cursor,
+        n: after.a,
+        cursor: after.cursor,
         tally: tally,
     };
     let lower = One {
-        n: d.n,
-        cursor: d.cursor,
+        n: after.n,
+        cursor: after.cursor,
         tally: tally,
     };
     let v = relist(r, j, upper);
@@ -211,9 +216,9 @@ fn relist_two(r: Run, j: usize, d: Two) -> Run
 // A level, by its number, needs compacting.
 fn is_due(
     s: &[u32],
-    one: &[u32; 4096],
-    two: &[u32; 4096],
-    three: &[u32; 4096],
+    one: &[u32; Geometry::LIST_ROOM],
+    two: &[u32; Geometry::LIST_ROOM],
+    three: &[u32; Geometry::LIST_ROOM],
     g: Geometry,
     level: usize,
     r: Run,
@@ -233,14 +238,14 @@ fn is_due(
 // Step 5 for one level, by its number. The places in use are marked only where something is written.
 fn compact_level(
     s: &mut [u32],
-    one: &mut [u32; 4096],
-    two: &mut [u32; 4096],
-    three: &mut [u32; 4096],
+    one: &mut [u32; Geometry::LIST_ROOM],
+    two: &mut [u32; Geometry::LIST_ROOM],
+    three: &mut [u32; Geometry::LIST_ROOM],
     g: Geometry,
     level: usize,
     r: Run,
 ) -> Run
-    requires { ⌜ Running 2000000000 g (now s) (now one) (now two) (now three) r × ((1 ≤ level) × (level ≤ g .h)) ⌝ }
+    requires { ⌜ Running countsMost g (now s) (now one) (now two) (now three) r × ((1 ≤ level) × (level ≤ g .h)) ⌝ }
     ensures { λ u. ⌜ ((t : Store) → t ≡ storeOf g (now (s .entry)) (now (one .entry)) (now (two .entry)) (now (three .entry)) r
         → Leaving g (afterCompactions t (compactIfNeeded g level t)) (compactedBlocks (compactIfNeeded g level t)) (compactedCounts (compactIfNeeded g level t)) (now (s .entry)) r (now (s .exit)) (now (one .exit)) (now (two .exit)) (now (three .exit)) u) ⌝ }
 {
@@ -251,23 +256,23 @@ fn compact_level(
     let cursor = r.cursor;
     let tally = r.tally;
     if level == 1 {
-        let d = compact_one(s, &mut used, one, g, 0, r.n1, cursor, tally);
-        return relist(r, 0, d);
+        let after = compact_one(s, &mut used, one, g, 0, r.n1, cursor, tally);
+        return relist(r, 0, after);
     }
     if level == 2 {
-        let d = compact_one(s, &mut used, two, g, 1, r.n2, cursor, tally);
-        return relist(r, 1, d);
+        let after = compact_one(s, &mut used, two, g, 1, r.n2, cursor, tally);
+        return relist(r, 1, after);
     }
-    let d = compact_one(s, &mut used, three, g, 2, r.n3, cursor, tally);
-    relist(r, 2, d)
+    let after = compact_one(s, &mut used, three, g, 2, r.n3, cursor, tally);
+    relist(r, 2, after)
 }
 
 // A merge from a listed level to the next without its step 5.
 fn merge_two(
     s: &mut [u32],
-    used: &mut [bool; 8192],
-    upper: &mut [u32; 4096],
-    lower: &mut [u32; 4096],
+    used: &mut [bool; Geometry::MAX_P],
+    upper: &mut [u32; Geometry::LIST_ROOM],
+    lower: &mut [u32; Geometry::LIST_ROOM],
     g: Geometry,
     level: usize,
     a: usize,
@@ -280,12 +285,12 @@ fn merge_two(
         → TwoLeft (mergeLevel g (suc j) t .finish) (mergeLevel g (suc j) t .written) (mergedCounts (mergeLevel g (suc j) t)) j g (now (s .entry)) (now (s .exit)) (now (upper .exit)) (now (lower .exit)) tally r) ⌝ }
 {
     let m = pair::merge_pair(s, used, upper, lower, g, level, a, n, cursor);
-    let c = Counts {
+    let counts = Counts {
         merges: 1,
         written: m.writes,
         compacted: 0,
     };
-    let more = count(tally, level + 1, c);
+    let more = count(tally, level + 1, counts);
     Two {
         a: m.above,
         n: m.under,
@@ -297,8 +302,8 @@ fn merge_two(
 // A merge out of level 0, which is full, without its step 5.
 fn merge_top(
     s: &mut [u32],
-    used: &mut [bool; 8192],
-    list: &mut [u32; 4096],
+    used: &mut [bool; Geometry::MAX_P],
+    list: &mut [u32; Geometry::LIST_ROOM],
     g: Geometry,
     n: usize,
     cursor: usize,
@@ -311,12 +316,12 @@ fn merge_top(
     let m = pair::merge_pages(s, used, list, g, n, cursor);
     let w = g.window(0);
     top::close_gap(s, g, m.first, w);
-    let c = Counts {
+    let counts = Counts {
         merges: 1,
         written: m.writes,
         compacted: 0,
     };
-    let more = count(tally, 1, c);
+    let more = count(tally, 1, counts);
     One {
         n: m.under,
         cursor: m.cursor,
@@ -327,14 +332,14 @@ fn merge_top(
 // A merge out of a level without its step 5.
 fn merge_level(
     s: &mut [u32],
-    one: &mut [u32; 4096],
-    two: &mut [u32; 4096],
-    three: &mut [u32; 4096],
+    one: &mut [u32; Geometry::LIST_ROOM],
+    two: &mut [u32; Geometry::LIST_ROOM],
+    three: &mut [u32; Geometry::LIST_ROOM],
     g: Geometry,
     level: usize,
     r: Run,
 ) -> Run
-    requires { ⌜ StepReady 2000000000 g (now s) (now one) (now two) (now three) level r ⌝ }
+    requires { ⌜ StepReady countsMost g (now s) (now one) (now two) (now three) level r ⌝ }
     ensures { λ u. ⌜ ((t : Store) → t ≡ storeOf g (now (s .entry)) (now (one .entry)) (now (two .entry)) (now (three .entry)) r
         → Leaving g (mergeLevel g level t .finish) (mergeLevel g level t .written) (mergedCounts (mergeLevel g level t)) (now (s .entry)) r (now (s .exit)) (now (one .exit)) (now (two .exit)) (now (three .exit)) u) ⌝ }
 {
@@ -342,28 +347,28 @@ fn merge_level(
     let cursor = r.cursor;
     let tally = r.tally;
     if level == 0 {
-        let d = merge_top(s, &mut used, one, g, r.n1, cursor, tally);
-        return relist(r, 0, d);
+        let after = merge_top(s, &mut used, one, g, r.n1, cursor, tally);
+        return relist(r, 0, after);
     }
     if level == 1 {
-        let d = merge_two(s, &mut used, one, two, g, 1, r.n1, r.n2, cursor, tally);
-        return relist_two(r, 0, d);
+        let after = merge_two(s, &mut used, one, two, g, 1, r.n1, r.n2, cursor, tally);
+        return relist_two(r, 0, after);
     }
-    let d = merge_two(s, &mut used, two, three, g, 2, r.n2, r.n3, cursor, tally);
-    relist_two(r, 1, d)
+    let after = merge_two(s, &mut used, two, three, g, 2, r.n2, r.n3, cursor, tally);
+    relist_two(r, 1, after)
 }
 
 // A merge out of a level, and its step 5: that level, if it is a listed one, then the next.
 pub fn merge_step(
     s: &mut [u32],
-    one: &mut [u32; 4096],
-    two: &mut [u32; 4096],
-    three: &mut [u32; 4096],
+    one: &mut [u32; Geometry::LIST_ROOM],
+    two: &mut [u32; Geometry::LIST_ROOM],
+    three: &mut [u32; Geometry::LIST_ROOM],
     g: Geometry,
     level: usize,
     r: Run,
 ) -> Run
-    requires { ⌜ StepReady 1900000000 g (now s) (now one) (now two) (now three) level r ⌝ }
+    requires { ⌜ StepReady countsBefore g (now s) (now one) (now two) (now three) level r ⌝ }
     ensures { λ u. ⌜ ((t : Store) → t ≡ storeOf g (now (s .entry)) (now (one .entry)) (now (two .entry)) (now (three .entry)) r
         → Leaving g (afterMerge (mergeLevel g level t)) (mergeLevel g level t .written ++ compactedBlocks (mergeLevel g level t .compactions)) (stepCounts (mergeLevel g level t)) (now (s .entry)) r (now (s .exit)) (now (one .exit)) (now (two .exit)) (now (three .exit)) u) ⌝ }
 {
@@ -371,6 +376,6 @@ pub fn merge_step(
     if level == 0 {
         return compact_level(s, one, two, three, g, 1, a);
     }
-    let b = compact_level(s, one, two, three, g, level, a);
-    compact_level(s, one, two, three, g, level + 1, b)
+    let next = compact_level(s, one, two, three, g, level, a);
+    compact_level(s, one, two, three, g, level + 1, next)
 }

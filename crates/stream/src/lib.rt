@@ -47,29 +47,29 @@ pub struct Inputs {
 // A buffer that is not empty is written at the first free place after the cursor, and listed.
 pub fn flush(
     s: &mut [u32],
-    used: &mut [bool; 8192],
-    out: &mut [u32; 4096],
+    used: &mut [bool; blocks::PLACES],
+    out: &mut [u32; blocks::LIST_ROOM],
     z: Layout,
-    w: Progress,
+    st: Progress,
 ) -> Progress
-    requires { ⌜ Flushable z (now s) (now used) w ⌝ }
-    ensures { λ r. ⌜ _≡_ {A = Memory} (record { words = now (s .exit); used = now (used .exit); out = now (out .exit); st = r }) (flushed z (record { words = now (s .entry); used = now (used .entry); out = now (out .entry); st = w })) ⌝ }
+    requires { ⌜ Flushable z (now s) (now used) st ⌝ }
+    ensures { λ r. ⌜ _≡_ {A = Memory} (record { words = now (s .exit); used = now (used .exit); out = now (out .exit); st = r }) (flushed z (record { words = now (s .entry); used = now (used .entry); out = now (out .entry); st = st })) ⌝ }
 {
-    let buf = w.buf;
+    let buf = st.buf;
     let n = buf.n;
     if n == 0 {
-        return w;
+        return st;
     }
-    let m = w.m;
+    let m = st.m;
     let p = z.p;
-    let cursor = w.cursor;
+    let cursor = st.cursor;
     let q = blocks::first_free(used, p, cursor);
     used[q] = true;
     blocks::write_block(s, z, q, buf);
     out[m] = q as u32;
-    let mut v = w;
+    let mut v = st;
     v.m = m + 1;
-    v.writes = w.writes + 1;
+    v.writes = st.writes + 1;
     v.cursor = q;
     v.buf = blocks::empty();
     v
@@ -78,16 +78,16 @@ pub fn flush(
 // The buffer is written, and the block at place q follows as it stands.
 fn reuse(
     s: &mut [u32],
-    used: &mut [bool; 8192],
-    out: &mut [u32; 4096],
+    used: &mut [bool; blocks::PLACES],
+    out: &mut [u32; blocks::LIST_ROOM],
     z: Layout,
-    w: Progress,
+    st: Progress,
     q: usize,
 ) -> Progress
-    requires { ⌜ Flushable z (now s) (now used) w × (w .m + 2 ≤ 4096) × (q < 8192) ⌝ }
-    ensures { λ r. ⌜ _≡_ {A = Memory} (record { words = now (s .exit); used = now (used .exit); out = now (out .exit); st = r }) (reused z (record { words = now (s .entry); used = now (used .entry); out = now (out .entry); st = w }) q) ⌝ }
+    requires { ⌜ Flushable z (now s) (now used) st × (st .m + 2 ≤ 4096) × (q < 8192) ⌝ }
+    ensures { λ r. ⌜ _≡_ {A = Memory} (record { words = now (s .exit); used = now (used .exit); out = now (out .exit); st = r }) (reused z (record { words = now (s .entry); used = now (used .entry); out = now (out .entry); st = st }) q) ⌝ }
 {
-    let mut v = flush(s, used, out, z, w);
+    let mut v = flush(s, used, out, z, st);
     let m = v.m;
     out[m] = q as u32;
     v.m = m + 1;
@@ -97,24 +97,24 @@ fn reuse(
 // One record into the buffer, which is written when it has B; the last level drops tombstones.
 pub fn gather(
     s: &mut [u32],
-    used: &mut [bool; 8192],
-    out: &mut [u32; 4096],
+    used: &mut [bool; blocks::PLACES],
+    out: &mut [u32; blocks::LIST_ROOM],
     z: Layout,
     bottom: bool,
-    w: Progress,
-    h: Head,
+    st: Progress,
+    head: Head,
 ) -> Progress
-    requires { ⌜ Flushable z (now s) (now used) w × Gatherable z w × (h .tombstone < 2) ⌝ }
-    ensures { λ r. ⌜ _≡_ {A = Memory} (record { words = now (s .exit); used = now (used .exit); out = now (out .exit); st = r }) (gathered z bottom (record { words = now (s .entry); used = now (used .entry); out = now (out .entry); st = w }) h) ⌝ }
+    requires { ⌜ Flushable z (now s) (now used) st × Gatherable z st × (head .tombstone < 2) ⌝ }
+    ensures { λ r. ⌜ _≡_ {A = Memory} (record { words = now (s .exit); used = now (used .exit); out = now (out .exit); st = r }) (gathered z bottom (record { words = now (s .entry); used = now (used .entry); out = now (out .entry); st = st }) head) ⌝ }
 {
-    if bottom & (h.tombstone == 1) {
-        return w;
+    if bottom & (head.tombstone == 1) {
+        return st;
     }
-    let buf = w.buf;
-    let more = buf.push(h.key, h.tombstone, h.pay);
+    let buf = st.buf;
+    let more = buf.push(head.key, head.tombstone, head.pay);
     let n = more.n;
     let b = z.b;
-    let mut v = w;
+    let mut v = st;
     v.buf = more;
     if b <= n {
         return flush(s, used, out, z, v);
@@ -152,15 +152,24 @@ impl Progress {
 
 // The side whose record comes first moves on; of equal keys the upper record comes, and the lower
 // is passed over. The buffer has n records, the last block e.
-fn choose(z: Layout, bottom: bool, p: Point, q: Point, x: Head, y: Head, n: usize, e: usize) -> Move
-    requires { ⌜ Choosable z p q x y n e ⌝ }
-    ensures { λ r. ⌜ r ≡ chosen z bottom p q x y n e ⌝ }
+fn choose(
+    z: Layout,
+    bottom: bool,
+    px: Point,
+    py: Point,
+    x: Head,
+    y: Head,
+    n: usize,
+    e: usize,
+) -> Move
+    requires { ⌜ Choosable z px py x y n e ⌝ }
+    ensures { λ r. ⌜ r ≡ chosen z bottom px py x y n e ⌝ }
 {
     if sides::before(y, x) {
         let whole = sides::reusable(z, bottom, y, x, n, e);
-        let v = q.after(y.n, whole);
+        let v = py.after(y.n, whole);
         return Move {
-            x: p,
+            x: px,
             y: v,
             head: y,
             whole: whole,
@@ -168,16 +177,16 @@ fn choose(z: Layout, bottom: bool, p: Point, q: Point, x: Head, y: Head, n: usiz
     }
     if sides::before(x, y) {
         let whole = sides::reusable(z, bottom, x, y, n, e);
-        let u = p.after(x.n, whole);
+        let u = px.after(x.n, whole);
         return Move {
             x: u,
-            y: q,
+            y: py,
             head: x,
             whole: whole,
         };
     }
-    let u = p.after(x.n, false);
-    let v = q.after(y.n, false);
+    let u = px.after(x.n, false);
+    let v = py.after(y.n, false);
     Move {
         x: u,
         y: v,
@@ -190,80 +199,80 @@ fn choose(z: Layout, bottom: bool, p: Point, q: Point, x: Head, y: Head, n: usiz
 // calls this at one place only, so that it is compiled into the loop.
 fn emit(
     s: &mut [u32],
-    used: &mut [bool; 8192],
-    out: &mut [u32; 4096],
+    used: &mut [bool; blocks::PLACES],
+    out: &mut [u32; blocks::LIST_ROOM],
     z: Layout,
     bottom: bool,
-    w: Progress,
-    c: Move,
+    st: Progress,
+    next: Move,
 ) -> Progress
-    requires { ⌜ Movable z (now s) (now used) w × HeadOk (c .head) ⌝ }
-    ensures { λ r. ⌜ _≡_ {A = Memory} (record { words = now (s .exit); used = now (used .exit); out = now (out .exit); st = r }) (emitted z bottom (record { words = now (s .entry); used = now (used .entry); out = now (out .entry); st = w }) c) ⌝ }
+    requires { ⌜ Movable z (now s) (now used) st × HeadOk (next .head) ⌝ }
+    ensures { λ r. ⌜ _≡_ {A = Memory} (record { words = now (s .exit); used = now (used .exit); out = now (out .exit); st = r }) (emitted z bottom (record { words = now (s .entry); used = now (used .entry); out = now (out .entry); st = st }) next) ⌝ }
 {
-    let x = c.x;
-    let y = c.y;
-    let h = c.head;
-    let v = w.moved(x, y);
-    if c.whole {
-        let q = h.place;
+    let x = next.x;
+    let y = next.y;
+    let head = next.head;
+    let v = st.moved(x, y);
+    if next.whole {
+        let q = head.place;
         return reuse(s, used, out, z, v, q);
     }
-    gather(s, used, out, z, bottom, v, h)
+    gather(s, used, out, z, bottom, v, head)
 }
 
 // One step of the merge: the block that stands next is reused, or its next record is gathered; of equal keys the upper record stands alone.
 pub fn step(
     s: &mut [u32],
-    used: &mut [bool; 8192],
-    out: &mut [u32; 4096],
-    xs: &[u32; 4096],
-    ys: &[u32; 4096],
+    used: &mut [bool; blocks::PLACES],
+    out: &mut [u32; blocks::LIST_ROOM],
+    xs: &[u32; blocks::LIST_ROOM],
+    ys: &[u32; blocks::LIST_ROOM],
     z: Layout,
     t: Inputs,
-    w: Progress,
+    st: Progress,
 ) -> Progress
-    requires { ⌜ Ready z t (now xs) (now ys) (record { words = now s; used = now used; out = now out; st = w }) ⌝ }
-    requires { ⌜ idle z t (now xs) (now ys) (record { words = now s; used = now used; out = now out; st = w }) ≡ false ⌝ }
-    ensures { λ r. ⌜ _≡_ {A = Memory} (record { words = now (s .exit); used = now (used .exit); out = now (out .exit); st = r }) (turn z t (now (xs .entry)) (now (ys .entry)) (record { words = now (s .entry); used = now (used .entry); out = now (out .entry); st = w })) ⌝ }
+    requires { ⌜ Ready z t (now xs) (now ys) (record { words = now s; used = now used; out = now out; st = st }) ⌝ }
+    requires { ⌜ idle z t (now xs) (now ys) (record { words = now s; used = now used; out = now out; st = st }) ≡ false ⌝ }
+    ensures { λ r. ⌜ _≡_ {A = Memory} (record { words = now (s .exit); used = now (used .exit); out = now (out .exit); st = r }) (turn z t (now (xs .entry)) (now (ys .entry)) (record { words = now (s .entry); used = now (used .entry); out = now (out .entry); st = st })) ⌝ }
 {
-    let p = w.x;
-    let q = w.y;
+    let px = st.x;
+    let py = st.y;
     let xe = t.x;
     let ye = t.y;
     let pages = t.pages;
     let bottom = t.bottom;
-    let x = sides::peek(s, z, pages, xs, p.i, p.j, xe);
-    let y = sides::peek(s, z, false, ys, q.i, q.j, ye);
-    let m = w.m;
+    let x = sides::peek(s, z, pages, xs, px.i, px.j, xe);
+    let y = sides::peek(s, z, false, ys, py.i, py.j, ye);
+    let m = st.m;
     let e = sides::last_size(s, z, out, m);
-    let buf = w.buf;
+    let buf = st.buf;
     let n = buf.n;
-    let c = choose(z, bottom, p, q, x, y, n, e);
-    emit(s, used, out, z, bottom, w, c)
+    let next = choose(z, bottom, px, py, x, y, n, e);
+    emit(s, used, out, z, bottom, st, next)
 }
 
 // The merge of the two sides, in at most `limit` steps.
 pub fn stream(
     s: &mut [u32],
-    used: &mut [bool; 8192],
-    out: &mut [u32; 4096],
-    xs: &[u32; 4096],
-    ys: &[u32; 4096],
+    used: &mut [bool; blocks::PLACES],
+    out: &mut [u32; blocks::LIST_ROOM],
+    xs: &[u32; blocks::LIST_ROOM],
+    ys: &[u32; blocks::LIST_ROOM],
     z: Layout,
     t: Inputs,
-    w: Progress,
+    st: Progress,
     limit: usize,
 ) -> Progress
-    requires { ⌜ ((i : ℕ) → i ≤ limit → Ready z t (now xs) (now ys) (turns z t (now xs) (now ys) i (record { words = now s; used = now used; out = now out; st = w }))) ⌝ }
-    ensures { λ r. ⌜ _≡_ {A = Memory} (record { words = now (s .exit); used = now (used .exit); out = now (out .exit); st = r }) (turns z t (now (xs .entry)) (now (ys .entry)) limit (record { words = now (s .entry); used = now (used .entry); out = now (out .entry); st = w })) ⌝ }
+    requires { ⌜ ((i : ℕ) → i ≤ limit → Ready z t (now xs) (now ys) (turns z t (now xs) (now ys) i (record { words = now s; used = now used; out = now out; st = st }))) ⌝ }
+    ensures { λ r. ⌜ _≡_ {A = Memory} (record { words = now (s .exit); used = now (used .exit); out = now (out .exit); st = r }) (turns z t (now (xs .entry)) (now (ys .entry)) limit (record { words = now (s .entry); used = now (used .entry); out = now (out .entry); st = st })) ⌝ }
 {
-    let mut v = w;
+    let mut v = st;
     let xe = t.x;
     let ye = t.y;
     for k in 0..limit {
-        let p = v.x;
-        let q = v.y;
-        if (xe <= p.i) & (ye <= q.i) {
+        let px = v.x;
+        let py = v.y;
+        if (xe <= px.i) & (ye <= py.i) {
             return v;
         }
         v = step(s, used, out, xs, ys, z, t, v);

@@ -49,7 +49,7 @@ pub fn locate(s: &[u32], g: Geometry, k: u32) -> Spot
     Spot::Gap(lo)
 }
 
-// m with `on` for bit j, all other bits kept.
+// m with `on` for bit j, all other bits kept. A mark word has a bit for each record of a page, which has 16 at most.
 fn with_bit(m: u32, j: u32, on: bool) -> u32
     requires { ⌜ (m < 65536) × (j < 16) ⌝ }
     ensures { λ r. ⌜ r ≡ setBit m j on ⌝ }

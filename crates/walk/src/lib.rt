@@ -78,17 +78,17 @@ fn cursor_from(s: &[u32], dir: Directory, q: usize) -> Cursor
 }
 
 // Past the next record, where its key is k.
-fn step(s: &[u32], dir: Directory, c: Cursor, k: usize) -> Cursor
-    requires { ⌜ Good (now s) dir c × (k < 4294967296) ⌝ }
-    ensures { λ r. ⌜ Good (now (s .entry)) dir r × (rest (now (s .entry)) dir r ≡ past k (rest (now (s .entry)) dir c)) ⌝ }
+fn step(s: &[u32], dir: Directory, cur: Cursor, k: usize) -> Cursor
+    requires { ⌜ Good (now s) dir cur × (k < 4294967296) ⌝ }
+    ensures { λ r. ⌜ Good (now (s .entry)) dir r × (rest (now (s .entry)) dir r ≡ past k (rest (now (s .entry)) dir cur)) ⌝ }
 {
-    let key = c.key;
+    let key = cur.key;
     if key != k {
-        return c;
+        return cur;
     }
-    let chunk = c.chunk;
+    let chunk = cur.chunk;
     let n = chunk.count;
-    let next = c.next;
+    let next = cur.next;
     if n <= 1 {
         return refill(s, dir, next);
     }
@@ -108,17 +108,17 @@ fn step(s: &[u32], dir: Directory, c: Cursor, k: usize) -> Cursor
 }
 
 // The smaller of two numbers.
-fn smaller(a: usize, b: usize) -> usize
-    ensures { λ r. ⌜ Smaller a b r ⌝ }
+fn smaller(x: usize, y: usize) -> usize
+    ensures { λ r. ⌜ Smaller x y r ⌝ }
 {
-    if b < a { b } else { a }
+    if y < x { y } else { x }
 }
 
 // The smallest of four numbers.
-fn least(a: usize, b: usize, c: usize, d: usize) -> usize
-    ensures { λ r. ⌜ LeastOf a b c d r ⌝ }
+fn least(k0: usize, k1: usize, k2: usize, k3: usize) -> usize
+    ensures { λ r. ⌜ LeastOf k0 k1 k2 k3 r ⌝ }
 {
-    smaller(smaller(a, b), smaller(c, d))
+    smaller(smaller(k0, k1), smaller(k2, k3))
 }
 
 // Of four cursors, the upper ones first, the chunk of the first whose key is k; the last has it if no other has.
@@ -163,17 +163,17 @@ fn cursor_at(next: usize, marks: u32, keys: usize, pays: usize, count: usize, ke
 
 // Past the records of a cursor's chunk whose keys are below the bound. Its loop is the whole cost of most
 // records of a store, and so works on numbers and builds no cursor.
-fn skim(s: &[u32], dir: Directory, c: Cursor, bound: usize) -> Passed
-    requires { ⌜ Good (now s) dir c × (bound ≤ 4294967296) ⌝ }
-    ensures { λ r. ⌜ Skims (now (s .entry)) dir c bound (r .cursor) (r .live) ⌝ }
+fn skim(s: &[u32], dir: Directory, cur: Cursor, bound: usize) -> Passed
+    requires { ⌜ Good (now s) dir cur × (bound ≤ 4294967296) ⌝ }
+    ensures { λ r. ⌜ Skims (now (s .entry)) dir cur bound (r .cursor) (r .live) ⌝ }
 {
-    let next = c.next;
-    let chunk = c.chunk;
+    let next = cur.next;
+    let chunk = cur.chunk;
     let mut marks = chunk.marks;
     let mut keys = chunk.keys;
     let mut pays = chunk.pays;
     let mut count = chunk.count;
-    let mut key = c.key;
+    let mut key = cur.key;
     let mut live: usize = 0;
     while key < bound {
         live += live_bit(marks);

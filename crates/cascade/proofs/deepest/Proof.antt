@@ -7,27 +7,21 @@ use Rattle.cascade.proofs.deepest.Lts as lts
 use Rattle.geometry.proofs.Geometry.capacity.Reads as capacity-reads
 use Rattle.geometry.proofs.Geometry.levels.Reads as levels-reads
 
--- src/lib.rt:370:9
 levels-requires : tie.Need-levels-requires
 levels-requires c κs = search needs
 
--- src/lib.rt:371:9
 capacity-requires : tie.Need-capacity-requires
 capacity-requires c κs = search needs
 
--- src/lib.rt:372:9
 capacity-requires-2 : tie.Need-capacity-requires-2
 capacity-requires-2 c κs = search needs
 
--- src/lib.rt:374:9
 returns : tie.Need-returns
 returns c = deepest-two _ _ _ _ _ _ (c .before .before .before .before .levels .ensures) (c .before .before .before .capacity .ensures) (c .before .before .capacity2 .ensures) (c .if1 .taken)
 
--- src/lib.rt:377:9
 returns-2 : tie.Need-returns-2
 returns-2 c = deepest-one _ _ _ _ _ _ (c .before .before .before .before .before .before .levels .ensures) (c .before .before .before .before .before .capacity .ensures) (c .before .before .before .before .capacity2 .ensures) (c .before .before .if1 .left) (c .if2 .taken)
 
--- src/lib.rt:366:1
 returns-3 : tie.Need-returns-3
 returns-3 c = deepest-none _ _ _ _ _ _ (c .before .before .before .before .before .before .levels .ensures) (c .before .before .before .before .before .capacity .ensures) (c .before .before .before .before .capacity2 .ensures) (c .before .before .if1 .left) (c .if2 .left)
 

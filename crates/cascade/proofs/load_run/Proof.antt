@@ -8,27 +8,21 @@ use Rattle.cascade.proofs.load_run.Reads as reads
 use Rattle.cascade.proofs.load_run.Lts as lts
 use Rattle.lists.proofs.load.Reads as load-reads
 
--- src/lib.rt:416:9
 load-requires : tie.Need-load-requires
 load-requires c κs = load-asks _ _ (c .before .before .pre) 0 _ refl (omega arith)
 
--- src/lib.rt:417:9
 load-requires-2 : tie.Need-load-requires-2
 load-requires-2 c κs = load-asks _ _ (c .before .before .before .before .pre) 1 _ refl (omega arith)
 
--- src/lib.rt:418:9
 load-requires-3 : tie.Need-load-requires-3
 load-requires-3 c κs = load-asks _ _ (c .before .before .before .before .before .before .pre) 2 _ refl (omega arith)
 
--- src/lib.rt:419:18
 shared-slice-read-cursor : tie.Need-shared-slice-read-cursor
 shared-slice-read-cursor c = let k = c .before .before .before .before .before .before .before .before .pre .passed in omega (arith, k .long, store-length-low _ (k .valid))
 
--- src/lib.rt:419:18
 cast-cursor : tie.Need-cast-cursor
 cast-cursor c = omega (arith, cursor-small _ _ (c .before .before .before .before .before .before .before .before .pre))
 
--- src/lib.rt:406:1
 returns : tie.Need-returns
 returns c = loaded _ _ (c .before .before .before .before .before .before .before .before .pre) _ _ _ _ (c .before .before .before .before .before .load .ensures) (c .before .before .before .load2 .ensures) (c .before .load3 .ensures) refl refl
 

@@ -10,32 +10,26 @@ use Rattle.cascade.proofs.merge_below.Reads as merge-below-reads
 use Rattle.steps.proofs.merge_step.Reads as merge-step-reads
 use Rattle.lists.proofs.store_back.Reads as store-back-reads
 
--- src/lib.rt:447:9
 load-run-requires : tie.Need-load-run-requires
 load-run-requires c κs = search needs
 
--- src/lib.rt:448:9
 merge-step-requires : tie.Need-merge-step-requires
 merge-step-requires c κs = first-ready _ _ (c .before .before .before .before .before .before .before .before .before .before .pre) _ _ _ _ (c .before .before .before .before .load-run .ensures)
 
--- src/lib.rt:449:9
 merge-below-requires : tie.Need-merge-below-requires
 merge-below-requires c κs =
     let l = c .before .before .before .before .before .before .before .before .before .before .before .load-run .ensures in
     below-ready _ _ (c .before .before .before .before .before .before .before .before .before .before .before .before .before .before .before .before .before .pre) _ _ _ _ l _ _ _ _ _ (c .before .before .before .before .before .before .merge-step .ensures _ (sym (l .stands .store)))
 
--- src/lib.rt:450:5
 store-back-requires : tie.Need-store-back-requires
 store-back-requires c κs =
     let l = c .before .before .before .before .before .before .before .before .before .before .before .before .before .before .before .before .before .before .load-run .ensures in
     let a = c .before .before .before .before .before .before .before .before .before .before .before .before .before .merge-step .ensures _ (sym (l .stands .store)) in
     back-ready _ _ (c .before .before .before .before .before .before .before .before .before .before .before .before .before .before .before .before .before .before .before .before .before .before .before .before .pre) _ _ _ _ l _ _ _ _ _ a _ _ _ _ _ (c .before .before .before .before .before .before .merge-below .ensures _ (sym (a .stands .store)))
 
--- src/lib.rt:440:1
 same-length : tie.Need-same-length
 same-length c = search needs
 
--- src/lib.rt:440:1
 returns : tie.Need-returns
 returns c =
     let l = c .before .before .before .before .before .before .before .before .before .before .before .before .before .before .before .before .before .before .before .before .before .before .load-run .ensures in

@@ -18,31 +18,24 @@ Inv-loop s₀ one₀ two₀ three₀ g v₀ s one two three v = Goes 98304 g s�
 abbrev μ-loop : tie.MeasureT-loop
 μ-loop s₀ one₀ two₀ three₀ g v₀ s one two three v = load (rows (storeOf g s one two three v))
 
--- src/lib.rt:396:5
 loop-holds : tie.Need-loop-holds Inv-loop μ-loop
 loop-holds c = goes-first 98304 _ _ _ _ _ _ (c .before .pre)
 
--- src/lib.rt:397:13
 deepest-requires : tie.Need-deepest-requires Inv-loop μ-loop
 deepest-requires c κs = c .loop .inv .rolling .valid .ranged
 
--- src/lib.rt:401:9
 merge-step-requires : tie.Need-merge-step-requires Inv-loop μ-loop
 merge-step-requires c κs = goes-asks 98304 _ _ _ _ _ _ _ _ _ _ _ (c .before .before .before .before .before .before .loop .inv) _ (c .before .before .before .before .before .deepest .ensures) (c .before .before .before .before .before .deepest .result - 1) (omega (arith, c .before .before .before .before .if1 .left))
 
--- src/lib.rt:396:5
 loop-less : tie.Need-loop-less Inv-loop μ-loop
 loop-less c = goes-less 98304 _ _ _ _ _ _ _ _ _ _ _ (c .before .before .before .before .before .before .before .before .before .loop .inv) _ (c .before .before .before .before .before .before .before .before .deepest .ensures) (c .before .before .before .before .before .before .before .before .deepest .result - 1) (omega (arith, c .before .before .before .before .before .before .before .if1 .left)) _ _ _ _ _ (c .before .before .merge-step .ensures _ refl)
 
--- src/lib.rt:396:5
 loop-again : tie.Need-loop-again Inv-loop μ-loop
 loop-again c = goes-on 98304 _ _ _ _ _ _ _ _ _ _ _ (c .before .before .before .before .before .before .before .before .before .loop .inv) _ (c .before .before .before .before .before .before .before .before .deepest .ensures) (c .before .before .before .before .before .before .before .before .deepest .result - 1) (omega (arith, c .before .before .before .before .before .before .before .if1 .left)) _ _ _ _ _ (c .before .before .merge-step .ensures _ refl)
 
--- src/lib.rt:383:1
 same-length : tie.Need-same-length Inv-loop μ-loop
 same-length c = c .before .before .loop .inv .rolling .stands .held .long ∙ sym (c .before .before .before .before .pre .stands .held .long)
 
--- src/lib.rt:383:1
 returns : tie.Need-returns Inv-loop μ-loop
 returns c = goes-last 98304 _ _ _ _ _ _ _ _ _ _ _ (c .before .before .loop .inv) _ (c .before .deepest .ensures) _ refl (c .if1 .taken)
 

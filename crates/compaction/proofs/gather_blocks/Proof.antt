@@ -41,7 +41,7 @@ loop-again : tie.Need-loop-again Inv-loop μ-loop
 loop-again c =
     let a = c .before .before .before .before .before .before .before .before .before .before .args in
     let l = c .before .before .before .before .before .before .before .before .loop in
-    let m : Memory = record { words = a .s .now; used = a .used .now; out = a .out .now; st = a .w } in
+    let m : Memory = record { words = a .s .now; used = a .used .now; out = a .out .now; st = a .st } in
     let b : Memory = record { words = l .s; used = l .used; out = l .out; st = l .v } in
     (omega arith, (c .before .before .gather-chunk .kept .0 ∙ l .inv .1 .0, c .before .before .gather-chunk .ensures ∙ rw (c .before .before .before .before .before .before .listed .ensures) (blocks-more (a .z) (a .list .now) (l .i) m b (l .inv .1 .1))))
 

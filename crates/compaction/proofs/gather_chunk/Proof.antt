@@ -31,14 +31,14 @@ loop-holds c = (search needs, (refl, refl))
 head-at-requires : tie.Need-head-at-requires Inv-loop μ-loop
 head-at-requires c κs =
     let a = c .before .before .before .before .before .before .args in
-    let m : Memory = record { words = a .s .now; used = a .used .now; out = a .out .now; st = a .w } in
+    let m : Memory = record { words = a .s .now; used = a .used .now; out = a .out .now; st = a .st } in
     head-inside (a .z) (a .q) m (c .before .before .before .block-chunk .result) (c .before .before .loop .s) (c .before .before .loop .j) (c .before .before .before .before .before .before .pre) (c .before .before .before .block-chunk .ensures) (c .before .before .loop .inv .1 .0) (c .before .loop-test .taken)
 
 gather-requires : tie.Need-gather-requires Inv-loop μ-loop
 gather-requires c κs =
     let a = c .before .before .before .before .before .before .before .before .before .before .args in
     let l = c .before .before .before .before .before .before .loop in
-    let m : Memory = record { words = a .s .now; used = a .used .now; out = a .out .now; st = a .w } in
+    let m : Memory = record { words = a .s .now; used = a .used .now; out = a .out .now; st = a .st } in
     let b : Memory = record { words = l .s; used = l .used; out = l .out; st = l .v } in
     let r = roomy-in (a .z) (a .q) (c .before .before .before .before .before .before .before .block-chunk .result) (l .j) m b (c .before .before .before .before .before .before .before .before .before .before .pre) (c .before .before .before .before .before .before .before .block-chunk .ensures) (c .before .before .before .before .before .loop-test .taken) (l .inv .1 .1) in
     (r .flushable, r .gatherable, rw (c .before .before .before .head-at .ensures) (omega arith))
@@ -53,7 +53,7 @@ loop-again : tie.Need-loop-again Inv-loop μ-loop
 loop-again c =
     let a = c .before .before .before .before .before .before .before .before .before .before .before .before .before .args in
     let l = c .before .before .before .before .before .before .before .before .before .loop in
-    let m : Memory = record { words = a .s .now; used = a .used .now; out = a .out .now; st = a .w } in
+    let m : Memory = record { words = a .s .now; used = a .used .now; out = a .out .now; st = a .st } in
     let b : Memory = record { words = l .s; used = l .used; out = l .out; st = l .v } in
     (omega arith, (c .before .before .gather .kept .0 ∙ l .inv .1 .0, c .before .before .gather .ensures ∙ rw (c .before .before .before .before .before .before .head-at .ensures) (records-more (a .z) (c .before .before .before .before .before .before .before .before .before .before .block-chunk .result) (l .j) m b (l .inv .1 .1))))
 

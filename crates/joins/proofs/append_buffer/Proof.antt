@@ -41,7 +41,7 @@ shr-push c = omega arith
 push-requires : tie.Need-push-requires Inv-loop μ-loop
 push-requires c κs =
     let e = c .before .loop .inv .1 in
-    let b = c .before .before .before .before .args .b in
+    let b = c .before .before .before .before .args .more in
     let n = joined-n (c .before .before .before .before .args .a) (b .keys) (b .pays) (b .marks) (c .before .before .before .before .pre .0) (c .before .loop .j) in
     rw e (omega arith, omega arith, joined-clean (c .before .before .before .before .args .a) (b .keys) (b .pays) (b .marks) (c .before .before .before .before .pre .0) (c .before .loop .j) .bits)
 
@@ -52,11 +52,11 @@ loop-less : tie.Need-loop-less Inv-loop μ-loop
 loop-less c = omega arith
 
 loop-again : tie.Need-loop-again Inv-loop μ-loop
-loop-again c = (omega arith, let b = c .before .before .before .before .before .args .b in c .push .ensures ∙ rw (c .before .before .loop .inv .1) (joined-more (c .before .before .before .before .before .args .a) (b .keys) (b .pays) (b .marks) (c .before .before .before .before .before .pre .0) (c .before .before .loop .j)))
+loop-again c = (omega arith, let b = c .before .before .before .before .before .args .more in c .push .ensures ∙ rw (c .before .before .loop .inv .1) (joined-more (c .before .before .before .before .before .args .a) (b .keys) (b .pays) (b .marks) (c .before .before .before .before .before .pre .0) (c .before .before .loop .j)))
 
 returns : tie.Need-returns Inv-loop μ-loop
 returns c =
-    let e : c .before .loop .j ≡ c .before .before .before .before .args .b .n = omega arith in
+    let e : c .before .loop .j ≡ c .before .before .before .before .args .more .n = omega arith in
     rw e at (c .before .loop .inv .1)
 
 pub append-buffer-spec : {M : Type 1} → statement M

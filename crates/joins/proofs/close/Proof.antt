@@ -14,7 +14,7 @@ use Rattle.joins.proofs.join_left.Reads as join-left-reads
 use Rattle.stream.proofs.flush.Reads as flush-reads
 
 -- where the merge stands before the rest of the list is copied
-ends : (c : tie.After-flush) → c .flush .result ≡ flushed (c .before .before .before .before .before .before .before .before .before .before .before .args .z) (joinedUp (c .before .before .before .before .before .before .before .before .before .before .before .args .z) (c .before .before .before .before .before .before .before .before .before .before .before .args .ys .now) (c .before .before .before .before .before .before .before .before .before .before .before .args .end) (record { words = c .before .before .before .before .before .before .before .before .before .before .before .args .s .now; used = c .before .before .before .before .before .before .before .before .before .before .before .args .used .now; out = c .before .before .before .before .before .before .before .before .before .before .before .args .out .now; st = c .before .before .before .before .before .before .before .before .before .before .before .args .w })) .st
+ends : (c : tie.After-flush) → c .flush .result ≡ flushed (c .before .before .before .before .before .before .before .before .before .before .before .args .z) (joinedUp (c .before .before .before .before .before .before .before .before .before .before .before .args .z) (c .before .before .before .before .before .before .before .before .before .before .before .args .ys .now) (c .before .before .before .before .before .before .before .before .before .before .before .args .end) (record { words = c .before .before .before .before .before .before .before .before .before .before .before .args .s .now; used = c .before .before .before .before .before .before .before .before .before .before .before .args .used .now; out = c .before .before .before .before .before .before .before .before .before .before .before .args .out .now; st = c .before .before .before .before .before .before .before .before .before .before .before .args .st })) .st
 ends c = ap (λ (a : Memory). a .st) (c .flush .ensures) ∙ rw (c .before .before .before .before .join-after .ensures, c .before .before .before .before .before .before .before .join-left .ensures)
 
 join-left-requires : tie.Need-join-left-requires

@@ -32,14 +32,14 @@ place-start-requires : tie.Need-place-start-requires
 place-start-requires c κs = let h : c .listed .result < c .before .before .before .before .args .z .p = rw (c .listed .ensures) (c .before .before .before .before .pre .place (c .before .if1 .left)) in omega (arith, c .before .before .before .before .pre .lefts .sized)
 
 word-requires : tie.Need-word-requires
-word-requires c κs = rw (c .place-start .ensures, c .before .listed .ensures) (omega (arith, in-store (c .before .before .before .before .before .args .z) (c .before .before .before .before .before .args .s .now) (c .before .before .before .before .before .pre .lefts .sized) (getD (c .before .before .before .before .before .args .ys .now) (c .before .before .before .before .before .args .w .y .i) 0) 0 (c .before .before .before .before .before .pre .place (c .before .before .if1 .left)) (omega arith)))
+word-requires c κs = rw (c .place-start .ensures, c .before .listed .ensures) (omega (arith, in-store (c .before .before .before .before .before .args .z) (c .before .before .before .before .before .args .s .now) (c .before .before .before .before .before .pre .lefts .sized) (getD (c .before .before .before .before .before .args .ys .now) (c .before .before .before .before .before .args .st .y .i) 0) 0 (c .before .before .before .before .before .pre .place (c .before .before .if1 .left)) (omega arith)))
 
 last-size-requires : tie.Need-last-size-requires
 last-size-requires c κs = search needs
 
 add-if3 : tie.Need-add-if3
 add-if3 c =
-    let l = last-low (c .before .before .before .before .before .before .before .before .before .args .z) (c .before .before .before .before .before .before .before .before .before .args .s .now) (c .before .before .before .before .before .before .before .before .before .args .out .now) (c .before .before .before .before .before .before .before .before .before .args .w .m) (c .before .before .before .before .before .before .before .before .before .pre .lefts .sized) (λ i. c .before .before .before .before .before .before .before .before .shared-slice-known .given i .fits) in
+    let l = last-low (c .before .before .before .before .before .before .before .before .before .args .z) (c .before .before .before .before .before .before .before .before .before .args .s .now) (c .before .before .before .before .before .before .before .before .before .args .out .now) (c .before .before .before .before .before .before .before .before .before .args .st .m) (c .before .before .before .before .before .before .before .before .before .pre .lefts .sized) (λ i. c .before .before .before .before .before .before .before .before .shared-slice-known .given i .fits) in
     let e = c .last-size .ensures in
     let f = c .before .before .before .word .ensures .0 in
     let g = c .before .before .before .before .before .before .before .before .shared-slice-known .given (c .before .before .before .before .place-start .result) .fits in
@@ -49,21 +49,21 @@ pull-last-requires : tie.Need-pull-last-requires
 pull-last-requires c κs =
     let n = c .before .before .if2 .taken in
     let f : 1 ≤ c .before .before .before .before .word .result = rw (c .before .before .before .before .word .ensures .0, c .before .before .before .before .before .place-start .ensures, c .before .before .before .before .before .before .listed .ensures) (c .before .before .before .before .before .before .before .before .before .before .pre .filled (c .before .before .before .before .before .before .before .if1 .left)) in
-    pull-able (c .before .before .before .before .before .before .before .before .before .before .args .z) (c .before .before .before .before .before .before .before .before .before .before .args .s .now) (c .before .before .before .before .before .before .before .before .before .before .args .out .now) (c .before .before .before .before .before .before .before .before .before .before .args .w) (c .before .before .before .before .word .result) (c .before .before .before .before .before .before .before .before .before .before .pre .lefts) f (omega arith) (rw (← c .before .last-size .ensures) (c .if3 .taken))
+    pull-able (c .before .before .before .before .before .before .before .before .before .before .args .z) (c .before .before .before .before .before .before .before .before .before .before .args .s .now) (c .before .before .before .before .before .before .before .before .before .before .args .out .now) (c .before .before .before .before .before .before .before .before .before .before .args .st) (c .before .before .before .before .word .result) (c .before .before .before .before .before .before .before .before .before .before .pre .lefts) f (omega arith) (rw (← c .before .last-size .ensures) (c .if3 .taken))
 
 take-after-requires : tie.Need-take-after-requires
 take-after-requires c κs =
     let f : 1 ≤ c .before .before .before .before .before .word .result = rw (c .before .before .before .before .before .word .ensures .0, c .before .before .before .before .before .before .place-start .ensures, c .before .before .before .before .before .before .before .listed .ensures) (c .before .before .before .before .before .before .before .before .before .before .before .pre .filled (c .before .before .before .before .before .before .before .before .if1 .left)) in
     let h = rw (c .before .before .last-size .ensures) at (c .before .if3 .taken) in
-    let p = last-pull (c .before .before .before .before .before .before .before .before .before .before .before .args .z) (c .before .before .before .before .before .before .before .before .before .before .before .args .s .now) (c .before .before .before .before .before .before .before .before .before .before .before .args .out .now) (c .before .before .before .before .before .before .before .before .before .before .before .args .w .m) (c .before .before .before .before .before .word .result) f h in
-    let n = pulled-n (c .before .before .before .before .before .before .before .before .before .before .before .args .z) (c .before .before .before .before .before .before .before .before .before .before .before .args .s .now) (c .before .before .before .before .before .before .before .before .before .before .before .args .out .now) (c .before .before .before .before .before .before .before .before .before .before .before .args .w) in
+    let p = last-pull (c .before .before .before .before .before .before .before .before .before .before .before .args .z) (c .before .before .before .before .before .before .before .before .before .before .before .args .s .now) (c .before .before .before .before .before .before .before .before .before .before .before .args .out .now) (c .before .before .before .before .before .before .before .before .before .before .before .args .st .m) (c .before .before .before .before .before .word .result) f h in
+    let n = pulled-n (c .before .before .before .before .before .before .before .before .before .before .before .args .z) (c .before .before .before .before .before .before .before .before .before .before .before .args .s .now) (c .before .before .before .before .before .before .before .before .before .before .before .args .out .now) (c .before .before .before .before .before .before .before .before .before .before .before .args .st) in
     let w : c .before .before .before .before .before .word .result ≡ getD (c .before .before .before .before .before .before .before .before .before .before .before .args .s .now) (startOf (c .before .before .before .before .before .before .before .before .before .before .before .args .z) (c .before .before .before .before .before .before .before .listed .result)) 0 = c .before .before .before .before .before .word .ensures .0 ∙ ap (λ (k : ℕ). getD (c .before .before .before .before .before .before .before .before .before .before .before .args .s .now) k 0) (c .before .before .before .before .before .before .place-start .ensures) in
-    let v = ap (λ (p : Point). p .i) (pulled-y (c .before .before .before .before .before .before .before .before .before .before .before .args .z) (c .before .before .before .before .before .before .before .before .before .before .before .args .s .now) (c .before .before .before .before .before .before .before .before .before .before .before .args .out .now) (c .before .before .before .before .before .before .before .before .before .before .before .args .w)) in
+    let v = ap (λ (p : Point). p .i) (pulled-y (c .before .before .before .before .before .before .before .before .before .before .before .args .z) (c .before .before .before .before .before .before .before .before .before .before .before .args .s .now) (c .before .before .before .before .before .before .before .before .before .before .before .args .out .now) (c .before .before .before .before .before .before .before .before .before .before .before .args .st)) in
     let e = p .1 in
     let z = c .before .before .before .if2 .taken in
     let x = c .before .before .before .before .before .before .before .before .before .before .before .pre .end-high in
     let y = c .before .before .before .before .before .before .before .before .if1 .left in
-    rw (c .pull-last .ensures) (record { sized = c .before .before .before .before .before .before .before .before .before .before .before .pre .lefts .sized; place = rw (c .before .before .before .before .before .before .before .listed .ensures) (c .before .before .before .before .before .before .before .before .before .before .before .pre .place (c .before .before .before .before .before .before .before .before .if1 .left)); clean = pulled-clean (c .before .before .before .before .before .before .before .before .before .before .before .args .z) (c .before .before .before .before .before .before .before .before .before .before .before .args .s .now) (c .before .before .before .before .before .before .before .before .before .before .before .args .out .now) (c .before .before .before .before .before .before .before .before .before .before .before .args .w); few = omega arith }, omega arith)
+    rw (c .pull-last .ensures) (record { sized = c .before .before .before .before .before .before .before .before .before .before .before .pre .lefts .sized; place = rw (c .before .before .before .before .before .before .before .listed .ensures) (c .before .before .before .before .before .before .before .before .before .before .before .pre .place (c .before .before .before .before .before .before .before .before .if1 .left)); clean = pulled-clean (c .before .before .before .before .before .before .before .before .before .before .before .args .z) (c .before .before .before .before .before .before .before .before .before .before .before .args .s .now) (c .before .before .before .before .before .before .before .before .before .before .before .args .out .now) (c .before .before .before .before .before .before .before .before .before .before .before .args .st); few = omega arith }, omega arith)
 
 returns-2 : tie.Need-returns-2
 unfolding afterJoined

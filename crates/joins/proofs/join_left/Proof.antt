@@ -22,7 +22,7 @@ last-size-requires c κs = search needs
 
 add-if2 : tie.Need-add-if2
 add-if2 c =
-    let l = last-low (c .before .before .before .before .args .z) (c .before .before .before .before .args .s .now) (c .before .before .before .before .args .out .now) (c .before .before .before .before .args .w .m) (c .before .before .before .before .pre .sized) (λ i. c .before .before .before .shared-slice-known .given i .fits) in
+    let l = last-low (c .before .before .before .before .args .z) (c .before .before .before .before .args .s .now) (c .before .before .before .before .args .out .now) (c .before .before .before .before .args .st .m) (c .before .before .before .before .pre .sized) (λ i. c .before .before .before .shared-slice-known .given i .fits) in
     let e = c .last-size .ensures in
     let f = c .before .before .before .before .pre .few in
     omega arith
@@ -30,7 +30,7 @@ add-if2 c =
 pull-last-requires : tie.Need-pull-last-requires
 pull-last-requires c κs =
     let n = c .before .before .if1 .left in
-    pull-able (c .before .before .before .before .before .args .z) (c .before .before .before .before .before .args .s .now) (c .before .before .before .before .before .args .out .now) (c .before .before .before .before .before .args .w) (c .before .before .before .before .before .args .w .buf .n) (c .before .before .before .before .before .pre) (omega arith) (le-refl _) (rw (← c .before .last-size .ensures) (c .if2 .taken))
+    pull-able (c .before .before .before .before .before .args .z) (c .before .before .before .before .before .args .s .now) (c .before .before .before .before .before .args .out .now) (c .before .before .before .before .before .args .st) (c .before .before .before .before .before .args .st .buf .n) (c .before .before .before .before .before .pre) (omega arith) (le-refl _) (rw (← c .before .last-size .ensures) (c .if2 .taken))
 
 returns-2 : tie.Need-returns-2
 unfolding leftJoined

@@ -32,8 +32,8 @@ append-buffer-requires : tie.Need-append-buffer-requires
 append-buffer-requires c κs =
     let f = c .before .before .before .before .before .before .pre .few in
     let b = c .before .before .before .before .before .before .pre .sized .b-high in
-    let e = appended-n (c .before .before .before .before .before .before .args .z .b) (c .before .before .before .before .before .before .args .s .now) (startOf (c .before .before .before .before .before .before .args .z) (getD (c .before .before .before .before .before .before .args .out .now) (c .before .before .before .before .before .before .args .w .m - 1) 0)) emptyBuffer empty-clean (getD (c .before .before .before .before .before .before .args .s .now) (startOf (c .before .before .before .before .before .before .args .z) (getD (c .before .before .before .before .before .before .args .out .now) (c .before .before .before .before .before .before .args .w .m - 1) 0)) 0) in
-    rw (c .before .append-block .ensures, c .before .before .empty .ensures, c .before .before .before .listed .ensures) (appended-clean (c .before .before .before .before .before .before .args .z .b) (c .before .before .before .before .before .before .args .s .now) (startOf (c .before .before .before .before .before .before .args .z) (getD (c .before .before .before .before .before .before .args .out .now) (c .before .before .before .before .before .before .args .w .m - 1) 0)) emptyBuffer empty-clean (getD (c .before .before .before .before .before .before .args .s .now) (startOf (c .before .before .before .before .before .before .args .z) (getD (c .before .before .before .before .before .before .args .out .now) (c .before .before .before .before .before .before .args .w .m - 1) 0)) 0), omega arith)
+    let e = appended-n (c .before .before .before .before .before .before .args .z .b) (c .before .before .before .before .before .before .args .s .now) (startOf (c .before .before .before .before .before .before .args .z) (getD (c .before .before .before .before .before .before .args .out .now) (c .before .before .before .before .before .before .args .st .m - 1) 0)) emptyBuffer empty-clean (getD (c .before .before .before .before .before .before .args .s .now) (startOf (c .before .before .before .before .before .before .args .z) (getD (c .before .before .before .before .before .before .args .out .now) (c .before .before .before .before .before .before .args .st .m - 1) 0)) 0) in
+    rw (c .before .append-block .ensures, c .before .before .empty .ensures, c .before .before .before .listed .ensures) (appended-clean (c .before .before .before .before .before .before .args .z .b) (c .before .before .before .before .before .before .args .s .now) (startOf (c .before .before .before .before .before .before .args .z) (getD (c .before .before .before .before .before .before .args .out .now) (c .before .before .before .before .before .before .args .st .m - 1) 0)) emptyBuffer empty-clean (getD (c .before .before .before .before .before .before .args .s .now) (startOf (c .before .before .before .before .before .before .args .z) (getD (c .before .before .before .before .before .before .args .out .now) (c .before .before .before .before .before .before .args .st .m - 1) 0)) 0), omega arith)
 
 returns : tie.Need-returns
 unfolding pulled

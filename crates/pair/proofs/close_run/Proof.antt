@@ -7,29 +7,23 @@ use Rattle.pair.proofs.close_run.Lts as lts
 use Rattle.joins.proofs.copy_entries.Reads as copy-entries-reads
 use Rattle.pair.proofs.merge_list.Reads as merge-list-reads
 
--- src/lib.rt:125:43
 add-copy-entries : tie.Need-add-copy-entries
 add-copy-entries c = search needs
 
--- src/lib.rt:125:5
 copy-entries-requires : tie.Need-copy-entries-requires
 copy-entries-requires c κs = search needs
 
--- src/lib.rt:131:14
 sub-t13 : tie.Need-sub-t13
 sub-t13 c = search needs
 
--- src/lib.rt:135:5
 merge-list-requires : tie.Need-merge-list-requires
 merge-list-requires c κs =
     let a = c .before .before .before .before .before .before .args in
     rw (c .before .before .before .copy-entries .ensures) (shut-mergeable (a .g) (a .s .now) (a .used .now) (a .upper .now) (a .xs .now) (a .first) (a .w) (a .a) (a .cursor) (c .before .before .before .before .before .before .pre))
 
--- src/lib.rt:110:1
 same-length : tie.Need-same-length
 same-length c = search needs
 
--- src/lib.rt:110:1
 returns : tie.Need-returns
 returns c =
     let a = c .before .before .before .before .before .before .before .before .before .args in

@@ -9,24 +9,20 @@ use Rattle.pair.proofs.merge_list.Lts as lts
 use Rattle.joins.proofs.copy_entries.Reads as copy-entries-reads
 use Rattle.merging.proofs.merge_blocks.Reads as merge-blocks-reads
 
--- src/lib.rt:103:9
 merge-blocks-requires : tie.Need-merge-blocks-requires
 merge-blocks-requires c κs =
     let p = c .before .before .before .before .before .pre in
     mergeable-in _ _ _ _ _ _ _ _ _ (p .1) refl
 
--- src/lib.rt:105:5
 copy-entries-requires : tie.Need-copy-entries-requires
 copy-entries-requires c κs =
     let p = c .before .before .before .before .before .before .before .before .before .before .pre in
     let k = c .before .before .before .before .merge-blocks .ensures (record { used = p .0 .places; cursor = c .before .before .before .before .before .before .before .before .before .before .args .cursor }) refl (p .0 .marks) in
     (k .count-high, omega (arith, k .count-high))
 
--- src/lib.rt:89:1
 same-length : tie.Need-same-length
 same-length c = search needs
 
--- src/lib.rt:89:1
 returns : tie.Need-returns
 returns c =
     let p = c .before .before .before .before .before .before .before .before .before .before .before .pre in

@@ -13,47 +13,38 @@ use Rattle.pair.proofs.Picked.cut.Reads as cut-reads
 use Rattle.pair.proofs.choose_pages.Reads as choose-pages-reads
 use Rattle.pair.proofs.merge_list.Reads as merge-list-reads
 
--- src/lib.rt:215:9
 levels-requires : tie.Need-levels-requires
 levels-requires c κs = search needs
 
--- src/lib.rt:216:9
 capacity-requires : tie.Need-capacity-requires
 capacity-requires c κs = search needs
 
--- src/lib.rt:217:9
 window-requires : tie.Need-window-requires
 window-requires c κs = search needs
 
--- src/lib.rt:218:9
 choose-pages-requires : tie.Need-choose-pages-requires
 choose-pages-requires c κs =
     let a = c .before .before .before .before .before .before .args in
     pages-choosable (a .g) (a .s .now) (a .used .now) (a .lower .now) (a .n) (a .cursor) (c .before .before .before .before .before .before .pre) _ _ (c .before .before .before .capacity .ensures) (c .before .before .window .ensures)
 
--- src/lib.rt:220:9
 cut-requires : tie.Need-cut-requires
 cut-requires c κs =
     let a = c .before .before .before .before .before .before .before .args in
     omega (arith, pages-inside (a .g) (a .s .now) (a .used .now) (a .lower .now) (a .n) (a .cursor) (c .before .before .before .before .before .before .before .pre) _ _ (c .before .before .before .window .ensures) (c .choose-pages .ensures))
 
--- src/lib.rt:221:9
 merge-list-requires : tie.Need-merge-list-requires
 merge-list-requires c κs =
     let a = c .before .before .before .before .before .before .before .before .before .before .before .before .args in
     rw (c .before .before .before .before .cut .ensures) (pages-mergeable (a .g) (a .s .now) (a .used .now) (a .lower .now) (a .n) (a .cursor) (c .before .before .before .before .before .before .before .before .before .before .before .before .pre) _ _ refl _ (c .before .before .before .before .before .before .before .before .before .before .levels .ensures) _ (c .before .before .before .before .before .before .before .before .window .ensures) (c .before .before .before .before .before .choose-pages .ensures))
 
--- src/lib.rt:223:16
 sub-t23 : tie.Need-sub-t23
 sub-t23 c =
     let a = c .before .before .before .before .before .before .before .before .before .before .before .before .before .before .before .args in
     omega (arith, window-in (a .g) (a .s .now) (a .used .now) (a .lower .now) (a .n) (a .cursor) (c .before .before .before .before .before .before .before .before .before .before .before .before .before .before .before .pre), c .before .before .before .before .before .before .before .before .before .before .before .before .capacity .ensures, c .before .before .before .before .before .before .before .before .before .before .before .window .ensures)
 
--- src/lib.rt:203:1
 same-length : tie.Need-same-length
 same-length c = search needs
 
--- src/lib.rt:203:1
 returns : tie.Need-returns
 returns c =
     let a = c .before .before .before .before .before .before .before .before .before .before .before .before .before .before .before .args in

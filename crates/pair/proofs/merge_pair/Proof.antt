@@ -14,58 +14,47 @@ use Rattle.pair.proofs.choose_listed.Reads as choose-listed-reads
 use Rattle.pair.proofs.close_run.Reads as close-run-reads
 use Rattle.pair.proofs.merge_list.Reads as merge-list-reads
 
--- src/lib.rt:183:9
 levels-requires : tie.Need-levels-requires
 levels-requires c κs = search needs
 
--- src/lib.rt:184:9
 window-requires : tie.Need-window-requires
 window-requires c κs = search needs
 
--- src/lib.rt:185:9
 choose-listed-requires : tie.Need-choose-listed-requires
 choose-listed-requires c κs =
     let a = c .before .before .before .before .before .before .args in
     code-choosable (a .g) (a .s .now) (a .used .now) (a .upper .now) (a .lower .now) (a .level) (a .a) (a .n) (a .cursor) (c .before .before .before .before .before .before .pre) _ (c .before .before .before .window .ensures)
 
--- src/lib.rt:187:5
 copy-entries-requires : tie.Need-copy-entries-requires
 copy-entries-requires c κs = search needs
 
--- src/lib.rt:188:9
 close-run-requires : tie.Need-close-run-requires
 close-run-requires c κs =
     let a = c .before .before .before .before .before .before .before .before .before .before .before .before .before .before .args in
     code-closable (a .g) (a .s .now) (a .used .now) (a .upper .now) (a .lower .now) (a .level) (a .a) (a .n) (a .cursor) (c .before .before .before .before .before .before .before .before .before .before .before .before .before .before .pre) _ _ refl (c .before .before .before .before .copy-entries .ensures) _ _ (c .before .before .before .before .before .before .before .before .before .before .before .window .ensures) (c .before .before .before .before .before .before .before .choose-listed .ensures)
 
--- src/lib.rt:189:32
 add-cut : tie.Need-add-cut
 add-cut c = search needs
 
--- src/lib.rt:189:9
 cut-requires : tie.Need-cut-requires
 cut-requires c κs =
     let a = c .before .before .before .before .before .before .before .before .before .before .before .before .before .before .before .before .before .args in
     let h = c .before .before .before .before .before .before .before .before .before .before .before .before .before .before .before .before .before .pre .above .high in
     omega (arith, code-inside (a .g) (a .s .now) (a .used .now) (a .upper .now) (a .lower .now) (a .level) (a .a) (a .n) (a .cursor) (c .before .before .before .before .before .before .before .before .before .before .before .before .before .before .before .before .before .pre) _ _ refl (c .before .before .before .before .before .before .before .copy-entries .ensures) _ _ (c .before .before .before .before .before .before .before .before .before .before .before .before .before .before .window .ensures) (c .before .before .before .before .before .before .before .before .before .before .choose-listed .ensures))
 
--- src/lib.rt:190:9
 merge-list-requires : tie.Need-merge-list-requires
 merge-list-requires c κs =
     let a = c .before .before .before .before .before .before .before .before .before .before .before .before .before .before .before .before .before .before .before .before .before .before .args in
     rw (c .before .before .before .before .cut .ensures) (code-mergeable (a .g) (a .s .now) (a .used .now) (a .upper .now) (a .lower .now) (a .level) (a .a) (a .n) (a .cursor) (c .before .before .before .before .before .before .before .before .before .before .before .before .before .before .before .before .before .before .before .before .before .before .pre) _ _ refl (c .before .before .before .before .before .before .before .before .before .before .before .before .copy-entries .ensures) _ _ _ _ _ _ (c .before .before .before .before .before .before .before .before .before .before .before .before .before .before .before .before .before .before .before .before .levels .ensures) _ (c .before .before .before .before .before .before .before .before .before .before .before .before .before .before .before .before .before .before .before .window .ensures) (c .before .before .before .before .before .before .before .before .before .before .before .before .before .before .before .choose-listed .ensures) (c .before .before .before .before .before .before .before .close-run .ensures))
 
--- src/lib.rt:195:17
 add-t29 : tie.Need-add-t29
 add-t29 c =
     let a = c .before .before .before .before .before .before .before .before .before .before .before .before .before .before .before .before .before .before .before .before .before .before .before .before .before .before .before .args in
     omega (arith, code-writes (a .g) (a .s .now) (a .used .now) (a .upper .now) (a .lower .now) (a .level) (a .a) (a .n) (a .cursor) (c .before .before .before .before .before .before .before .before .before .before .before .before .before .before .before .before .before .before .before .before .before .before .before .before .before .before .before .pre) _ _ refl (c .before .before .before .before .before .before .before .before .before .before .before .before .before .before .before .before .before .copy-entries .ensures) _ _ _ _ _ _ (c .before .before .before .before .before .before .before .before .before .before .before .before .before .before .before .before .before .before .before .before .before .before .before .before .before .levels .ensures) _ _ _ _ _ (c .before .before .before .before .before .before .before .before .before .before .before .before .before .before .before .before .before .before .before .before .before .before .before .before .window .ensures) (c .before .before .before .before .before .before .before .before .before .before .before .before .before .before .before .before .before .before .before .before .choose-listed .ensures) (c .before .before .before .before .before .before .before .before .before .before .before .before .close-run .ensures) (rw (c .before .before .before .before .before .before .before .before .before .cut .ensures) at (c .before .before .before .before .merge-list .ensures)))
 
--- src/lib.rt:168:1
 same-length : tie.Need-same-length
 same-length c = search needs
 
--- src/lib.rt:168:1
 returns : tie.Need-returns
 returns c =
     let a = c .before .before .before .before .before .before .before .before .before .before .before .before .before .before .before .before .before .before .before .before .before .before .before .before .before .before .before .args in

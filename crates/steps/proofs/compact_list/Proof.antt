@@ -9,22 +9,18 @@ use Rattle.steps.proofs.compact_list.Lts as lts
 use Rattle.compaction.proofs.compact.Reads as compact-reads
 use Rattle.joins.proofs.copy_entries.Reads as copy-entries-reads
 
--- src/lib.rt:112:9
 compact-requires : tie.Need-compact-requires
 compact-requires c κs = search needs
 
--- src/lib.rt:114:5
 copy-entries-requires : tie.Need-copy-entries-requires
 copy-entries-requires c κs =
     let p = c .before .before .before .before .before .before .before .before .before .before .pre in
     let k = c .before .before .before .before .compact .ensures (record { used = p .0 .places; cursor = c .before .before .before .before .before .before .before .before .before .before .args .cursor }) refl (p .0 .marks) in
     (k .count-high, omega (arith, k .count-high))
 
--- src/lib.rt:99:1
 same-length : tie.Need-same-length
 same-length c = search needs
 
--- src/lib.rt:99:1
 returns : tie.Need-returns
 returns c =
     let p = c .before .before .before .before .before .before .before .before .before .before .before .pre in

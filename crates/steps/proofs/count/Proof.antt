@@ -7,29 +7,23 @@ use Rattle.steps.proofs.count.Reads as reads
 use Rattle.steps.proofs.count.Lts as lts
 use Rattle.steps.proofs.sum.Reads as sum-reads
 
--- src/lib.rt:56:13
 sum-requires : tie.Need-sum-requires
 sum-requires c κs = search needs
 
--- src/lib.rt:57:9
 returns : tie.Need-returns
 unfolding counted
 returns c = rw (c .sum .ensures, c .before .if1 .taken)
 
--- src/lib.rt:64:13
 sum-requires-2 : tie.Need-sum-requires-2
 sum-requires-2 c κs = search needs
 
--- src/lib.rt:65:9
 returns-2 : tie.Need-returns-2
 unfolding counted
 returns-2 c = rw (c .sum2 .ensures, c .before .if2 .taken)
 
--- src/lib.rt:71:9
 sum-requires-3 : tie.Need-sum-requires-3
 sum-requires-3 c κs = search needs
 
--- src/lib.rt:48:1
 returns-3 : tie.Need-returns-3
 unfolding counted
 returns-3 c = rw (c .sum3 .ensures, ne-eqb (c .before .before .before .before .before .before .args .level) 1 (c .before .before .if1 .left), counted, ne-eqb (c .before .before .before .before .before .before .args .level) 2 (c .before .if2 .left), counted)

@@ -6,19 +6,15 @@ use Rattle.steps.proofs.marks.Reads as reads
 use Rattle.steps.proofs.marks.Lts as lts
 use Rattle.blocks.proofs.mark_listed.Reads as mark-listed-reads
 
--- src/lib.rt:79:5
 mark-listed-requires : tie.Need-mark-listed-requires
 mark-listed-requires c κs = search needs
 
--- src/lib.rt:80:5
 mark-listed-requires-2 : tie.Need-mark-listed-requires-2
 mark-listed-requires-2 c κs = search needs
 
--- src/lib.rt:81:5
 mark-listed-requires-3 : tie.Need-mark-listed-requires-3
 mark-listed-requires-3 c κs = search needs
 
--- src/lib.rt:74:1
 returns : tie.Need-returns
 returns c = marks-are _ _ _ _ _ _ _ (c .before .before .before .before .before .before .pre) (c .before .before .before .before .mark-listed .ensures) (c .before .before .mark-listed2 .ensures) (c .mark-listed3 .ensures)
 

@@ -10,38 +10,31 @@ use Rattle.steps.proofs.merge_step.Lts as lts
 use Rattle.steps.proofs.compact_level.Reads as compact-level-reads
 use Rattle.steps.proofs.merge_level.Reads as merge-level-reads
 
--- src/lib.rt:356:9
 merge-level-requires : tie.Need-merge-level-requires
 merge-level-requires c κs = step-asks _ _ _ _ _ _ _ (c .before .before .before .before .before .pre)
 
--- src/lib.rt:358:9
 compact-level-requires : tie.Need-compact-level-requires
 compact-level-requires c κs =
     let k = c .before .before .before .before .before .before .before .before .before .before .before .before .before .pre in
     (first-asks _ _ _ _ _ _ _ k _ refl _ _ _ _ _ (c .before .before .before .before .before .before .before .merge-level .ensures _ refl), (omega arith, k .valid .ranged .h-low))
 
--- src/lib.rt:358:9
 same-length : tie.Need-same-length
 same-length c = search needs
 
--- src/lib.rt:358:9
 returns : tie.Need-returns
 returns c =
     let k = c .before .before .before .before .before .before .before .before .before .before .before .before .before .before .before .before .pre in
     λ t e. let a = c .before .before .before .before .before .before .before .before .before .before .merge-level .ensures t e in step-top _ _ _ _ _ _ _ k t e _ _ _ _ _ a _ _ _ _ _ (c .before .before .before .before .before .before .before .if1 .taken) (c .before .before .compact-level .ensures _ (sym (a .stands .store)))
 
--- src/lib.rt:360:9
 compact-level-requires-2 : tie.Need-compact-level-requires-2
 compact-level-requires-2 c κs =
     let k = c .before .before .before .before .before .before .before .before .before .before .before .before .before .pre in
     let h = level-low _ _ _ _ (k .valid) (k .facts) in
     (first-asks _ _ _ _ _ _ _ k _ refl _ _ _ _ _ (c .before .before .before .before .before .before .before .merge-level .ensures _ refl), (omega (arith, c .before .before .before .before .if1 .left), omega arith))
 
--- src/lib.rt:361:42
 add-compact-level : tie.Need-add-compact-level
 add-compact-level c = let k = c .before .before .before .before .before .before .before .before .before .before .before .before .before .before .before .before .before .before .before .before .pre in omega (arith, level-low _ _ _ _ (k .valid) (k .facts), k .valid .ranged .h-high)
 
--- src/lib.rt:361:5
 compact-level-requires-3 : tie.Need-compact-level-requires-3
 compact-level-requires-3 c κs =
     let k = c .before .before .before .before .before .before .before .before .before .before .before .before .before .before .before .before .before .before .before .before .pre in
@@ -49,11 +42,9 @@ compact-level-requires-3 c κs =
     let a = c .before .before .before .before .before .before .before .before .before .before .before .before .before .before .merge-level .ensures _ refl in
     (second-asks _ _ _ _ _ _ _ k _ refl _ _ _ _ _ a (omega (arith, c .before .before .before .before .before .before .before .before .before .before .before .if1 .left)) _ _ _ _ _ (c .before .before .before .before .before .before .compact-level2 .ensures _ (sym (a .stands .store))), (omega arith, omega arith))
 
--- src/lib.rt:343:1
 same-length-2 : tie.Need-same-length-2
 same-length-2 c = search needs
 
--- src/lib.rt:343:1
 returns-2 : tie.Need-returns-2
 returns-2 c =
     let k = c .before .before .before .before .before .before .before .before .before .before .before .before .before .before .before .before .before .before .before .before .before .before .before .pre in

@@ -12,33 +12,27 @@ use Rattle.geometry.proofs.Geometry.window.Reads as window-reads
 use Rattle.pair.proofs.merge_pages.Reads as merge-pages-reads
 use Rattle.top.proofs.close_gap.Reads as close-gap-reads
 
--- src/lib.rt:283:9
 merge-pages-requires : tie.Need-merge-pages-requires
 merge-pages-requires c κs = let p = c .before .before .before .before .pre in page-ready _ _ _ _ _ _ _ _ _ (p .ready)
 
--- src/lib.rt:284:9
 window-requires : tie.Need-window-requires
 window-requires c κs = search needs
 
--- src/lib.rt:285:5
 close-gap-requires : tie.Need-close-gap-requires
 close-gap-requires c κs =
     let p = c .before .before .before .before .before .before .before .before .before .pre in
     let k = p .ready in
     gap-ready _ (p .store) _ _ _ _ _ _ _ k _ _ _ _ (c .before .before .before .before .merge-pages .ensures (allocationOf (p .store)) (sym (k .cursor-is)) (k .marks)) _ (c .before .window .ensures)
 
--- src/lib.rt:291:9
 count-requires : tie.Need-count-requires
 count-requires c κs =
     let p = c .before .before .before .before .before .before .before .before .before .before .before .before .pre in
     let k = p .ready in
     (k .small, record { merges = omega arith; written = page-few _ (p .store) _ _ _ _ _ _ _ k _ _ _ _ (c .before .before .before .before .before .before .before .merge-pages .ensures (allocationOf (p .store)) (sym (k .cursor-is)) (k .marks)); compacted = omega arith })
 
--- src/lib.rt:270:1
 same-length : tie.Need-same-length
 same-length c = search needs
 
--- src/lib.rt:270:1
 returns : tie.Need-returns
 returns c =
     λ e t k. page-left e t _ _ _ _ _ _ _ k _ _ _ _ (c .before .before .before .before .before .before .before .before .merge-pages .ensures (allocationOf t) (sym (k .cursor-is)) (k .marks)) _ _ _ _ (c .before .before .before .before .before .window .ensures) (c .before .before .before .close-gap .ensures) (c .count .ensures) refl

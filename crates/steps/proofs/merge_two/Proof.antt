@@ -10,26 +10,21 @@ use Rattle.steps.proofs.merge_two.Lts as lts
 use Rattle.steps.proofs.count.Reads as count-reads
 use Rattle.pair.proofs.merge_pair.Reads as merge-pair-reads
 
--- src/lib.rt:254:9
 merge-pair-requires : tie.Need-merge-pair-requires
 merge-pair-requires c κs = let p = c .before .before .before .before .before .pre in two-ready _ _ _ _ _ _ _ _ _ _ _ _ _ (p .ready)
 
--- src/lib.rt:260:29
 add-count : tie.Need-add-count
 add-count c = let k = c .before .before .before .before .before .before .before .before .pre .ready in omega (arith, k .level-is, level-low _ _ _ _ (k .valid) (k .facts), k .valid .ranged .h-high)
 
--- src/lib.rt:260:9
 count-requires : tie.Need-count-requires
 count-requires c κs =
     let p = c .before .before .before .before .before .before .before .before .pre in
     let k = p .ready in
     (k .small, record { merges = omega arith; written = two-few _ (p .store) _ _ _ _ _ _ _ _ _ _ _ k _ _ _ _ _ (c .before .before .merge-pair .ensures (allocationOf (p .store)) (sym (k .cursor-is)) (k .marks)); compacted = omega arith })
 
--- src/lib.rt:238:1
 same-length : tie.Need-same-length
 same-length c = search needs
 
--- src/lib.rt:238:1
 returns : tie.Need-returns
 returns c =
     λ e t j k. two-left e t j _ _ _ _ _ _ _ _ _ _ k _ _ _ _ _ (c .before .before .before .merge-pair .ensures (allocationOf t) (sym (k .cursor-is)) (k .marks)) _ _ (c .count .ensures) refl

@@ -7,19 +7,15 @@ use Rattle.steps.proofs.relist_two.Reads as reads
 use Rattle.steps.proofs.relist_two.Lts as lts
 use Rattle.steps.proofs.relist.Reads as relist-reads
 
--- src/lib.rt:206:9
 relist-requires : tie.Need-relist-requires
 relist-requires c κs = search needs
 
--- src/lib.rt:207:15
 add-relist : tie.Need-add-relist
 add-relist c = search needs
 
--- src/lib.rt:207:5
 relist-requires-2 : tie.Need-relist-requires-2
 relist-requires-2 c κs = search needs
 
--- src/lib.rt:191:1
 returns : tie.Need-returns
 returns c = c .relist2 .ensures ∙ rw (c .before .relist .ensures, add-one (c .before .before .before .args .j))
 

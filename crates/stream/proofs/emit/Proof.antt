@@ -15,7 +15,7 @@ moved-requires c κs = search needs
 
 -- the sides may move on
 can : (c : tie.After-moved) → Movable (c .before .before .before .before .before .args .z) (c .before .before .before .before .before .args .s .now) (c .before .before .before .before .before .args .used .now) (c .moved .result)
-can c = rw (c .moved .ensures) (moved-movable _ _ _ (c .before .before .before .before .before .args .w) (c .before .before .before .before .before .args .c .x) (c .before .before .before .before .before .args .c .y) (c .before .before .before .before .before .pre .0))
+can c = rw (c .moved .ensures) (moved-movable _ _ _ (c .before .before .before .before .before .args .st) (c .before .before .before .before .before .args .next .x) (c .before .before .before .before .before .args .next .y) (c .before .before .before .before .before .pre .0))
 
 reuse-requires : tie.Need-reuse-requires
 reuse-requires c κs = let k = can (c .before .before .before .before) in (k .flushable, k .room, c .before .before .before .before .before .before .before .before .before .pre .1 .place)

@@ -19,13 +19,13 @@ first-free-requires : tie.Need-first-free-requires
 first-free-requires c κs = search needs
 
 element-write-used : tie.Need-element-write-used
-element-write-used c = rw (c .first-free .ensures) (omega (arith, free-low (c .before .before .before .before .before .args .z .p) (c .before .before .before .before .before .args .z .p) (c .before .before .before .before .before .args .used .now) (c .before .before .before .before .before .args .w .cursor) (c .before .before .before .before .before .pre .cursor), c .before .before .before .before .before .pre .sized .places))
+element-write-used c = rw (c .first-free .ensures) (omega (arith, free-low (c .before .before .before .before .before .args .z .p) (c .before .before .before .before .before .args .z .p) (c .before .before .before .before .before .args .used .now) (c .before .before .before .before .before .args .st .cursor) (c .before .before .before .before .before .pre .cursor), c .before .before .before .before .before .pre .sized .places))
 
 write-block-requires : tie.Need-write-block-requires
-write-block-requires c κs = (c .before .before .before .before .before .before .pre .sized, rw (c .before .first-free .ensures) (free-low (c .before .before .before .before .before .before .args .z .p) (c .before .before .before .before .before .before .args .z .p) (c .before .before .before .before .before .before .args .used .now) (c .before .before .before .before .before .before .args .w .cursor) (c .before .before .before .before .before .before .pre .cursor)), c .before .before .before .before .before .before .pre .full)
+write-block-requires c κs = (c .before .before .before .before .before .before .pre .sized, rw (c .before .first-free .ensures) (free-low (c .before .before .before .before .before .before .args .z .p) (c .before .before .before .before .before .before .args .z .p) (c .before .before .before .before .before .before .args .used .now) (c .before .before .before .before .before .before .args .st .cursor) (c .before .before .before .before .before .before .pre .cursor)), c .before .before .before .before .before .before .pre .full)
 
 cast-out : tie.Need-cast-out
-cast-out c = rw (c .before .before .before .before .first-free .ensures) (omega (arith, free-low (c .before .before .before .before .before .before .before .before .before .args .z .p) (c .before .before .before .before .before .before .before .before .before .args .z .p) (c .before .before .before .before .before .before .before .before .before .args .used .now) (c .before .before .before .before .before .before .before .before .before .args .w .cursor) (c .before .before .before .before .before .before .before .before .before .pre .cursor), c .before .before .before .before .before .before .before .before .before .pre .sized .places))
+cast-out c = rw (c .before .before .before .before .first-free .ensures) (omega (arith, free-low (c .before .before .before .before .before .before .before .before .before .args .z .p) (c .before .before .before .before .before .before .before .before .before .args .z .p) (c .before .before .before .before .before .before .before .before .before .args .used .now) (c .before .before .before .before .before .before .before .before .before .args .st .cursor) (c .before .before .before .before .before .before .before .before .before .pre .cursor), c .before .before .before .before .before .before .before .before .before .pre .sized .places))
 
 mul-out : tie.Need-mul-out
 mul-out c = search needs

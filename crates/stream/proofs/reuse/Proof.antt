@@ -14,7 +14,7 @@ use Rattle.stream.proofs.flush.Reads as flush-reads
 low : (c : tie.After-slice-known2) → c .before .before .flush .result .m < 4096
 low c =
     let s = c .before .before .before .before .before .before .before in
-    rw (ap (λ (a : Memory). a .st .m) (c .before .before .flush .ensures)) (omega (arith, flushed-m (s .args .z) (record { words = s .args .s .now; used = s .args .used .now; out = s .args .out .now; st = s .args .w }), s .pre .1))
+    rw (ap (λ (a : Memory). a .st .m) (c .before .before .flush .ensures)) (omega (arith, flushed-m (s .args .z) (record { words = s .args .s .now; used = s .args .used .now; out = s .args .out .now; st = s .args .st }), s .pre .1))
 
 flush-requires : tie.Need-flush-requires
 flush-requires c κs = search needs

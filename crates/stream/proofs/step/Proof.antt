@@ -32,13 +32,13 @@ low-y : (c : tie.After-last-size) → HeadOk (c .before .before .before .peek2 .
 low-y c = rw (c .before .before .before .peek2 .ensures) (head-ok _ _ _ _ _ _ _ (c .before .before .before .before .before .before .before .before .before .before .pre .0 .lower))
 
 small : (c : tie.After-last-size) → c .last-size .result < 2 ^ 32
-small c = rw (c .last-size .ensures) (last-low (c .before .before .before .before .before .before .before .before .before .before .args .z) (c .before .before .before .before .before .before .before .before .before .before .args .s .now) (c .before .before .before .before .before .before .before .before .before .before .args .out .now) (c .before .before .before .before .before .before .before .before .before .before .args .w .m) (c .before .before .before .before .before .before .before .before .before .before .pre .0 .movable .flushable .sized) (λ i. c .before .before .before .before .before .before .before .before .before .slice-known .given i .fits))
+small c = rw (c .last-size .ensures) (last-low (c .before .before .before .before .before .before .before .before .before .before .args .z) (c .before .before .before .before .before .before .before .before .before .before .args .s .now) (c .before .before .before .before .before .before .before .before .before .before .args .out .now) (c .before .before .before .before .before .before .before .before .before .before .args .st .m) (c .before .before .before .before .before .before .before .before .before .before .pre .0 .movable .flushable .sized) (λ i. c .before .before .before .before .before .before .before .before .before .slice-known .given i .fits))
 
 -- not both sides are used up
 either : (c : tie.After-last-size) → (not (c .before .before .before .before .before .peek .result .some) && not (c .before .before .before .peek2 .result .some)) ≡ false
 either c =
     let a = c .before .before .before .before .before .before .before .before .before .before .args in
-    rw (head-none (a .z) (a .t .pages) (a .s .now) (a .xs .now) (a .w .x .i) (a .w .x .j) (a .t .x), head-none (a .z) false (a .s .now) (a .ys .now) (a .w .y .i) (a .w .y .j) (a .t .y), ← c .before .before .before .before .before .peek .ensures, ← c .before .before .before .peek2 .ensures) at (c .before .before .before .before .before .before .before .before .before .before .pre .1)
+    rw (head-none (a .z) (a .t .pages) (a .s .now) (a .xs .now) (a .st .x .i) (a .st .x .j) (a .t .x), head-none (a .z) false (a .s .now) (a .ys .now) (a .st .y .i) (a .st .y .j) (a .t .y), ← c .before .before .before .before .before .peek .ensures, ← c .before .before .before .peek2 .ensures) at (c .before .before .before .before .before .before .before .before .before .before .pre .1)
 
 choose-requires : tie.Need-choose-requires
 choose-requires c κs =

@@ -30,7 +30,7 @@ returns c =
     let l = c .before .before .before .before .before .before .loop in
     let a = c .before .before .before .before .before .before .before .before .args in
     let e = l .inv .1 .1 in
-    let w : Memory = record { words = a .s .now; used = a .used .now; out = a .out .now; st = a .w } in
+    let w : Memory = record { words = a .s .now; used = a .used .now; out = a .out .now; st = a .st } in
     let n : a .limit ≡ l .k + (a .limit - l .k) = omega arith in
     let i : idle (a .z) (a .t) (a .xs .now) (a .ys .now) (turns (a .z) (a .t) (a .xs .now) (a .ys .now) (l .k) w) ≡ true = ap (idle (a .z) (a .t) (a .xs .now) (a .ys .now)) (sym e) ∙ c .if1 .taken in
     e ∙ (sym (turns-idle (a .z) (a .t) (a .xs .now) (a .ys .now) (a .limit - l .k) (l .k) w i) ∙ ap (λ (m : ℕ). turns (a .z) (a .t) (a .xs .now) (a .ys .now) m w) (sym n))
@@ -52,7 +52,7 @@ loop-again c =
     let l = c .before .before .before .before .before .before .before .before .before .before .before .before .loop in
     let a = c .before .before .before .before .before .before .before .before .before .before .before .before .before .before .args in
     let e = l .inv .1 .1 in
-    let w : Memory = record { words = a .s .now; used = a .used .now; out = a .out .now; st = a .w } in
+    let w : Memory = record { words = a .s .now; used = a .used .now; out = a .out .now; st = a .st } in
     let i : idle (a .z) (a .t) (a .xs .now) (a .ys .now) (turns (a .z) (a .t) (a .xs .now) (a .ys .now) (l .k) w) ≡ false = ap (idle (a .z) (a .t) (a .xs .now) (a .ys .now)) (sym e) ∙ c .before .before .before .before .before .before .if1 .left in
     (omega arith, (c .before .before .step .kept .0 ∙ l .inv .1 .0, c .before .before .step .ensures ∙ (ap (turn (a .z) (a .t) (a .xs .now) (a .ys .now)) e ∙ turns-more (a .z) (a .t) (a .xs .now) (a .ys .now) (l .k) w i)))
 

@@ -21,7 +21,7 @@ abbrev μ-loop : tie.MeasureT-loop
 μ-loop s dir bound next marks₀ keys₀ pays₀ count₀ key₀ live₀ marks keys pays count key live = count
 
 loop-holds : tie.Need-loop-holds Inv-loop μ-loop
-loop-holds c = let a = c .before .before in (skims-start _ _ (a .args .c) _ (a .pre .0), omega arith)
+loop-holds c = let a = c .before .before in (skims-start _ _ (a .args .cur) _ (a .pre .0), omega arith)
 
 live-bit-requires : tie.Need-live-bit-requires Inv-loop μ-loop
 live-bit-requires c κs = tt

@@ -18,7 +18,7 @@ refill-requires c κs = search needs
 returns-2 : tie.Need-returns-2
 returns-2 c =
     let a = c .before .before .before .before .before in
-    (c .refill .ensures .0, c .refill .ensures .1 ∙ sym (more-last _ _ (a .args .c) (c .before .if2 .taken)) ∙ sym (past-hit _ _ _ (a .pre .0) _ (c .before .before .before .if1 .left) (a .pre .1)))
+    (c .refill .ensures .0, c .refill .ensures .1 ∙ sym (more-last _ _ (a .args .cur) (c .before .if2 .taken)) ∙ sym (past-hit _ _ _ (a .pre .0) _ (c .before .before .before .if1 .left) (a .pre .1)))
 
 add-at : tie.Need-add-at
 add-at c = search needs
@@ -30,7 +30,7 @@ shared-slice-read-found : tie.Need-shared-slice-read-found
 shared-slice-read-found c = search needs
 
 cast-found : tie.Need-cast-found
-cast-found c = omega (arith, c .shared-slice-known2 .given (c .before .before .before .before .before .before .args .c .chunk .keys + 1))
+cast-found c = omega (arith, c .shared-slice-known2 .given (c .before .before .before .before .before .before .args .cur .chunk .keys + 1))
 
 add-t13 : tie.Need-add-t13
 add-t13 c = search needs
@@ -41,8 +41,8 @@ sub-t16 c = search needs
 returns-3 : tie.Need-returns-3
 returns-3 c =
     let a = c .before .before .before .before .before .before .before .before in
-    let b = c .before .before .shared-slice-known2 .given (a .args .c .chunk .keys + 1) .fits in
-    (step-chunk _ _ (a .args .c) _ (a .pre .0) (c .before .before .before .before .if2 .left) refl b, more-chunk _ _ (a .args .c) _ ∙ sym (past-hit _ _ _ (a .pre .0) _ (c .before .before .before .before .before .before .if1 .left) (a .pre .1)))
+    let b = c .before .before .shared-slice-known2 .given (a .args .cur .chunk .keys + 1) .fits in
+    (step-chunk _ _ (a .args .cur) _ (a .pre .0) (c .before .before .before .before .if2 .left) refl b, more-chunk _ _ (a .args .cur) _ ∙ sym (past-hit _ _ _ (a .pre .0) _ (c .before .before .before .before .before .before .if1 .left) (a .pre .1)))
 
 pub step-spec : {M : Type 1} → statement M
 step-spec =
