@@ -199,7 +199,10 @@ pub fn feed(words: &mut [u32], state: State, input: &[u8], out: &mut [u8]) -> Fe
     requires { ⌜ (length (now words) ≡ benchWords) × ((state .words ≤ benchWords) × (longestLine * length (now input) ≤ length (now out))) ⌝ }
     ensures { λ r. ⌜ (r .state .words ≤ benchWords) × ((r .bytes ≤ length (now (out .entry))) × ((s : Session) → Holds state (now (words .entry)) s → Feeds (heard s (now (input .entry))) 0 r (now (words .exit)) (now (out .entry)) (now (out .exit)))) ⌝ }
 {
-    let mut fed = Fed { state: state, bytes: 0 };
+    let mut fed = Fed {
+        state: state,
+        bytes: 0,
+    };
     for i in 0..input.len() {
         let at = fed.bytes;
         fed = hear(words, fed.state, input[i], out, at);
@@ -214,7 +217,10 @@ pub fn finish(words: &mut [u32], state: State, out: &mut [u8]) -> Fed
 {
     let reading = state.reading;
     if reading.is_start() {
-        return Fed { state: state, bytes: 0 };
+        return Fed {
+            state: state,
+            bytes: 0,
+        };
     }
     hear(words, state, b'\n', out, 0)
 }
