@@ -75,7 +75,8 @@ def imports(text):
     for module, group in re.findall(r"(?m)^(?:pub |ghost )?use ([^\s{;]+)\.\{([^}]*)\}", text):
         for name in group.split(","):
             theirs, _, ours = name.strip().partition(" as ")
-            names[ours or theirs] = (module, theirs)
+            if theirs:
+                names[ours or theirs] = (module, theirs)
     short = {ours: module for module, ours in re.findall(r"(?m)^(?:pub |ghost )?use ([^\s{;]+) as ([^\s;]+)", text)}
     return names, short
 

@@ -13,7 +13,7 @@
  *     store   the first word; aligned to 4 bytes, and never NULL, not even with 0 words
  *     words   how many words there are; all of them can be read, and written in format, put and delete
  *
- * That, enough stack (MEWILOVANG_STACK_.., below) and the rule for threads are all that you have to see to. Whatever the
+ * That, enough stack (MEWILOVANG_STACK_.., below) and the rule about others (THREADS) are all that you have to see to. Whatever the
  * words hold, noise or a damaged store, each call ends, touches no word outside of them, and does its work or turns the
  * call down with one of the numbers below.
  *
@@ -28,7 +28,8 @@
  *     5  the store is full: a put of a test number that is not in it while it holds as many as it may (put only)
  *
  * They are looked for in this order, and the first that applies is the reason. A call that is turned down changes no
- * word, and its answer has the number in `reason` and 0 in every other member.
+ * word, and its answer has the number in `reason` and 0 in every other member. (check answers the number alone; show has
+ * none, its part is empty.)
  *
  * Every call but format and words makes the whole form check first. So a store that was damaged since the last call is
  * found out, and no call answers from it. A damage that leaves a store of good form (a changed payload, say) cannot be
@@ -125,16 +126,16 @@
  *
  * THREADS
  *
- * There is no global state. Two threads may read one store at the same time (check, look_up, next, show, about). While
- * format, put or delete runs on a store, no other thread may use that store. Different stores have nothing to do with each
- * other.
+ * There is no global state. Two threads may read one store at the same time (check, look_up, next, show, about). While any
+ * call runs on a store, nothing else may write its words: no other thread, no interrupt, no device. While format, put or
+ * delete runs, nothing else may read them either. Different stores have nothing to do with each other.
  *
  *
  * POWER LOSS
  *
  * If power is lost while format, put or delete runs, nothing is promised about the words: they may be damaged (4), or hold
- * a store that passes and lacks tests. Keep a copy of the words from before the call where this can happen. Between calls
- * the words are always a whole store.
+ * a store that passes and lacks tests. Keep a copy of the words from before the call where this can happen. Between calls,
+ * from the first format on that is not turned down, the words are always a whole store.
  *
  *
  * EXAMPLE (c/console.c has a longer one)
