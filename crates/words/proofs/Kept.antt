@@ -60,12 +60,12 @@ record-kept g s r live area v f k l =
     record {
       long = words-length g t area v k l ∙ sym (words-length g s area v f l);
       header = λ i h n m.
-        header-at g t area v k i h ∙ ap (λ (x : List ℕ). word x i) (header-set g s r live)
-        ∙ getD-set-other (set hs 6 live) 8 i (length (insert r (s .top))) 0 m ∙ getD-set-other hs 6 i live 0 n ∙ sym (header-at g s area v f i h);
+          header-at g t area v k i h ∙ ap (λ (x : List ℕ). word x i) (header-set g s r live)
+          ∙ getD-set-other (set hs 6 live) 8 i (length (insert r (s .top))) 0 m ∙ getD-set-other hs 6 i live 0 n ∙ sym (header-at g s area v f i h);
       below = λ i h.
-        let e : listStart g 1 + (i - listStart g 1) ≡ i = omega arith in
-        subst (λ (j : ℕ). word (storeWords g t area) j ≡ word (storeWords g s area) j) e
-        (below-at g t area v k (i - listStart g 1) ∙ sym (below-at g s area v f (i - listStart g 1)));
+          let e : listStart g 1 + (i - listStart g 1) ≡ i = omega arith in
+          subst (λ (j : ℕ). word (storeWords g t area) j ≡ word (storeWords g s area) j) e
+          (below-at g t area v k (i - listStart g 1) ∙ sym (below-at g s area v f (i - listStart g 1)));
     }
 
 -- a call that enters a record and merges nothing
