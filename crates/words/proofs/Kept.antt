@@ -2,17 +2,19 @@
 -- level 1 begins. Every other word is what it was.
 use Prim.Native.Nat.{ℕ, suc, _+_, _-_, _*_, _≤_, _<_}
 use mathlib.Core.Path.{_≡_, refl, sym, _∙_, ap, subst}
-use mathlib.Core.Bool.{Bool}
+use mathlib.Core.Bool.{Bool, false, true≢false}
 use mathlib.Core.List.{List, [], _∷_, _++_, append-assoc}
 use mathlib.Core.Logic.{_≢_}
+use mathlib.Core.Option.{none}
 use native.Mathlib.Omega.{arith}
 use lib.Dec.{eqb}
 use lib.ListN.{length, set, getD, List·getD-append}
 use lib.Seq.{getD-append-add, getD-set-other}
 use Rattle.geometry.specs.declared.Geometry.{Geometry}
 use Rattle.geometry.specs.Geometry.{Valid, listStart, blockWidth}
-use Rattle.levels.specs.Basics.{if_then_else_}
+use Rattle.levels.specs.Basics.{if_then_else_, isSome}
 use Rattle.levels.specs.Record.{Rec}
+use Rattle.levels.specs.Map.{find}
 use Rattle.levels.specs.Store.{Store}
 use Rattle.levels.specs.Call.{Merge, afterMerges}
 use Rattle.levels.specs.Put.{Change, refused, absent, entered, insert, put, delete, withRecord, mergesOf}
@@ -22,12 +24,13 @@ use Rattle.levels.specs.Sound.{Fits}
 use Rattle.levels.proofs.PutDelete.{EnterFacts, PutSays, DeleteSays, put-says, delete-says}
 use Rattle.words.specs.Layout.{word, geometryAt, storeAt, areaOf, headerWords, topWords, listWords, storeWords, writeBlocks}
 use Rattle.words.specs.Form.{reasonOf}
-use Rattle.words.specs.Calls.{Outcome, ChangeAnswer, leftWords, changeOutcome, putOf, deleteOf}
+use Rattle.words.specs.Calls.{Outcome, ChangeAnswer, mapAt, leftWords, changeOutcome, putOf, deleteOf}
 use Rattle.words.specs.Passed.{Passed}
 use Rattle.words.proofs.State.{header-12, upper-long, words-length}
 use Rattle.words.proofs.Reason.{reason-passed}
 use Rattle.words.proofs.Steps.{put-of, delete-of}
 use Rattle.words.proofs.Demand.{put-demand, delete-demand}
+use Rattle.words.proofs.MapAfter.{delete-accepted}
 
 -- the words `out` are ws but for live, c and level 0
 pub record KeptBelow (g : Geometry) (ws out : List ℕ) : Type 0 where
@@ -126,3 +129,18 @@ pub delete-unmerged : (ws : List ℕ) (k : ℕ) → reasonOf ws ≡ 0 → delete
 delete-unmerged ws k e q =
     let d = delete-demand ws k e in
     no-merges (mergesOf (delete (geometryAt ws) (storeAt (geometryAt ws) ws) k)) (d .first-out) (sym (d .merges-counted 1 (omega arith) (omega arith)) ∙ q)
+
+-- "absent means no change": a delete of a key that the map has not leaves every word.
+pub delete-absent-words : (ws : List ℕ) (k : ℕ) → reasonOf ws ≡ 0 → find k (mapAt ws) ≡ none → deleteOf ws k .words ≡ ws
+unfolding changeOutcome
+delete-absent-words ws k e q =
+    let p = reason-passed ws e in
+    let o = delete-of ws k e in
+    let a : changeOutcome (geometryAt ws) ws (delete (geometryAt ws) (storeAt (geometryAt ws) ws) k) .answer .live ≡ false = sym (ap (λ (x : Outcome ChangeAnswer). x .answer .live) o) ∙ delete-accepted ws e k .1 ∙ ap isSome q in
+    ap (λ (x : Outcome ChangeAnswer). x .words) o
+    ∙ go (delete (geometryAt ws) (storeAt (geometryAt ws) ws) k) (delete-says (geometryAt ws) (storeAt (geometryAt ws) ws) (p .valid) (p .fits) (p .sound) k) a
+  where
+    go : (c : Change) → DeleteSays (geometryAt ws) (storeAt (geometryAt ws) ws) k c → changeOutcome (geometryAt ws) ws c .answer .live ≡ false → changeOutcome (geometryAt ws) ws c .words ≡ ws
+    go (refused n) h z = refl
+    go absent h z = refl
+    go (entered was ms t) h z = absurd (true≢false (sym (h .0) ∙ z))
