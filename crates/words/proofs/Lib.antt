@@ -14,3 +14,4 @@ pub mod Formatted
 pub mod MapAfter
 pub mod About
 pub mod History
+pub mod Kept
