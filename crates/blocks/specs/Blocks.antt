@@ -9,6 +9,7 @@ use lib.ListN.{getD, set, length, replicate, take}
 use lib.Seq.{sets}
 use Rattle.geometry.specs.declared.Geometry.{Geometry}
 use Rattle.geometry.specs.Geometry.{capacityOf, marksStart, keysStart, paysStart, placesStart}
+use Rattle.geometry.specs.Room.{placesMost}
 use Rattle.levels.specs.Basics.{if_then_else_, member}
 use Rattle.levels.specs.Record.{Rec}
 use Rattle.levels.specs.Place.{after}
@@ -26,7 +27,7 @@ layoutOf g =
 pub record Sized (z : Layout) (xs : List ℕ) : Type 0 where
   pub b-low : 2 ≤ z .b
   pub b-high : z .b ≤ 16
-  pub places : z .p ≤ 8192
+  pub places : z .p ≤ placesMost
   pub base-high : z .base ≤ 1000000
   pub marks-end : z .marks + z .top ≤ z .base
   pub keys-end : z .keys + z .top * z .b ≤ z .base

@@ -5,6 +5,7 @@ ghost use mathlib.Core.Path.{_≡_};
 ghost use Prim.Native.Nat.{ℕ, _+_, _-_, _*_, _^_, _≤_, _<_};
 ghost use lib.ListN.{getD};
 ghost use Rattle.geometry.specs.Geometry.{Valid};
+ghost use Rattle.geometry.specs.Room.{placesMost, listRoom};
 ghost use Rattle.blocks.specs.Blocks.{Sized, layoutOf, startOf, afterBy, SomeFree, nextMark, marked, pushed, emptyBuffer, written, WritesRecords};
 use geometry::Geometry;
 
@@ -80,7 +81,7 @@ impl Buffer {
 
 // The first word of a place. A million is more than any offset: no store is longer than 288,524 words.
 pub fn place_start(z: Layout, place: usize) -> usize
-    requires { ⌜ (z .b ≤ 16) × (z .base ≤ 1000000) × (place ≤ 8192) ⌝ }
+    requires { ⌜ (z .b ≤ 16) × (z .base ≤ 1000000) × (place ≤ placesMost) ⌝ }
     ensures { λ r. ⌜ r ≡ startOf z place ⌝ }
 {
     let b = z.b;
@@ -89,7 +90,7 @@ pub fn place_start(z: Layout, place: usize) -> usize
 
 // The place k steps after the cursor, going round at p.
 fn place_after(p: usize, cursor: usize, k: usize) -> usize
-    requires { ⌜ (p ≤ 8192) × (cursor < p) × (k ≤ p) ⌝ }
+    requires { ⌜ (p ≤ placesMost) × (cursor < p) × (k ≤ p) ⌝ }
     ensures { λ r. ⌜ r ≡ afterBy p cursor k ⌝ }
 {
     if cursor + k < p {
@@ -101,7 +102,7 @@ fn place_after(p: usize, cursor: usize, k: usize) -> usize
 
 // The first free place after the cursor, going round.
 pub fn first_free(used: &[bool; Geometry::MAX_P], p: usize, cursor: usize) -> usize
-    requires { ⌜ (p ≤ 8192) × (cursor < p) × SomeFree (now used) p ⌝ }
+    requires { ⌜ (p ≤ placesMost) × (cursor < p) × SomeFree (now used) p ⌝ }
     ensures { λ r. ⌜ r ≡ nextMark p (now (used .entry)) cursor ⌝ }
 {
     let mut k = 1;
@@ -116,7 +117,7 @@ pub fn first_free(used: &[bool; Geometry::MAX_P], p: usize, cursor: usize) -> us
 
 // The first n places of a list are marked as in use.
 pub fn mark_listed(used: &mut [bool; Geometry::MAX_P], list: &[u32; Geometry::LIST_ROOM], n: usize)
-    requires { ⌜ (n ≤ 4096) × ((i : ℕ) → i < n → getD (now list) i 0 < 8192) ⌝ }
+    requires { ⌜ (n ≤ listRoom) × ((i : ℕ) → i < n → getD (now list) i 0 < placesMost) ⌝ }
     ensures { λ _. ⌜ now (used .exit) ≡ marked (now (used .entry)) (now (list .entry)) n ⌝ }
 {
     for i in 0..n {

@@ -6,6 +6,7 @@ use mathlib.Core.List.{List}
 use lib.ListN.{length, getD}
 use Rattle.geometry.specs.declared.Geometry.{Geometry}
 use Rattle.geometry.specs.Geometry.{Valid, storeLength}
+use Rattle.geometry.specs.Room.{placesMost, listRoom}
 use Rattle.words.specs.Layout.{recordCount}
 use Rattle.blocks.specs.declared.Layout.{Layout}
 use Rattle.blocks.specs.Blocks.{Sized, startOf, emptyBuffer}
@@ -49,9 +50,9 @@ beginAt cursor = record { x = record { i = 0; j = 0 }; y = record { i = 0; j = 0
 pub record Compactable (g : Geometry) (ws : List ℕ) (used : List Bool) (out list : List ℕ) (n cursor : ℕ) : Type 0 where
   pub valid : Valid g
   pub words : length ws ≡ storeLength g
-  pub marks-long : length used ≡ 8192
-  pub out-long : length out ≡ 4096
-  pub list-long : length list ≡ 4096
+  pub marks-long : length used ≡ placesMost
+  pub out-long : length out ≡ listRoom
+  pub list-long : length list ≡ listRoom
   pub cursor-low : cursor < g .p
   pub few : n ≤ 2048
   pub blocks : (i : ℕ) → i < n → ListedBlock g ws used (getD list i 0)
@@ -73,7 +74,7 @@ pub record Summable (z : Layout) (ws list : List ℕ) (n : ℕ) : Type 0 where
 pub record Countable (g : Geometry) (ws list : List ℕ) (n : ℕ) : Type 0 where
   pub valid : Valid g
   pub words : length ws ≡ storeLength g
-  pub list-long : length list ≡ 4096
+  pub list-long : length list ≡ listRoom
   pub few : n ≤ 2048
   pub place : (i : ℕ) → i < n → getD list i 0 < g .p
   pub high : (i : ℕ) → i < n → recordCount g ws (getD list i 0) ≤ g .b

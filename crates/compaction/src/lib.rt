@@ -9,6 +9,7 @@ ghost use Rattle.levels.specs.Waste as waste;
 ghost use Rattle.levels.specs.Place.{Allocation, settle};
 ghost use Rattle.words.specs.Layout.{blockAt};
 ghost use Rattle.blocks.specs.Blocks.{Marks};
+ghost use Rattle.geometry.specs.Room.{listRoom};
 ghost use Rattle.stream.specs.Machine.{Memory};
 ghost use Rattle.merging.specs.Contract.{Leaves};
 ghost use Rattle.compaction.specs.Machine.{beginAt, chunkGathered, blocksGathered, Gathering, recordSum, Summable, Countable, Compactable};
@@ -51,7 +52,7 @@ fn gather_blocks(
     st: Progress,
     n: usize,
 ) -> Progress
-    requires { ⌜ (n ≤ 4096) × ((i : ℕ) → i < n → Gathering z (getD (now list) i 0) (blocksGathered z (now list) i (record { words = now s; used = now used; out = now out; st = st }))) ⌝ }
+    requires { ⌜ (n ≤ listRoom) × ((i : ℕ) → i < n → Gathering z (getD (now list) i 0) (blocksGathered z (now list) i (record { words = now s; used = now used; out = now out; st = st }))) ⌝ }
     ensures { λ r. ⌜ _≡_ {A = Memory} (record { words = now (s .exit); used = now (used .exit); out = now (out .exit); st = r }) (blocksGathered z (now (list .entry)) n (record { words = now (s .entry); used = now (used .entry); out = now (out .entry); st = st })) ⌝ }
 {
     let mut v = st;

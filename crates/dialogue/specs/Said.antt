@@ -11,6 +11,7 @@ use Rattle.lines.specs.declared.Line.{Line}
 use Rattle.lines.specs.declared.Line.the-variants.{Format, Put, Delete, Get, Unreadable}
 use Rattle.lines.specs.Bytes.{letterP, letterD}
 use Rattle.lines.specs.Lines.{formatLine, getLine, changeLine, unreadableLine}
+use Rattle.dialogue.specs.Bench.{benchWords}
 
 -- The words of the store after a line, and the bytes printed for it. "before any accepted f, the store has none"
 pub record Said : Type 0 where
@@ -39,7 +40,7 @@ changedLine letter a = changeLine letter (a .reason) (bit (a .live)) (mergedSum 
 unfoldable pub formatSaid : List ℕ → Geometry → Said
 formatSaid ws g = elim (isLegal g) [
   | false ↦ record { store = ws; bytes = formatLine 2 0 }
-  | true ↦ elim (leb (storeLength g) 16384) [
+  | true ↦ elim (leb (storeLength g) benchWords) [
     | true ↦ record { store = formatWords g (storeLength g); bytes = formatLine 0 (keyLimitOf g) }
     | false ↦ record { store = ws; bytes = formatLine 3 0 }
   ]

@@ -61,10 +61,10 @@ impl State {
 }
 
 // 1 or 0, as the lines say it.
-fn flag(b: bool) -> u32
-    ensures { λ r. ⌜ r ≡ bit b ⌝ }
+fn flag(said: bool) -> u32
+    ensures { λ r. ⌜ r ≡ bit said ⌝ }
 {
-    if b {
+    if said {
         return 1;
     }
     0
@@ -94,11 +94,11 @@ fn print_looked(out: &mut [u8], at: usize, l: Looked) -> usize
 }
 
 // The same for put and delete: their sums over all levels are words (`SumsFit`), so nothing is cut off.
-fn print_changed(out: &mut [u8], at: usize, letter: u8, c: Changed) -> usize
-    requires { ⌜ (at + longestLine ≤ length (now out)) × SumsFit (changedAnswer c) ⌝ }
-    ensures { λ r. ⌜ (r ≤ at + longestLine) × Printed (now (out .entry)) (now (out .exit)) at r (changedLine letter (changedAnswer c)) ⌝ }
+fn print_changed(out: &mut [u8], at: usize, letter: u8, changed: Changed) -> usize
+    requires { ⌜ (at + longestLine ≤ length (now out)) × SumsFit (changedAnswer changed) ⌝ }
+    ensures { λ r. ⌜ (r ≤ at + longestLine) × Printed (now (out .entry)) (now (out .exit)) at r (changedLine letter (changedAnswer changed)) ⌝ }
 {
-    match c {
+    match changed {
         Changed::Refused(n) => lines::print_change(out, at, letter, n, 0, 0, 0),
         Changed::Done(change) => {
             let one = change.tally.one;
@@ -160,12 +160,12 @@ fn answer(words: &mut [u32], n: usize, out: &mut [u8], at: usize, line: Line) ->
             }
         },
         Line::Put { key, payload } => {
-            let c = store::put(&mut words[0..n], key, payload);
-            answered(n, print_changed(out, at, b'p', c))
+            let changed = store::put(&mut words[0..n], key, payload);
+            answered(n, print_changed(out, at, b'p', changed))
         }
         Line::Delete { key } => {
-            let c = store::delete(&mut words[0..n], key);
-            answered(n, print_changed(out, at, b'd', c))
+            let changed = store::delete(&mut words[0..n], key);
+            answered(n, print_changed(out, at, b'd', changed))
         }
         Line::Get { key } => {
             let l = store::look_up(&words[0..n], key);

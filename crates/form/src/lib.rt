@@ -6,6 +6,7 @@ ghost use mathlib.Core.Bool.{true};
 ghost use Prim.Native.Nat.{_+_, _-_, _*_, _≤_, _<_};
 ghost use lib.ListN.{length};
 ghost use Rattle.geometry.specs.Geometry.{Ranged};
+ghost use Rattle.geometry.specs.Room.{placesMost};
 ghost use Rattle.words.specs.Form.{roomOf};
 ghost use Rattle.entry.specs.Entry.{Sized};
 ghost use Rattle.form.specs.Form.{Headed, topOf, levelOf, headerOk, freshOf, markOf, listsOk, spareOk, passed};
@@ -115,7 +116,7 @@ pub fn list_fresh(
     n: usize,
     p: usize,
 ) -> bool
-    requires { ⌜ (start + n ≤ length (now s)) × (p ≤ 8192) ⌝ }
+    requires { ⌜ (start + n ≤ length (now s)) × (p ≤ placesMost) ⌝ }
     ensures { λ r. ⌜ (r ≡ freshOf (now (s .entry)) p start n (now (used .entry)))
         × (r ≡ true → now (used .exit) ≡ markOf (now (s .entry)) start n (now (used .entry))) ⌝ }
 {

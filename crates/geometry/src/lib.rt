@@ -4,6 +4,7 @@
 ghost use mathlib.Core.Path.{_≡_};
 ghost use Prim.Native.Nat.{_+_, _^_, _≤_};
 ghost use Rattle.geometry.specs.Geometry.{capacityOf, windowOf, capacitySum, flashCapacityOf, keyLimitOf, inRanges, inSizes, builtOf, Ranged, Valid, marksStart, keysStart, paysStart, listStart, blockWidth, placesStart, placeStart, storeLength, topCapacityOf};
+ghost use Rattle.geometry.specs.Room.{placesMost};
 
 // The fields are private, so that a geometry outside this crate comes from `new` and keeps every limit.
 pub struct Geometry {
@@ -240,7 +241,7 @@ impl Geometry {
 
     // The first word of a place; of place P, the end of the store.
     pub fn place_start(self, place: usize) -> usize
-        requires { ⌜ Ranged self × (place ≤ 8192) ⌝ }
+        requires { ⌜ Ranged self × (place ≤ placesMost) ⌝ }
         ensures { λ r. ⌜ r ≡ placeStart self place ⌝ }
     {
         self.places_start() + place * self.block_width()

@@ -7,6 +7,7 @@ use Rattle.levels.specs.Basics.{if_then_else_}
 use Rattle.blocks.specs.declared.Layout.{Layout}
 use Rattle.blocks.specs.declared.Buffer.{Buffer}
 use Rattle.blocks.specs.Blocks.{Sized, startOf, pushed, emptyBuffer}
+use Rattle.blocks.specs.Room.{listRoom}
 use Rattle.stream.specs.declared.Progress.{Progress}
 use Rattle.sides.specs.Sides.{lastSize}
 use Rattle.stream.specs.Machine.{Memory, flushed, Flushable}
@@ -36,7 +37,7 @@ joined a keys pays marks (suc j) = pushed (joined a keys pays marks j) (getD key
 pub record Pullable (z : Layout) (xs out : List ℕ) (w : Progress) : Type 0 where
   pub sized : Sized z xs
   pub m-low : 1 ≤ w .m
-  pub m-high : w .m ≤ 4096
+  pub m-high : w .m ≤ listRoom
   pub place : getD out (w .m - 1) 0 < z .p
   pub few : w .buf .n + getD xs (startOf z (getD out (w .m - 1) 0)) 0 ≤ z .b
 
@@ -56,7 +57,7 @@ pulled z xs out w =
 -- what the join of a leftover asks: a list of places, and a buffer of at most 16
 pub record Lefts (z : Layout) (xs out : List ℕ) (w : Progress) : Type 0 where
   pub sized : Sized z xs
-  pub m-high : w .m ≤ 4096
+  pub m-high : w .m ≤ listRoom
   pub few : w .buf .n ≤ 16
   pub places : (i : ℕ) → i < w .m → getD out i 0 < z .p
 
@@ -82,7 +83,7 @@ afterTaken z xs q w =
 -- what the join with the block after Y asks of that block, if there is one
 pub record Afters (z : Layout) (xs out ys : List ℕ) (w : Progress) (end : ℕ) : Type 0 where
   pub lefts : Lefts z xs out w
-  pub end-high : end ≤ 4096
+  pub end-high : end ≤ listRoom
   pub clean : Clean (w .buf)
   pub place : w .y .i < end → getD ys (w .y .i) 0 < z .p
   pub filled : w .y .i < end → 1 ≤ getD xs (startOf z (getD ys (w .y .i) 0)) 0
@@ -126,4 +127,4 @@ pub record Closable (z : Layout) (ys : List ℕ) (end : ℕ) (a : Memory) : Type
   pub afters : Afters z (a .words) (a .out) ys (leftJoined z (a .words) (a .out) (a .st)) end
   pub flushable : Flushable z (a .words) (a .used) (joinedUp z ys end a .st)
   pub y-high : flushed z (joinedUp z ys end a) .st .y .i ≤ end
-  pub room : flushed z (joinedUp z ys end a) .st .m + (end - flushed z (joinedUp z ys end a) .st .y .i) ≤ 4096
+  pub room : flushed z (joinedUp z ys end a) .st .m + (end - flushed z (joinedUp z ys end a) .st .y .i) ≤ listRoom

@@ -5,6 +5,7 @@ ghost use mathlib.Core.Path.{_≡_};
 ghost use Prim.Native.Nat.{_+_, _-_, _*_, _%_, _≤_, _<_};
 ghost use lib.ListN.{length, getD};
 ghost use Rattle.blocks.specs.Blocks.{startOf};
+ghost use Rattle.blocks.specs.Room.{listRoom};
 ghost use Rattle.stream.specs.Machine.{Memory};
 ghost use Rattle.joins.specs.Joins.{Clean, Loadable, appended, joined, Pullable, pulled, Lefts, leftJoined, Afters, afterTaken, afterJoined, restedOut, Closable, closed};
 use blocks::Buffer;
@@ -93,7 +94,7 @@ fn join_left(s: &[u32], z: Layout, out: &[u32; blocks::LIST_ROOM], st: Progress)
 
 // The block after Y joins the buffer.
 fn take_after(s: &[u32], z: Layout, q: usize, st: Progress) -> Progress
-    requires { ⌜ Loadable z (now s) q (st .buf) × (st .y .i < 4096) ⌝ }
+    requires { ⌜ Loadable z (now s) q (st .buf) × (st .y .i < listRoom) ⌝ }
     ensures { λ r. ⌜ r ≡ afterTaken z (now (s .entry)) q st ⌝ }
 {
     let buf = st.buf;
@@ -151,7 +152,7 @@ pub fn copy_entries(
     from: usize,
     end: usize,
 )
-    requires { ⌜ (end ≤ 4096) × (m + (end - from) ≤ 4096) ⌝ }
+    requires { ⌜ (end ≤ listRoom) × (m + (end - from) ≤ listRoom) ⌝ }
     ensures { λ _. ⌜ now (out .exit) ≡ restedOut (now (out .entry)) m (now (ys .entry)) from (end - from) ⌝ }
 {
     let mut k = m;

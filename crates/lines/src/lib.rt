@@ -270,12 +270,12 @@ fn print_field(out: &mut [u8], at: usize, n: u32, after: u8) -> usize
 }
 
 // The two bytes that a line begins with.
-fn print_pair(out: &mut [u8], at: usize, a: u8, b: u8) -> usize
+fn print_pair(out: &mut [u8], at: usize, first: u8, second: u8) -> usize
     requires { ⌜ at + 2 ≤ length (now out) ⌝ }
-    ensures { λ r. ⌜ (r ≤ at + 2) × Printed (now (out .entry)) (now (out .exit)) at r (a ∷ b ∷ []) ⌝ }
+    ensures { λ r. ⌜ (r ≤ at + 2) × Printed (now (out .entry)) (now (out .exit)) at r (first ∷ second ∷ []) ⌝ }
 {
-    out[at] = a;
-    out[at + 1] = b;
+    out[at] = first;
+    out[at + 1] = second;
     at + 2
 }
 
@@ -284,9 +284,9 @@ pub fn print_format(out: &mut [u8], at: usize, reason: u32, limit: u32) -> usize
     requires { ⌜ at + longestLine ≤ length (now out) ⌝ }
     ensures { λ r. ⌜ (r ≤ at + longestLine) × Printed (now (out .entry)) (now (out .exit)) at r (formatLine reason limit) ⌝ }
 {
-    let a = print_pair(out, at, b'f', b' ');
-    let b = print_field(out, a, reason, b' ');
-    print_field(out, b, limit, b'\n')
+    let reason_at = print_pair(out, at, b'f', b' ');
+    let limit_at = print_field(out, reason_at, reason, b' ');
+    print_field(out, limit_at, limit, b'\n')
 }
 
 // The line for g.
@@ -294,10 +294,10 @@ pub fn print_get(out: &mut [u8], at: usize, reason: u32, found: u32, payload: u3
     requires { ⌜ at + longestLine ≤ length (now out) ⌝ }
     ensures { λ r. ⌜ (r ≤ at + longestLine) × Printed (now (out .entry)) (now (out .exit)) at r (getLine reason found payload) ⌝ }
 {
-    let a = print_pair(out, at, b'g', b' ');
-    let b = print_field(out, a, reason, b' ');
-    let c = print_field(out, b, found, b' ');
-    print_field(out, c, payload, b'\n')
+    let reason_at = print_pair(out, at, b'g', b' ');
+    let found_at = print_field(out, reason_at, reason, b' ');
+    let payload_at = print_field(out, found_at, found, b' ');
+    print_field(out, payload_at, payload, b'\n')
 }
 
 // The line for p and d, as `letter` says.
@@ -313,11 +313,11 @@ pub fn print_change(
     requires { ⌜ at + longestLine ≤ length (now out) ⌝ }
     ensures { λ r. ⌜ (r ≤ at + longestLine) × Printed (now (out .entry)) (now (out .exit)) at r (changeLine letter reason live merged compacted) ⌝ }
 {
-    let a = print_pair(out, at, letter, b' ');
-    let b = print_field(out, a, reason, b' ');
-    let c = print_field(out, b, live, b' ');
-    let d = print_field(out, c, merged, b' ');
-    print_field(out, d, compacted, b'\n')
+    let reason_at = print_pair(out, at, letter, b' ');
+    let live_at = print_field(out, reason_at, reason, b' ');
+    let merged_at = print_field(out, live_at, live, b' ');
+    let compacted_at = print_field(out, merged_at, merged, b' ');
+    print_field(out, compacted_at, compacted, b'\n')
 }
 
 // The line for an unreadable line.

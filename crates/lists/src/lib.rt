@@ -7,6 +7,7 @@ ghost use Prim.Native.Nat.{_+_, _≤_, _<_};
 ghost use lib.ListN.{length, take};
 ghost use Rattle.slices.specs.Slices.{putAt};
 ghost use Rattle.geometry.specs.Geometry.{Valid, capacityOf, listStart, storeLength};
+ghost use Rattle.geometry.specs.Room.{placesMost, listRoom};
 ghost use Rattle.words.specs.Layout.{countAt, listedAt, pad};
 ghost use Rattle.words.specs.Form.{roomOf};
 ghost use Rattle.lists.specs.Lists.{withLists};
@@ -16,7 +17,7 @@ use geometry::Geometry;
 // copied.
 pub fn load(s: &[u32], g: Geometry, level: usize, out: &mut [u32; Geometry::LIST_ROOM]) -> usize
     requires { ⌜ Valid g × ((length (now s) ≡ storeLength g) × ((1 ≤ level) × ((level ≤ 3) × (countAt (now s) level ≤ roomOf g level)))) ⌝ }
-    ensures { λ r. ⌜ (r ≡ countAt (now (s .entry)) level) × ((take r (now (out .exit)) ≡ listedAt g (now (s .entry)) level) × (length (now (out .exit)) ≡ 4096)) ⌝ }
+    ensures { λ r. ⌜ (r ≡ countAt (now (s .entry)) level) × ((take r (now (out .exit)) ≡ listedAt g (now (s .entry)) level) × (length (now (out .exit)) ≡ listRoom)) ⌝ }
 {
     let n = s[8 + level] as usize;
     let start = g.list_start(level);
@@ -54,7 +55,7 @@ pub fn store_back(
 
 // The words of the header that a merge changes.
 fn put_counts(s: &mut [u32], n1: usize, n2: usize, n3: usize, cursor: usize)
-    requires { ⌜ (12 ≤ length (now s)) × ((n1 ≤ 8192) × ((n2 ≤ 8192) × ((n3 ≤ 8192) × (cursor ≤ 8192)))) ⌝ }
+    requires { ⌜ (12 ≤ length (now s)) × ((n1 ≤ placesMost) × ((n2 ≤ placesMost) × ((n3 ≤ placesMost) × (cursor ≤ placesMost)))) ⌝ }
     ensures { λ _. ⌜ now (s .exit) ≡ putAt 9 (n1 ∷ n2 ∷ n3 ∷ []) (putAt 7 (cursor ∷ []) (now (s .entry))) ⌝ }
 {
     s[7] = cursor as u32;

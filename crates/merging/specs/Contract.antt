@@ -6,6 +6,7 @@ use mathlib.Core.List.{List, [], _++_, map}
 use lib.ListN.{getD, length, take, drop}
 use Rattle.geometry.specs.declared.Geometry.{Geometry}
 use Rattle.geometry.specs.Geometry.{Valid, capacityOf, marksStart, keysStart, paysStart, placesStart, storeLength}
+use Rattle.geometry.specs.Room.{placesMost, listRoom}
 use Rattle.levels.specs.Record.{Block, Level, new}
 use Rattle.levels.specs.Merge.{merge}
 use Rattle.levels.specs.Place.{Settled, placesOf}
@@ -64,19 +65,19 @@ pub record FullPage (g : Geometry) (ws : List ℕ) (i : ℕ) : Type 0 where
 pub record Mergeable (g : Geometry) (ws : List ℕ) (used : List Bool) (out xs ys : List ℕ) (c : Cut) (cursor : ℕ) : Type 0 where
   pub valid : Valid g
   pub words : length ws ≡ storeLength g
-  pub marks-long : length used ≡ 8192
-  pub out-long : length out ≡ 4096
-  pub xs-long : length xs ≡ 4096
-  pub ys-long : length ys ≡ 4096
+  pub marks-long : length used ≡ placesMost
+  pub out-long : length out ≡ listRoom
+  pub xs-long : length xs ≡ listRoom
+  pub ys-long : length ys ≡ listRoom
   pub cursor-low : cursor < g .p
   pub x-low : c .x ≤ c .xend
-  pub x-high : c .xend ≤ 4096
+  pub x-high : c .xend ≤ listRoom
   pub y-low : c .y ≤ c .yend
   pub y-high : c .yend ≤ c .end
   pub upper : c .pages ≡ false → (k : ℕ) → k < c .xend → ListedBlock g ws used (getD xs k 0)
   pub paged : c .pages ≡ true → (k : ℕ) → k < c .xend → FullPage g ws k
   pub lower : (k : ℕ) → k < c .end → ListedBlock g ws used (getD ys k 0)
-  pub room : c .end + 2 * ((c .xend - c .x) + (c .yend - c .y)) + 2 ≤ 4096
+  pub room : c .end + 2 * ((c .xend - c .x) + (c .yend - c .y)) + 2 ≤ listRoom
   pub free : countMarks (g .p) used + ((c .xend - c .x) + (c .yend - c .y)) + 1 ≤ g .p
 
 -- the ends of X and Y, where the merge begins, and more steps than there are records
@@ -93,10 +94,10 @@ limitOf c = 16 * ((c .xend - c .x) + (c .yend - c .y))
 pub record Leaves (g : Geometry) (st : Settled) (ws : List ℕ) (ws' : List ℕ) (used' : List Bool) (out' : List ℕ) (r : Merged) : Type 0 where
   pub words : ws' ≡ take (placesStart g) ws ++ writeBlocks g (areaOf g ws) (st .written)
   pub list : take (r .count) out' ≡ placesOf (st .level)
-  pub list-long : length out' ≡ 4096
+  pub list-long : length out' ≡ listRoom
   pub count : r .count ≡ length (st .level)
-  pub count-high : r .count ≤ 4096
+  pub count-high : r .count ≤ listRoom
   pub cursor : r .cursor ≡ st .allocation .cursor
   pub marks : Marks used' (st .allocation .used)
-  pub marks-long : length used' ≡ 8192
+  pub marks-long : length used' ≡ placesMost
   pub writes : r .writes ≡ length (st .written)

@@ -4,6 +4,7 @@ ghost use mathlib.Core.Path.{_≡_};
 ghost use Prim.Native.Nat.{_+_, _-_, _≤_};
 ghost use Rattle.levels.specs.Place.{Allocation, settle};
 ghost use Rattle.blocks.specs.Blocks.{Marks};
+ghost use Rattle.geometry.specs.Room.{listRoom};
 ghost use Rattle.merging.specs.Contract.{mergeOf, Mergeable, Leaves, inputsOf, beginOf, limitOf};
 use blocks::Layout;
 use geometry::Geometry;
@@ -63,7 +64,7 @@ impl Cut {
 
     // Steps enough: a block has at most 16 records, and each step reads one or more.
     fn limit(self) -> usize
-        requires { ⌜ (self .x ≤ self .xend) × (self .xend ≤ 4096) × (self .y ≤ self .yend) × (self .yend ≤ 4096) ⌝ }
+        requires { ⌜ (self .x ≤ self .xend) × (self .xend ≤ listRoom) × (self .y ≤ self .yend) × (self .yend ≤ listRoom) ⌝ }
         ensures { λ r. ⌜ r ≡ limitOf self ⌝ }
     {
         16 * ((self.xend - self.x) + (self.yend - self.y))

@@ -181,22 +181,22 @@ fn told_reply(t: reader::Told) -> AboutStore
 }
 
 // That counts fit 32 bits is a law, so nothing is cut off.
-fn counts_reply(c: steps::Counts) -> Counts
-    requires { ⌜ CountsFit (numbersOf c) ⌝ }
-    ensures { λ r. ⌜ r ≡ countsReply (numbersOf c) ⌝ }
+fn counts_reply(counts: steps::Counts) -> Counts
+    requires { ⌜ CountsFit (numbersOf counts) ⌝ }
+    ensures { λ r. ⌜ r ≡ countsReply (numbersOf counts) ⌝ }
 {
     Counts {
-        merges: c.merges as u32,
-        written: c.written as u32,
-        compacted: c.compacted as u32,
+        merges: counts.merges as u32,
+        written: counts.written as u32,
+        compacted: counts.compacted as u32,
     }
 }
 
-fn change_reply(c: writer::Changed) -> Changed
-    requires { ⌜ SumsFit (changedAnswer c) ⌝ }
-    ensures { λ r. ⌜ r ≡ changedReply (changedAnswer c) ⌝ }
+fn change_reply(changed: writer::Changed) -> Changed
+    requires { ⌜ SumsFit (changedAnswer changed) ⌝ }
+    ensures { λ r. ⌜ r ≡ changedReply (changedAnswer changed) ⌝ }
 {
-    match c {
+    match changed {
         writer::Changed::Refused(n) => {
             let none = Counts {
                 merges: 0,
@@ -211,13 +211,13 @@ fn change_reply(c: writer::Changed) -> Changed
                 level3: none,
             }
         }
-        writer::Changed::Done(d) => {
-            let one = d.tally.one;
-            let two = d.tally.two;
-            let three = d.tally.three;
+        writer::Changed::Done(change) => {
+            let one = change.tally.one;
+            let two = change.tally.two;
+            let three = change.tally.three;
             Changed {
                 reason: 0,
-                live: d.live as u32,
+                live: change.live as u32,
                 level1: counts_reply(one),
                 level2: counts_reply(two),
                 level3: counts_reply(three),

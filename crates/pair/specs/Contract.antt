@@ -7,6 +7,7 @@ use lib.Dec.{eqb}
 use lib.ListN.{length, take, drop, getD}
 use Rattle.geometry.specs.declared.Geometry.{Geometry}
 use Rattle.geometry.specs.Geometry.{Valid, windowOf, capacityOf, topCapacityOf, marksStart, placesStart, storeLength}
+use Rattle.geometry.specs.Room.{placesMost, listRoom}
 use Rattle.levels.specs.Record.{Level, records, rising, pages}
 use Rattle.levels.specs.Choose.{Least, choose, cutAt}
 use Rattle.levels.specs.Choose as choosing
@@ -42,7 +43,7 @@ meetsAt w n pages bottom r = record { x = r .first; xend = r .first + w; y = r .
 
 -- the n blocks that a list names first can be read, and lie in key order
 pub record Readables (g : Geometry) (ws list : List ℕ) (n : ℕ) : Type 0 where
-  pub long : length list ≡ 4096
+  pub long : length list ≡ listRoom
   pub high : n ≤ 2048
   pub read : (k : ℕ) → k < n → Readable g ws (word list k)
   pub ordered : Ordered 0 (map fenceOf (levelOf g ws list n))
@@ -61,7 +62,7 @@ lowerAfter g i a c = settle (g .p) a (merge (g .b) (eqb (suc i) (g .h)) (c .befo
 
 -- n listed blocks of a place list in key order, all of them standing
 pub record Stored (g : Geometry) (ws : List ℕ) (used : List Bool) (list : List ℕ) (n : ℕ) : Type 0 where
-  pub long : length list ≡ 4096
+  pub long : length list ≡ listRoom
   pub high : n ≤ 2048
   pub blocks : (k : ℕ) → k < n → ListedBlock g ws used (getD list k 0)
   pub rises : rising 0 (records (levelOf g ws list n)) ≡ true
@@ -70,7 +71,7 @@ pub record Stored (g : Geometry) (ws : List ℕ) (used : List Bool) (list : List
 pub record PairReady (g : Geometry) (ws : List ℕ) (used : List Bool) (upper lower : List ℕ) (i a n cursor : ℕ) : Type 0 where
   pub valid : Valid g
   pub words : length ws ≡ storeLength g
-  pub marks-long : length used ≡ 8192
+  pub marks-long : length used ≡ placesMost
   pub cursor-low : cursor < g .p
   pub level-low : 1 ≤ i
   pub level-high : i < g .h
@@ -79,16 +80,16 @@ pub record PairReady (g : Geometry) (ws : List ℕ) (used : List Bool) (upper lo
   pub under : Stored g ws used lower n
   pub in-use : InUse used
   pub free : length (in-use .places) + (windowOf g i + choose (windowOf g i) (levelOf g ws upper a) (levelOf g ws lower n) .value) + 2 ≤ g .p
-  pub room : n + 2 * (windowOf g i + choose (windowOf g i) (levelOf g ws upper a) (levelOf g ws lower n) .value) + 2 ≤ 4096
+  pub room : n + 2 * (windowOf g i + choose (windowOf g i) (levelOf g ws upper a) (levelOf g ws lower n) .value) + 2 ≤ listRoom
 
 -- what a merge leaves of the lower level, which is l then, and the run that was chosen
 pub record LowerLeaves (l : Settled) (chosen : Least) (used' : List Bool) (lower' : List ℕ) (r : Step) : Type 0 where
   pub lower : take (r .under) lower' ≡ placesOf (l .level)
-  pub lower-long : length lower' ≡ 4096
+  pub lower-long : length lower' ≡ listRoom
   pub under : r .under ≡ length (l .level)
   pub cursor : r .cursor ≡ l .allocation .cursor
   pub marks : Marks used' (l .allocation .used)
-  pub marks-long : length used' ≡ 8192
+  pub marks-long : length used' ≡ placesMost
   pub first : r .first ≡ chosen .at
   pub overlap : r .overlap ≡ chosen .value
 
@@ -96,7 +97,7 @@ pub record LowerLeaves (l : Settled) (chosen : Least) (used' : List Bool) (lower
 pub record PairLeaves (g : Geometry) (u l : Settled) (chosen : Least) (ws ws' : List ℕ) (used' : List Bool) (upper' lower' : List ℕ) (r : Step) : Type 0 where
   pub words : ws' ≡ take (placesStart g) ws ++ writeBlocks g (areaOf g ws) (u .written ++ l .written)
   pub upper : take (r .above) upper' ≡ placesOf (u .level)
-  pub upper-long : length upper' ≡ 4096
+  pub upper-long : length upper' ≡ listRoom
   pub above : r .above ≡ length (u .level)
   pub below : LowerLeaves l chosen used' lower' r
   pub writes : r .writes ≡ length (u .written ++ l .written)
@@ -112,9 +113,9 @@ PairMerged g i above under al ws ws' used' upper' lower' r =
 pub record Closable (g : Geometry) (ws : List ℕ) (used : List Bool) (upper xs : List ℕ) (first w a cursor : ℕ) : Type 0 where
   pub valid : Valid g
   pub words : length ws ≡ storeLength g
-  pub marks-long : length used ≡ 8192
-  pub upper-long : length upper ≡ 4096
-  pub xs-long : length xs ≡ 4096
+  pub marks-long : length used ≡ placesMost
+  pub upper-long : length upper ≡ listRoom
+  pub xs-long : length xs ≡ listRoom
   pub same : take a xs ≡ take a upper
   pub cursor-low : cursor < g .p
   pub run : first + w ≤ a
@@ -141,7 +142,7 @@ pub record Paged (g : Geometry) (ws : List ℕ) (a : ℕ) : Type 0 where
 pub record PagesReady (g : Geometry) (ws : List ℕ) (used : List Bool) (lower : List ℕ) (n cursor : ℕ) : Type 0 where
   pub valid : Valid g
   pub words : length ws ≡ storeLength g
-  pub marks-long : length used ≡ 8192
+  pub marks-long : length used ≡ placesMost
   pub cursor-low : cursor < g .p
   pub full : topCountAt ws ≡ topCapacityOf g
   pub bits : (k : ℕ) → k < capacityOf g 0 → word ws (marksStart g + k) < 2 ^ g .b
@@ -149,7 +150,7 @@ pub record PagesReady (g : Geometry) (ws : List ℕ) (used : List Bool) (lower :
   pub under : Stored g ws used lower n
   pub in-use : InUse used
   pub free : length (in-use .places) + (windowOf g 0 + choose (windowOf g 0) (pages (g .b) (topRecs g ws)) (levelOf g ws lower n) .value) + 1 ≤ g .p
-  pub room : n + 2 * (windowOf g 0 + choose (windowOf g 0) (pages (g .b) (topRecs g ws)) (levelOf g ws lower n) .value) + 2 ≤ 4096
+  pub room : n + 2 * (windowOf g 0 + choose (windowOf g 0) (pages (g .b) (topRecs g ws)) (levelOf g ws lower n) .value) + 2 ≤ listRoom
 
 -- what a merge out of level 0 leaves: l is level 1 then; level 0 keeps its words, and W(0) of its pages are to leave it
 pub record PagesLeaves (g : Geometry) (l : Settled) (chosen : Least) (ws ws' : List ℕ) (used' : List Bool) (lower' : List ℕ) (r : Step) : Type 0 where

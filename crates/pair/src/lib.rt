@@ -5,6 +5,7 @@ ghost use mathlib.Core.List.{map};
 ghost use Prim.Native.Nat.{_+_, _≤_};
 ghost use lib.ListN.{length};
 ghost use Rattle.geometry.specs.Geometry.{Valid, storeLength};
+ghost use Rattle.geometry.specs.Room.{listRoom};
 ghost use Rattle.levels.specs.Record.{Level, pages};
 ghost use Rattle.levels.specs.Merge.{close};
 ghost use Rattle.levels.specs.Place.{Allocation, settle};
@@ -42,7 +43,7 @@ struct Picked {
 impl Picked {
     // Where X and Y stand, for the merge of a run of w blocks onto a level of n blocks.
     fn cut(self, w: usize, n: usize, pages: bool, bottom: bool) -> Cut
-        requires { ⌜ self .first + w ≤ 4096 ⌝ }
+        requires { ⌜ self .first + w ≤ listRoom ⌝ }
         ensures { λ r. ⌜ r ≡ meetsAt w n pages bottom self ⌝ }
     {
         Cut {

@@ -8,6 +8,7 @@ use lib.ListN.{getD}
 use Rattle.levels.specs.Basics.{if_then_else_}
 use Rattle.blocks.specs.declared.Layout.{Layout}
 use Rattle.blocks.specs.Blocks.{Sized, startOf}
+use Rattle.blocks.specs.Room.{placesMost, listRoom}
 use Rattle.sides.specs.declared.Chunk.{Chunk}
 use Rattle.sides.specs.declared.Head.{Head}
 
@@ -26,14 +27,14 @@ chunkOf z pages xs list i = if pages then pageChunk z i else blockChunk z xs (ge
 -- a side has a chunk i: a page of level 0, or a block at a place
 pub record Chunked (z : Layout) (pages : Bool) (xs list : List ℕ) (i : ℕ) : Type 0 where
   pub sized : Sized z xs
-  pub low : i < 4096
+  pub low : i < listRoom
   pub place : pages ≡ false → getD list i 0 < z .p
   pub page : pages ≡ true → i < z .top
 
 -- chunk i of a side can be read at record j
 pub record Readable (z : Layout) (pages : Bool) (xs list : List ℕ) (i j end : ℕ) : Type 0 where
   pub sized : Sized z xs
-  pub end-high : end ≤ 4096
+  pub end-high : end ≤ listRoom
   pub place : i < end → pages ≡ false → getD list i 0 < z .p
   pub page : i < end → pages ≡ true → i < z .top
   pub inside : i < end → j < chunkOf z pages xs list i .n
@@ -82,4 +83,4 @@ follows z bottom a b n e =
 pub record HeadOk (h : Head) : Type 0 where
   pub tombstone : h .tombstone < 2
   pub n : h .n ≤ 16
-  pub place : h .place < 8192
+  pub place : h .place < placesMost

@@ -5,6 +5,7 @@ ghost use mathlib.Core.Bool.{false};
 ghost use Prim.Native.Nat.{ℕ, _+_, _-_, _*_, _^_, _%_, _≤_, _<_};
 ghost use lib.ListN.{length, getD};
 ghost use Rattle.blocks.specs.Blocks.{Sized};
+ghost use Rattle.blocks.specs.Room.{listRoom};
 ghost use Rattle.sides.specs.Sides.{blockChunk, pageChunk, chunkOf, Chunked, headOf, headAt, Readable, lastSize, follows, first};
 use blocks::Layout;
 
@@ -35,7 +36,7 @@ pub struct Head {
 
 // Entry i of a place list, as a number to compute offsets with.
 pub fn listed(list: &[u32; blocks::LIST_ROOM], i: usize) -> usize
-    requires { ⌜ i < 4096 ⌝ }
+    requires { ⌜ i < listRoom ⌝ }
     ensures { λ r. ⌜ r ≡ getD (now (list .entry)) i 0 ⌝ }
 {
     slices::word(list, i)
@@ -145,7 +146,7 @@ pub fn peek(
 
 // The size of the last block of the list so far; B where there is none.
 pub fn last_size(s: &[u32], z: Layout, out: &[u32; blocks::LIST_ROOM], m: usize) -> usize
-    requires { ⌜ Sized z (now s) × (m ≤ 4096) × ((i : ℕ) → i < m → getD (now out) i 0 < z .p) ⌝ }
+    requires { ⌜ Sized z (now s) × (m ≤ listRoom) × ((i : ℕ) → i < m → getD (now out) i 0 < z .p) ⌝ }
     ensures { λ r. ⌜ r ≡ lastSize z (now (s .entry)) (now (out .entry)) m ⌝ }
 {
     if m == 0 {

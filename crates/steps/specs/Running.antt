@@ -7,6 +7,7 @@ use lib.Dec.{eqb}
 use lib.ListN.{length, take, getD}
 use Rattle.geometry.specs.declared.Geometry.{Geometry}
 use Rattle.geometry.specs.Geometry.{Valid, topCapacityOf}
+use Rattle.geometry.specs.Room.{placesMost, listRoom}
 use Rattle.levels.specs.Basics.{if_then_else_}
 use Rattle.levels.specs.Record.{Block}
 use Rattle.levels.specs.Waste.{needsCompact}
@@ -45,7 +46,7 @@ storeOf g ws one two three r =
 
 -- the first n entries of a work array name the blocks of level j + 1; above h there are none
 pub record Listed (t : Store) (j : ℕ) (list : List ℕ) (n : ℕ) : Type 0 where
-  pub long : length list ≡ 4096
+  pub long : length list ≡ listRoom
   pub count : n ≡ length (getD (t .levels) j [])
   pub places : take n list ≡ map placeOf (getD (t .levels) j [])
 
@@ -63,12 +64,12 @@ pub record Markable (one two three : List ℕ) (r : Run) : Type 0 where
   pub first-long : r .n1 ≤ length one
   pub second-long : r .n2 ≤ length two
   pub third-long : r .n3 ≤ length three
-  pub first-high : r .n1 ≤ 4096
-  pub second-high : r .n2 ≤ 4096
-  pub third-high : r .n3 ≤ 4096
-  pub first-low : (i : ℕ) → i < r .n1 → getD one i 0 < 8192
-  pub second-low : (i : ℕ) → i < r .n2 → getD two i 0 < 8192
-  pub third-low : (i : ℕ) → i < r .n3 → getD three i 0 < 8192
+  pub first-high : r .n1 ≤ listRoom
+  pub second-high : r .n2 ≤ listRoom
+  pub third-high : r .n3 ≤ listRoom
+  pub first-low : (i : ℕ) → i < r .n1 → getD one i 0 < placesMost
+  pub second-low : (i : ℕ) → i < r .n2 → getD two i 0 < placesMost
+  pub third-low : (i : ℕ) → i < r .n3 → getD three i 0 < placesMost
 
 -- The counts. As levels has them:
 abbrev pub numbersOf : Counts → levels.Counts
@@ -149,7 +150,7 @@ pub record OneReady (e t : Store) (g : Geometry) (ws : List ℕ) (used : List Bo
   pub held : HoldsBut g ws t
   pub listed : Listed t j list n
   pub marks : Marks used (usedIn t)
-  pub marks-long : length used ≡ 8192
+  pub marks-long : length used ≡ placesMost
   pub cursor-is : cursor ≡ t .cursor
   pub level : j < g .h
   pub small : Small countsMost tally
@@ -198,7 +199,7 @@ pub record TwoReady (e t : Store) (j : ℕ) (g : Geometry) (ws : List ℕ) (used
   pub above : Listed t j upper a
   pub under : Listed t (suc j) lower n
   pub marks : Marks used (usedIn t)
-  pub marks-long : length used ≡ 8192
+  pub marks-long : length used ≡ placesMost
   pub cursor-is : cursor ≡ t .cursor
   pub small : Small countsMost tally
 
@@ -224,7 +225,7 @@ pub record PageReady (e t : Store) (g : Geometry) (ws : List ℕ) (used : List B
   pub held : HoldsBut g ws t
   pub listed : Listed t 0 list n
   pub marks : Marks used (usedIn t)
-  pub marks-long : length used ≡ 8192
+  pub marks-long : length used ≡ placesMost
   pub cursor-is : cursor ≡ t .cursor
   pub small : Small countsMost tally
 

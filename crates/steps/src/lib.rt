@@ -16,6 +16,7 @@ ghost use Rattle.levels.specs.Store.{Store};
 ghost use Rattle.levels.specs.Call.{compactIfNeeded, afterCompactions, mergeLevel, afterMerge};
 ghost use Rattle.words.specs.Calls.{compactedBlocks};
 ghost use Rattle.blocks.specs.Blocks.{Marks};
+ghost use Rattle.geometry.specs.Room.{placesMost};
 ghost use Rattle.steps.specs.Running.{namedIn, storeOf, Markable, sumOf, counted, countsMost, countsBefore, Few, Small, Leaving, Running, compactedCounts, wastes, dueOf, OneReady, OneAsked, OneLeft, relisted, relistedTwo, mergedCounts, TwoReady, TwoAsked, TwoLeft, PageReady, PageAsked, StepReady, stepCounts};
 use geometry::Geometry;
 use merging::Merged;
@@ -60,7 +61,7 @@ struct Two {
 
 // What is counted already, and what one merge or compaction adds: at most one for each of the 8,192 places.
 fn sum(a: Counts, more: Counts) -> Counts
-    requires { ⌜ Few countsMost a × Few 8192 more ⌝ }
+    requires { ⌜ Few countsMost a × Few placesMost more ⌝ }
     ensures { λ r. ⌜ r ≡ sumOf a more ⌝ }
 {
     Counts {
@@ -72,7 +73,7 @@ fn sum(a: Counts, more: Counts) -> Counts
 
 // c more for a level.
 fn count(t: Tally, level: usize, more: Counts) -> Tally
-    requires { ⌜ Small countsMost t × Few 8192 more ⌝ }
+    requires { ⌜ Small countsMost t × Few placesMost more ⌝ }
     ensures { λ r. ⌜ r ≡ counted t level more ⌝ }
 {
     let one = t.one;
@@ -110,7 +111,7 @@ fn marks(
     r: Run,
 ) -> [bool; Geometry::MAX_P]
     requires { ⌜ Markable (now one) (now two) (now three) r ⌝ }
-    ensures { λ used. ⌜ Marks used (namedIn (now (one .entry)) (now (two .entry)) (now (three .entry)) r) × (length used ≡ 8192) ⌝ }
+    ensures { λ used. ⌜ Marks used (namedIn (now (one .entry)) (now (two .entry)) (now (three .entry)) r) × (length used ≡ placesMost) ⌝ }
 {
     let mut used = [false; Geometry::MAX_P];
     blocks::mark_listed(&mut used, three, r.n3);

@@ -9,6 +9,7 @@ use Rattle.levels.specs.Basics.{if_then_else_}
 use Rattle.blocks.specs.declared.Layout.{Layout}
 use Rattle.blocks.specs.declared.Buffer.{Buffer}
 use Rattle.blocks.specs.Blocks.{Sized, SomeFree, nextMark, pushed, emptyBuffer, written}
+use Rattle.blocks.specs.Room.{placesMost, listRoom}
 use Rattle.sides.specs.declared.Head.{Head}
 use Rattle.sides.specs.Sides.{Readable, HeadOk, headOf, lastSize, first, follows}
 use Rattle.stream.specs.declared.Point.{Point}
@@ -28,8 +29,8 @@ pub record Flushable (z : Layout) (xs : List ℕ) (used : List Bool) (w : Progre
   pub sized : Sized z xs
   pub cursor : w .cursor < z .p
   pub full : w .buf .n ≤ 16
-  pub room : w .m < 4096
-  pub count : w .writes ≤ 8192
+  pub room : w .m < listRoom
+  pub count : w .writes ≤ placesMost
   pub free : SomeFree used (z .p)
 
 -- a record can be put into the buffer
@@ -107,8 +108,8 @@ pub record Choosable (z : Layout) (p q : Point) (x y : Head) (n e : ℕ) : Type 
   pub last : e < 2 ^ 32
   pub upper : HeadOk x
   pub lower : HeadOk y
-  pub in-x : x .some ≡ true → (p .i < 4096) × (p .j < 16)
-  pub in-y : y .some ≡ true → (q .i < 4096) × (q .j < 16)
+  pub in-x : x .some ≡ true → (p .i < listRoom) × (p .j < 16)
+  pub in-y : y .some ≡ true → (q .i < listRoom) × (q .j < 16)
   pub either : (not (x .some) && not (y .some)) ≡ false
 
 -- the sides move on, and the block follows as it stands, or its next record is gathered
@@ -119,7 +120,7 @@ emitted z bottom a c = let b = moved a (c .x) (c .y) in if c .whole then reused 
 pub record Movable (z : Layout) (xs : List ℕ) (used : List Bool) (w : Progress) : Type 0 where
   pub flushable : Flushable z xs used w
   pub gatherable : Gatherable z w
-  pub room : w .m + 2 ≤ 4096
+  pub room : w .m + 2 ≤ listRoom
 
 -- a step can be made
 pub record Ready (z : Layout) (t : Inputs) (xs ys : List ℕ) (a : Memory) : Type 0 where

@@ -3,6 +3,7 @@
 ghost use mathlib.Core.Path.{_≡_};
 ghost use mathlib.Core.Bool.{false};
 ghost use Prim.Native.Nat.{ℕ, _+_, _≤_, _<_};
+ghost use Rattle.blocks.specs.Room.{placesMost, listRoom};
 ghost use Rattle.sides.specs.Sides.{HeadOk};
 ghost use Rattle.stream.specs.Machine.{Memory, Flushable, Gatherable, Movable, Choosable, Ready, flushed, reused, gathered, pointAfter, movedTo, chosen, emitted, turn, turns, idle};
 use blocks::Buffer;
@@ -84,7 +85,7 @@ fn reuse(
     st: Progress,
     q: usize,
 ) -> Progress
-    requires { ⌜ Flushable z (now s) (now used) st × (st .m + 2 ≤ 4096) × (q < 8192) ⌝ }
+    requires { ⌜ Flushable z (now s) (now used) st × (st .m + 2 ≤ listRoom) × (q < placesMost) ⌝ }
     ensures { λ r. ⌜ _≡_ {A = Memory} (record { words = now (s .exit); used = now (used .exit); out = now (out .exit); st = r }) (reused z (record { words = now (s .entry); used = now (used .entry); out = now (out .entry); st = st }) q) ⌝ }
 {
     let mut v = flush(s, used, out, z, st);
@@ -125,7 +126,7 @@ pub fn gather(
 impl Point {
     // Past the whole block, or past one record of a block of n.
     fn after(self, n: usize, whole: bool) -> Point
-        requires { ⌜ (self .i < 4096) × (self .j < 16) ⌝ }
+        requires { ⌜ (self .i < listRoom) × (self .j < 16) ⌝ }
         ensures { λ r. ⌜ r ≡ pointAfter self n whole ⌝ }
     {
         let j = self.j + 1;

@@ -1,4 +1,4 @@
--- Demand 2 over a list of calls: the induction, for every form of the store; and the old form, one call at a time.
+-- Demand 2 over a list of calls: the induction, for every form of the store; and document 01's form, one call at a time.
 use Prim.Native.Nat.{ℕ}
 use mathlib.Core.Path.{_≡_, refl, sym, _∙_, ap}
 use mathlib.Core.Bool.{Bool, true, false, not, true≢false}
@@ -155,7 +155,7 @@ module _ (ws : List ℕ) (e : reasonOf ws ≡ 0) where
       ap (λ (n : ℕ). tells n (aboutOf ws .live) (aboutOf ws .limit)) (about-reason ws ∙ e)
       ∙ ap (λ (n : ℕ). tells 0 n (aboutOf ws .limit)) (about-live ws e) ∙ ap (tells 0 (length (mapAt ws))) (ap (λ (a : AboutAnswer). a .limit) (about-words ws e))
 
--- The old form, call by call.
+-- Document 01's form, call by call.
 words-answers : (ws : List ℕ) (c : Call) → reasonOf ws ≡ 0 → replyOf (perform ws c .answer) ≡ mapReply (heldIn ws) c
 unfolding perform checkOf
 words-answers ws (formatAs g) e = format-reply ws g
