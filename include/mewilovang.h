@@ -111,17 +111,18 @@
  * form checks, over full stores; measured, docs/SPEED.md:
  *
  *     check            1
- *     look_up, next    0.8 to 1.0
+ *     look_up, next    0.8 to 1.0 (why some are below 1 was not looked into)
  *     show, about      1.0 to 1.1; timed once, at three geometries, not in that file
- *     put              1 and its merges. On average 1.0 to 1.1 in stores of 1160 places and more, 1.2 and 1.4 in those
- *                      of 264 and 136, 2.8 in one of 40. The slowest put seen took 1.7 to 9.8
+ *     put              1 and its merges. On average 1.0 to 1.1 in stores of 1160 places and more, 1.2 to 1.4 in those of
+ *                      264 and 136, 2.3 to 2.9 in one of 40. The slowest put of a run took 1.6 to 10.1; one that the
+ *                      operating system interrupts takes longer
  *     delete           as put; not timed
  *     format           no form check: it writes every word once
  *     words            a few multiplications
  *
- * One form check of a full store of geometry 16 1 2 8 3 8192, with 10771 tests in 279774 words, took about 31
- * microseconds where the same store had just been checked, and some 90 to 130 after other work. That was on a virtual
- * machine with two cores; your times differ, the ratios less so.
+ * One form check of a full store of geometry 16 1 2 8 3 8192, with 10771 tests in 279774 words, took 26 to 54
+ * microseconds where the same store had just been checked, and 81 to 91 after other work (the middle of 15 calls over five
+ * runs; single calls 60 to 207). That was on a virtual machine with two cores; your times differ, the ratios less so.
  *
  *
  * THREADS
