@@ -1,6 +1,7 @@
 /*
  * A brake tester's console over the store: format once, then one event after the other. The readings of a test, the brake
- * forces of its left and right wheel in newtons, are packed into one payload. c/console.out is what it must print.
+ * forces of its left and right wheel in newtons, are packed into one payload. Tests are numbered by date, 0 to 49 on the
+ * first day, 50 to 99 on the second. c/console.out is what it must print.
  */
 #include <stdio.h>
 #include <string.h>
@@ -12,7 +13,11 @@
 #define PLACES 40
 #define BLOCK 4
 
-enum kind { MEASURED, DELETED, SHEET, ALL, BLOCK_AROUND, STORED, FLIP, CHECK };
+/* The numbers that a day has, and the tests that a listing has room for at a time. */
+#define DAY_NUMBERS 50
+#define PIECE 5
+
+enum kind { MEASURED, DELETED, SHEET, ALL, DAY, NEXT, BLOCK_AROUND, STORED, FLIP, CHECK };
 
 struct event {
     enum kind kind;
@@ -95,27 +100,56 @@ static void sheet(uint32_t test)
     }
 }
 
-static void all_tests(void)
+static void print_test(uint32_t test, uint32_t reading)
 {
-    uint32_t keys[64], n = 0, i, from = 0;
-    while (n < 64) {
-        mewilovang_nexted a = mewilovang_next(store, WORDS, from);
+    printf(" %u (%u/%u N)", (unsigned)test, (unsigned)(reading >> 16), (unsigned)(reading & 0xFFFF));
+}
+
+/* The tests from the first to the last number, a line for each call: where more follow, some were written (PIECE > 0). */
+static void tests(uint32_t first, uint32_t last)
+{
+    uint32_t keys[PIECE], readings[PIECE], i;
+    for (;;) {
+        mewilovang_stretched a = mewilovang_stretch(store, WORDS, first, last, keys, PIECE, readings, PIECE);
+        printf("tests %u to %u:", (unsigned)first, (unsigned)last);
         if (a.reason != 0) {
-            printf("tests: %s (%u)\n", why(a.reason), (unsigned)a.reason);
+            printf(" %s (%u)\n", why(a.reason), (unsigned)a.reason);
             return;
         }
-        if (!a.found) {
-            break;
+        for (i = 0; i < a.written; i++) {
+            print_test(keys[i], readings[i]);
         }
-        keys[n++] = a.key;
-        if (a.key == UINT32_MAX) {
-            break;
+        if (!a.more) {
+            printf("%s\n", a.written == 0 ? " none" : "");
+            return;
         }
-        from = a.key + 1;
+        printf(", more follow\n");
+        first = keys[a.written - 1] + 1;
     }
-    printf("%u tests:", (unsigned)n);
-    for (i = 0; i < n; i++) {
-        printf(" %u", (unsigned)keys[i]);
+}
+
+static void all_tests(void)
+{
+    printf("all tests\n");
+    tests(0, UINT32_MAX);
+}
+
+static void day(uint32_t number)
+{
+    printf("day %u\n", (unsigned)number);
+    tests((number - 1) * DAY_NUMBERS, number * DAY_NUMBERS - 1);
+}
+
+static void next(uint32_t from)
+{
+    mewilovang_nexted a = mewilovang_next(store, WORDS, from);
+    printf("next test from %u on:", (unsigned)from);
+    if (a.reason != 0) {
+        printf(" %s (%u)", why(a.reason), (unsigned)a.reason);
+    } else if (!a.found) {
+        printf(" none");
+    } else {
+        print_test(a.key, a.payload);
     }
     printf("\n");
 }
@@ -158,7 +192,7 @@ static void check(size_t words)
     }
 }
 
-/* For FLIP, `test` is the word in which the flash loses its top bit, or gets it back. */
+/* `test` is the day for DAY, the number of words for CHECK, and for FLIP the word whose top bit is lost or comes back. */
 static void handle(struct event e)
 {
     switch (e.kind) {
@@ -173,6 +207,12 @@ static void handle(struct event e)
         break;
     case ALL:
         all_tests();
+        break;
+    case DAY:
+        day(e.test);
+        break;
+    case NEXT:
+        next(e.test);
         break;
     case BLOCK_AROUND:
         block_around(e.test);
@@ -199,28 +239,30 @@ static void run(const struct event *events, size_t n)
 
 #define RUN(events) run(events, sizeof events / sizeof events[0])
 
-static const struct event morning[] = {
+static const struct event first_tests[] = {
     {MEASURED, 10, 2410, 2490}, {MEASURED, 20, 2420, 2480}, {MEASURED, 30, 2430, 2470}, {MEASURED, 40, 2440, 2460},
     {MEASURED, 50, 2450, 2450}, {MEASURED, 60, 2460, 2440}, {MEASURED, 70, 2470, 2430}, {MEASURED, 80, 2480, 2420},
     {MEASURED, 90, 2490, 2410}, {MEASURED, 50, 1800, 2600}, {DELETED, 20, 0, 0},        {DELETED, 21, 0, 0},
     {SHEET, 50, 0, 0},          {SHEET, 20, 0, 0},          {SHEET, 40, 0, 0},          {ALL, 0, 0, 0},
-    {BLOCK_AROUND, 25, 0, 0},   {BLOCK_AROUND, 55, 0, 0},   {STORED, 0, 0, 0},
+    {DAY, 1, 0, 0},             {BLOCK_AROUND, 25, 0, 0},   {BLOCK_AROUND, 55, 0, 0},   {STORED, 0, 0, 0},
 };
 
-static const struct event afternoon[] = {
+static const struct event until_full[] = {
     {MEASURED, 15, 2415, 2485}, {MEASURED, 25, 2425, 2475}, {MEASURED, 35, 2435, 2465}, {MEASURED, 45, 2445, 2455},
     {MEASURED, 46, 2446, 2454}, {MEASURED, 47, 2447, 2453}, {MEASURED, 48, 2448, 2452}, {MEASURED, 49, 2449, 2451},
     {MEASURED, 55, 2455, 2445}, {MEASURED, 100, 2500, 2400}, {STORED, 0, 0, 0},         {MEASURED, 49, 2300, 2600},
-    {DELETED, 60, 0, 0},        {MEASURED, 100, 2500, 2400}, {ALL, 0, 0, 0},            {BLOCK_AROUND, 37, 0, 0},
-    {SHEET, 15, 0, 0},          {SHEET, 60, 0, 0},
+    {DELETED, 60, 0, 0},        {MEASURED, 100, 2500, 2400}, {ALL, 0, 0, 0},            {DAY, 1, 0, 0},
+    {DAY, 2, 0, 0},             {DAY, 4, 0, 0},             {NEXT, 56, 0, 0},           {NEXT, 101, 0, 0},
+    {BLOCK_AROUND, 37, 0, 0},   {SHEET, 15, 0, 0},          {SHEET, 60, 0, 0},
 };
 
 static const struct event damaged[] = {
     {CHECK, WORDS, 0, 0}, {SHEET, 15, 0, 0}, {MEASURED, 49, 2449, 2451}, {DELETED, 15, 0, 0},
-    {ALL, 0, 0, 0},       {BLOCK_AROUND, 37, 0, 0}, {STORED, 0, 0, 0},
+    {ALL, 0, 0, 0},       {DAY, 2, 0, 0},    {NEXT, 56, 0, 0},           {BLOCK_AROUND, 37, 0, 0},
+    {STORED, 0, 0, 0},
 };
 
-static const struct event evening[] = {
+static const struct event repaired[] = {
     {CHECK, WORDS, 0, 0},
     {CHECK, 11, 0, 0},
     {CHECK, WORDS - 1, 0, 0},
@@ -243,8 +285,8 @@ int main(void)
         return 1;
     }
     printf("%u words lent, room for %u tests\n", WORDS, (unsigned)made.limit);
-    RUN(morning);
-    RUN(afternoon);
+    RUN(first_tests);
+    RUN(until_full);
 
     printf("a bit of word 70 flips\n");
     handle(flip);
@@ -256,7 +298,7 @@ int main(void)
     printf("words changed by these calls: %u\n", changed);
     printf("the bit flips back\n");
     handle(flip);
-    RUN(evening);
+    RUN(repaired);
 
     made = mewilovang_format(store, WORDS, BLOCK, 1, 2, 4, 1, PLACES - 1);
     printf("format with %u places: %s (%u)\n", PLACES - 1, why(made.reason), (unsigned)made.reason);

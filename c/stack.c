@@ -22,6 +22,7 @@
 #define STACK_BYTES (512 * 1024)
 #define PATTERN 0xA5
 #define ROUNDS 16000
+#define ROOM 64
 
 /* Every call, one line for each: the readings between CHECK and PUT are made as often as each other. */
 #define EVERY(CALL) \
@@ -30,6 +31,7 @@
     CALL(CHECK, "check", reason = mewilovang_check(store, words)) \
     CALL(LOOK_UP, "look_up", reason = mewilovang_look_up(store, words, key).reason) \
     CALL(NEXT, "next", nexted = mewilovang_next(store, words, key)) \
+    CALL(STRETCH, "stretch", stretched = mewilovang_stretch(store, words, key, UINT32_MAX, keys, ROOM, payloads, ROOM)) \
     CALL(SHOW, "show", shown = mewilovang_show(store, words, 1 + key % 3, key)) \
     CALL(ABOUT, "about", reason = mewilovang_about(store, words).reason) \
     CALL(PUT, "put", count(mewilovang_put(store, words, key, key))) \
@@ -64,8 +66,10 @@ static uint32_t *store;
 static size_t words;
 static uint32_t key;
 static unsigned char *top;
+static uint32_t keys[ROOM], payloads[ROOM];
 static uint32_t reason;
 static mewilovang_nexted nexted;
+static mewilovang_stretched stretched;
 static mewilovang_part shown;
 static uint32_t merges[3], compacted;
 

@@ -13,9 +13,15 @@
  *     store   the first word; aligned to 4 bytes, and never NULL, not even with 0 words
  *     words   how many words there are; all of them can be read, and written in format, put and delete
  *
- * That, enough stack (MEWILOVANG_STACK_.., below) and the rule about others (THREADS) are all that you have to see to. Whatever the
- * words hold, noise or a damaged store, each call ends, touches no word outside of them, and does its work or turns the
- * call down with one of the numbers below.
+ * And to stretch, which copies tests out of the store, two arrays besides:
+ *
+ *     keys, payloads           the first word of each; aligned to 4 bytes, and never NULL, not even with room 0
+ *     key_room, payload_room   how many words each has; all of them can be written, and none lies in the store or in the
+ *                              other array
+ *
+ * That, enough stack (MEWILOVANG_STACK_.., below) and the rule about others (THREADS) are all that you have to see to.
+ * Whatever the words hold, noise or a damaged store, each call ends, touches no word outside of what you lend, and does
+ * its work or turns the call down with one of the numbers below.
  *
  *
  * WHY A CALL IS TURNED DOWN
@@ -28,8 +34,8 @@
  *     5  the store is full: a put of a test number that is not in it while it holds as many as it may (put only)
  *
  * They are looked for in this order, and the first that applies is the reason. A call that is turned down changes no
- * word, and its answer has the number in `reason` and 0 in every other member. (check answers the number alone; show has
- * none, its part is empty.)
+ * word of the store or of stretch's two arrays, and its answer has the number in `reason` and 0 in every other member.
+ * (check answers the number alone; show has none, its part is empty.)
  *
  * Every call but format and words makes the whole form check first. So a store that was damaged since the last call is
  * found out, and no call answers from it. A damage that leaves a store of good form (a changed payload, say) cannot be
@@ -83,14 +89,16 @@
  *
  * WHICH WORDS CHANGE
  *
- *     any call that is turned down        none
- *     check, look_up, next, show, about   none
- *     format                              every word is written
- *     delete of a test not in the store   none
- *     put, delete without a merge         words 6 and 8 (live, c) and level 0, words 12 to L - 1
- *     put, delete with merges             words 6 to 11, level 0, the lists, and the places that blocks are written to
+ *     any call that is turned down                 none
+ *     check, look_up, next, stretch, show, about   none
+ *     format                                       every word is written
+ *     delete of a test not in the store            none
+ *     put, delete without a merge                  words 6 and 8 (live, c) and level 0, words 12 to L - 1
+ *     put, delete with merges                      words 6 to 11, level 0, the lists, and the places that blocks are
+ *                                                  written to
  *
- * A call is without a merge if its answer counts none. Words 0 to 5 change in format alone.
+ * A call is without a merge if its answer counts none. Words 0 to 5 change in format alone. Of each of its two arrays
+ * stretch writes the first `written` entries, as many as it answers, and leaves the others as they were.
  *
  * No block in use is written over: each merge, and each compacting of a level, writes to places that no list named when
  * it began. A block that leaves its level keeps its words until its place is written to again. So a call with one merge
@@ -111,25 +119,29 @@
  * form checks, over full stores; measured, docs/SPEED.md:
  *
  *     check            1
- *     look_up, next    0.8 to 1.0 (why some are below 1 was not looked into)
+ *     look_up, next    0.9 to 1.0 (why some are below 1 was not looked into)
+ *     stretch          1 and one walk from `first` on, as far as the arrays have room. All tests of a store at once took
+ *                      2.4 to 3.3, in one of 40 places 1.7 to 1.8. So ask it for many tests at once, and not next for
+ *                      one after the other
  *     show, about      1.0 to 1.1; timed once, at three geometries, not in that file
  *     put              1 and its merges. On average 1.0 to 1.1 in stores of 1160 places and more, 1.2 to 1.4 in those of
- *                      264 and 136, 2.3 to 2.9 in one of 40. The slowest put of a run took 1.6 to 10.1; one that the
+ *                      264 and 136, 2.5 to 2.8 in one of 40. The slowest put of a run took 1.9 to 9.7; one that the
  *                      operating system interrupts takes longer
  *     delete           as put; not timed
  *     format           no form check: it writes every word once
  *     words            a few multiplications
  *
- * One form check of a full store of geometry 16 1 2 8 3 8192, with 10771 tests in 279774 words, took 26 to 54
- * microseconds where the same store had just been checked, and 81 to 91 after other work (the middle of 15 calls over five
- * runs; single calls 60 to 207). That was on a virtual machine with two cores; your times differ, the ratios less so.
+ * One form check of a full store of geometry 16 1 2 8 3 8192, with 10771 tests in 279774 words, took 26 to 28
+ * microseconds where the same store had just been checked, and 71 to 80 after other work (the middle of 15 calls over five
+ * runs; single calls 59 to 121). That was on a virtual machine with two cores; your times differ, the ratios less so.
  *
  *
  * THREADS
  *
- * There is no global state. Two threads may read one store at the same time (check, look_up, next, show, about). While any
- * call runs on a store, nothing else may write its words: no other thread, no interrupt, no device. While format, put or
- * delete runs, nothing else may read them either. Different stores have nothing to do with each other.
+ * There is no global state. Two threads may read one store at the same time (check, look_up, next, stretch, show, about).
+ * While any call runs on a store, nothing else may write its words: no other thread, no interrupt, no device. While
+ * format, put or delete runs, nothing else may read them either. While stretch runs, nothing else may read or write its
+ * two arrays: each thread lends its own. Different stores have nothing to do with each other.
  *
  *
  * POWER LOSS
@@ -152,13 +164,13 @@
  *     mewilovang_looked sheet = mewilovang_look_up(store, 438, test);
  *     if (sheet.reason == 0 && sheet.found) { .. sheet.payload .. }
  *
- *     uint32_t from = 0;                                   // all tests, in the order of their numbers
+ *     uint32_t keys[8], payloads[8], from = 0;             // all tests, in the order of their numbers, up to 8 at a time
  *     for (;;) {
- *         mewilovang_nexted next = mewilovang_next(store, 438, from);
- *         if (next.reason != 0 || !next.found) break;
- *         .. next.key .. next.payload ..
- *         if (next.key == UINT32_MAX) break;
- *         from = next.key + 1;
+ *         mewilovang_stretched piece = mewilovang_stretch(store, 438, from, UINT32_MAX, keys, 8, payloads, 8);
+ *         if (piece.reason != 0) { .. }
+ *         for (uint32_t i = 0; i < piece.written; i++) { .. keys[i] .. payloads[i] .. }
+ *         if (!piece.more) break;
+ *         from = keys[piece.written - 1] + 1;              // does not wrap: more follow, so that key is below the last
  *     }
  */
 #ifndef MEWILOVANG_H
@@ -176,11 +188,12 @@ extern "C" {
  * calls are added. Patch: nothing that a caller sees.
  *     1.0.0  words, format, check, look_up, next, show, put, delete
  *     1.1.0  about
+ *     1.2.0  stretch
  */
 #define MEWILOVANG_VERSION_MAJOR 1
-#define MEWILOVANG_VERSION_MINOR 1
+#define MEWILOVANG_VERSION_MINOR 2
 #define MEWILOVANG_VERSION_PATCH 0
-#define MEWILOVANG_VERSION "1.1.0"
+#define MEWILOVANG_VERSION "1.2.0"
 
 /*
  * The bytes of stack to have free for each call, from its return address down; the arguments and the answer stand in your
@@ -193,7 +206,8 @@ extern "C" {
 #define MEWILOVANG_STACK_FORMAT (2 * 1024)
 #define MEWILOVANG_STACK_CHECK (11 * 1024)
 #define MEWILOVANG_STACK_LOOK_UP (11 * 1024)
-#define MEWILOVANG_STACK_NEXT (11 * 1024)
+#define MEWILOVANG_STACK_NEXT (12 * 1024)
+#define MEWILOVANG_STACK_STRETCH (12 * 1024)
 #define MEWILOVANG_STACK_SHOW (11 * 1024)
 #define MEWILOVANG_STACK_ABOUT (11 * 1024)
 #define MEWILOVANG_STACK_PUT (126 * 1024)
@@ -213,6 +227,11 @@ typedef struct {
 typedef struct {
     uint32_t reason, found, key, payload;
 } mewilovang_nexted;
+
+/* written: the tests written to the two arrays; more: 1 if further tests of the stretch follow, else 0. */
+typedef struct {
+    uint32_t reason, written, more;
+} mewilovang_stretched;
 
 /* A part of the store: store[start] to store[start + length - 1]. Both are 0 for an empty part. */
 typedef struct {
@@ -258,6 +277,21 @@ mewilovang_looked mewilovang_look_up(const uint32_t *store, size_t words, uint32
 mewilovang_nexted mewilovang_next(const uint32_t *store, size_t words, uint32_t key);
 
 /*
+ * The tests in the store with numbers from `first` to `last`, both included, in rising order: their numbers to `keys`,
+ * their readings to `payloads`, as many as the shorter of the two arrays has room for. Entries behind the last one written
+ * keep their content in both. If `first` is above `last` there are none. Changes no word of the store. Turned down for 1
+ * to 4, whatever `first` and `last` are; both arrays then keep their content.
+ *
+ * To go on with the rest, call again from keys[written - 1] + 1, with the same `last` and with arrays of any room. Where
+ * something was written and `more` is 1, the last number written is below `last`, so this sum does not wrap.
+ *
+ * With room 0 in one of the arrays nothing is written, and `more` is 1 if the stretch has a test at all. A loop that goes
+ * on while `more` is 1 alone would not end then, and there is no keys[written - 1]: lend it room for one test or more.
+ */
+mewilovang_stretched mewilovang_stretch(const uint32_t *store, size_t words, uint32_t first, uint32_t last, uint32_t *keys,
+                                        size_t key_room, uint32_t *payloads, size_t payload_room);
+
+/*
  * Of a level, 1 to h, the block whose first to last key encloses `key`, if there is one, as that part of the store: 2 + 2b
  * words, which are the number of its records, their delete marks (bit 0 for the first), b keys and b payloads, 0 where
  * unused. An empty part if there is none, or the level is another number, or the store is turned down; ask check why.
@@ -291,6 +325,7 @@ MEWILOVANG_HOLDS(sizeof(uint32_t) == 4 && sizeof(size_t) == 8, "the library is b
 MEWILOVANG_HOLDS(sizeof(mewilovang_formatted) == 8, "mewilovang_formatted has gaps");
 MEWILOVANG_HOLDS(sizeof(mewilovang_looked) == 12, "mewilovang_looked has gaps");
 MEWILOVANG_HOLDS(sizeof(mewilovang_nexted) == 16, "mewilovang_nexted has gaps");
+MEWILOVANG_HOLDS(sizeof(mewilovang_stretched) == 12, "mewilovang_stretched has gaps");
 MEWILOVANG_HOLDS(sizeof(mewilovang_part) == 16, "mewilovang_part has gaps");
 MEWILOVANG_HOLDS(sizeof(mewilovang_about_store) == 52, "mewilovang_about_store has gaps");
 MEWILOVANG_HOLDS(sizeof(mewilovang_counts) == 12, "mewilovang_counts has gaps");

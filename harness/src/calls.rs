@@ -1,4 +1,4 @@
-//! The nine calls as values, and who answers them.
+//! The ten calls as values, what is lent to them, and who answers them.
 
 use mewilovang::border as c;
 use reference::{calls as plain, fast, geometry::Geometry};
@@ -11,6 +11,12 @@ pub enum Call {
     Check,
     LookUp(u32),
     Next(u32),
+    /// From a first to a last key, with room for so many keys and payloads.
+    Stretch {
+        first: u32,
+        last: u32,
+        rooms: [usize; 2],
+    },
     Show(u32, u32),
     About,
     Put(u32, u32),
@@ -18,9 +24,17 @@ pub enum Call {
 }
 
 impl Call {
-    /// Whether the call never changes a lent word.
+    /// Whether the call never changes a word of the store.
     pub fn only_reads(self) -> bool {
         !matches!(self, Call::Format(_) | Call::Put(..) | Call::Delete(_))
+    }
+
+    /// The lengths of the two arrays that the call is lent; 0 if it is lent none.
+    pub fn rooms(self) -> [usize; 2] {
+        match self {
+            Call::Stretch { rooms, .. } => rooms,
+            _ => [0, 0],
+        }
     }
 }
 
@@ -32,6 +46,8 @@ pub enum Answer {
     Checked(u32),
     Looked([u32; 3]),
     Nexted([u32; 4]),
+    /// Reason, records written, and 1 if more of the stretch follow.
+    Stretched([u32; 3]),
     Part(usize, usize),
     /// Reason, the six numbers, live, N, records in level 0, blocks of levels 1 to 3.
     About([u32; 13]),
@@ -48,8 +64,22 @@ impl Answer {
             Answer::Checked(reason) => reason,
             Answer::Looked(numbers) => numbers[0],
             Answer::Nexted(numbers) => numbers[0],
+            Answer::Stretched(numbers) => numbers[0],
             Answer::About(numbers) => numbers[0],
             Answer::Changed(numbers) => numbers[0],
+        }
+    }
+
+    /// Whether this answer to the call says that no word of the store has changed.
+    pub fn unchanged(self, call: Call) -> bool {
+        call.only_reads() || self.reason() != 0
+    }
+
+    /// Entries that a stretch has written to each array.
+    pub fn written(self) -> usize {
+        match self {
+            Answer::Stretched([_, written, _]) => written as usize,
+            _ => 0,
         }
     }
 
@@ -62,46 +92,91 @@ impl Answer {
     }
 }
 
-/// A store that answers calls on `words` words from `lent` on.
+/// What a caller lends: a store of so many words, and the arrays of a stretch, with at least the room that the call
+/// names.
+#[derive(Clone, Copy)]
+pub struct Lent {
+    pub store: *mut u32,
+    pub words: usize,
+    pub keys: *mut u32,
+    pub payloads: *mut u32,
+}
+
+/// The words that a caller holds.
+#[derive(Clone, Debug, Default, PartialEq, Eq)]
+pub struct Held {
+    pub store: Vec<u32>,
+    pub keys: Vec<u32>,
+    pub payloads: Vec<u32>,
+}
+
+impl Held {
+    /// A store alone, with no room for a stretch.
+    pub fn store(store: Vec<u32>) -> Held {
+        Held {
+            store,
+            ..Held::default()
+        }
+    }
+
+    /// Lends them to a call.
+    pub fn lend(&mut self) -> Lent {
+        Lent {
+            store: self.store.as_mut_ptr(),
+            words: self.store.len(),
+            keys: self.keys.as_mut_ptr(),
+            payloads: self.payloads.as_mut_ptr(),
+        }
+    }
+}
+
+/// A store that answers calls on lent words.
 pub trait Store {
     /// # Safety
     /// The words are the caller's to read and to write.
-    unsafe fn call(&self, lent: *mut u32, words: usize, call: Call) -> Answer;
+    unsafe fn call(&self, lent: Lent, call: Call) -> Answer;
 }
 
 /// The verified store, over the static library.
 pub struct Library;
 
 impl Store for Library {
-    unsafe fn call(&self, lent: *mut u32, words: usize, call: Call) -> Answer {
+    unsafe fn call(&self, lent: Lent, call: Call) -> Answer {
+        let Lent { store, words, .. } = lent;
         match call {
             Call::Words([b, w, d, g, h, p]) => Answer::Words(c::mewilovang_words(b, w, d, g, h, p)),
             Call::Format([b, w, d, g, h, p]) => {
-                let a = c::mewilovang_format(lent, words, b, w, d, g, h, p);
+                let a = c::mewilovang_format(store, words, b, w, d, g, h, p);
                 Answer::Formatted([a.reason, a.limit])
             }
-            Call::Check => Answer::Checked(c::mewilovang_check(lent, words)),
+            Call::Check => Answer::Checked(c::mewilovang_check(store, words)),
             Call::LookUp(key) => {
-                let a = c::mewilovang_look_up(lent, words, key);
+                let a = c::mewilovang_look_up(store, words, key);
                 Answer::Looked([a.reason, a.found, a.payload])
             }
             Call::Next(key) => {
-                let a = c::mewilovang_next(lent, words, key);
+                let a = c::mewilovang_next(store, words, key);
                 Answer::Nexted([a.reason, a.found, a.key, a.payload])
             }
+            Call::Stretch { first, last, rooms } => {
+                let Lent { keys, payloads, .. } = lent;
+                let [m, n] = rooms;
+                let a = c::mewilovang_stretch(store, words, first, last, keys, m, payloads, n);
+                Answer::Stretched([a.reason, a.written, a.more])
+            }
             Call::Show(level, key) => {
-                let a = c::mewilovang_show(lent, words, level, key);
+                let a = c::mewilovang_show(store, words, level, key);
                 Answer::Part(a.start, a.length)
             }
             Call::About => {
-                let a = c::mewilovang_about(lent, words);
+                let a = c::mewilovang_about(store, words);
                 Answer::About([
                     a.reason, a.b, a.w, a.d, a.g, a.h, a.p, a.live, a.limit, a.top, a.blocks1,
                     a.blocks2, a.blocks3,
                 ])
             }
-            Call::Put(key, payload) => changed(c::mewilovang_put(lent, words, key, payload)),
-            Call::Delete(key) => changed(c::mewilovang_delete(lent, words, key)),
+            Call::Put(key, payload) => changed(c::mewilovang_put(store, words, key, payload)),
+            Call::Delete(key) => changed(c::mewilovang_delete(store, words, key)),
         }
     }
 }
@@ -110,9 +185,9 @@ impl Store for Library {
 pub struct Package;
 
 impl Store for Package {
-    unsafe fn call(&self, lent: *mut u32, words: usize, call: Call) -> Answer {
-        let read = || std::slice::from_raw_parts(lent, words);
-        let write = || std::slice::from_raw_parts_mut(lent, words);
+    unsafe fn call(&self, lent: Lent, call: Call) -> Answer {
+        let read = || std::slice::from_raw_parts(lent.store, lent.words);
+        let write = || std::slice::from_raw_parts_mut(lent.store, lent.words);
         match call {
             Call::Words(numbers) => Answer::Words(six(numbers).words().unwrap_or(0)),
             Call::Format(numbers) => {
@@ -134,6 +209,13 @@ impl Store for Package {
                 };
                 let answer = mewilovang::next(read(), key);
                 Answer::Nexted(answer.map_or_else(refused, found))
+            }
+            Call::Stretch { first, last, rooms } => {
+                let keys = std::slice::from_raw_parts_mut(lent.keys, rooms[0]);
+                let payloads = std::slice::from_raw_parts_mut(lent.payloads, rooms[1]);
+                let piece = |a: mewilovang::Stretched| [0, a.written as u32, a.more.into()];
+                let answer = mewilovang::stretch(read(), first, last, keys, payloads);
+                Answer::Stretched(answer.map_or_else(refused, piece))
             }
             Call::Show(level, key) => part(read(), mewilovang::show(read(), level, key)),
             Call::About => {
@@ -221,8 +303,9 @@ pub enum Oracle {
 
 impl Oracle {
     /// The answer, with the words changed as they are to be.
-    pub fn call(self, words: &mut [u32], call: Call) -> Answer {
+    pub fn call(self, held: &mut Held, call: Call) -> Answer {
         let plain = self == Oracle::Plain;
+        let words = &mut held.store[..];
         match call {
             Call::Words(numbers) => {
                 Answer::Words(Geometry::new(numbers).map_or(0, Geometry::length))
@@ -249,6 +332,15 @@ impl Oracle {
                     Oracle::Fast => fast::next(words, key),
                 };
                 Answer::Nexted([a.refusal, a.found.into(), a.key, a.payload])
+            }
+            Call::Stretch { first, last, rooms } => {
+                let keys = &mut held.keys[..rooms[0]];
+                let payloads = &mut held.payloads[..rooms[1]];
+                let a = match self {
+                    Oracle::Plain => plain::stretch(words, first, last, keys, payloads),
+                    Oracle::Fast => fast::stretch(words, first, last, keys, payloads),
+                };
+                Answer::Stretched([a.refusal, a.written, a.more.into()])
             }
             Call::Show(level, key) if plain => part(words, plain::show(words, level, key)),
             Call::Show(level, key) => part(words, fast::show(words, level, key)),

@@ -3,7 +3,7 @@
 //! hold neither the store nor the library, and a sort of random words, so that the
 //! branch predictor has other things to remember.
 
-use crate::calls::Call;
+use crate::calls::{Call, Held};
 use crate::measure::{fast, library, Clock, Turn};
 use reference::random::Random;
 use std::hint::black_box;
@@ -44,7 +44,7 @@ pub struct Cold {
     pub fast_check: Vec<f64>,
     pub put: Vec<f64>,
     /// The store that they are made on, and the puts made so far.
-    store: Vec<u32>,
+    store: Held,
     done: usize,
 }
 
@@ -55,7 +55,7 @@ impl Cold {
             check: Vec::new(),
             fast_check: Vec::new(),
             put: Vec::new(),
-            store,
+            store: Held::store(store),
             done: 0,
         }
     }

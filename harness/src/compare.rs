@@ -1,15 +1,53 @@
-//! One call compared: answer, every word, and the words around the lent ones.
+//! One call compared: answer, every word of the store and of the arrays, and the
+//! words around them.
 
-use crate::calls::{Answer, Call, Oracle, Store};
+use crate::calls::{Answer, Call, Held, Lent, Oracle, Store};
 use std::fmt;
 
-/// Guard words before and after the lent ones.
+/// Guard words before and after lent ones.
 const GUARDS: usize = 32;
 
 /// What guard word number `index` holds.
 fn guard(index: usize) -> u32 {
     0xa5c3_9600 ^ (index as u32).wrapping_mul(0x0101_0101)
 }
+
+/// What entry `index` of an array holds before a call: each its own word, those of
+/// payloads other than those of keys.
+fn filling(array: u32, index: usize) -> u32 {
+    (2 * index as u32 + array).wrapping_mul(0x9e37_79b1) ^ 0x3c5a_69f0
+}
+
+/// What is lent.
+#[derive(Clone, Copy, Debug, PartialEq, Eq)]
+pub enum Kind {
+    Store,
+    Keys,
+    Payloads,
+}
+
+const KINDS: [Kind; 3] = [Kind::Store, Kind::Keys, Kind::Payloads];
+
+/// Where a word stands.
+#[derive(Clone, Copy, Debug, PartialEq, Eq)]
+pub struct Place {
+    pub of: Kind,
+    pub at: usize,
+}
+
+impl fmt::Display for Place {
+    fn fmt(&self, out: &mut fmt::Formatter) -> fmt::Result {
+        let of = match self.of {
+            Kind::Store => "store",
+            Kind::Keys => "keys",
+            Kind::Payloads => "payloads",
+        };
+        write!(out, "word {} of the {of}", self.at)
+    }
+}
+
+/// Keys and payloads in rising order, and if more follow.
+pub type Piece = (Vec<(u32, u32)>, bool);
 
 /// A difference.
 #[derive(Clone, Debug, PartialEq, Eq)]
@@ -23,24 +61,34 @@ pub enum Difference {
     /// A lent word differs from what it is to be after the call.
     Word {
         call: Call,
-        at: usize,
+        at: Place,
         got: u32,
         right: u32,
     },
-    /// A reading or refused call changed a lent word.
+    /// A reading or refused call changed a word of the store, or a stretch changed
+    /// an entry behind the last written one.
     Touched {
         call: Call,
-        at: usize,
+        at: Place,
         got: u32,
         entry: u32,
     },
-    /// A word before or after the lent ones was changed.
-    Guard { call: Call, number: usize },
+    /// A word before or after the lent ones was changed; guard words are counted
+    /// from 0.
+    Guard { call: Call, at: Place },
     /// The two implementations of the reference differ.
     Reference {
         call: Call,
         plain: Answer,
         fast: Answer,
+    },
+    /// A stretch, or a walk of some of them, gives other records than a map that
+    /// was fed with the accepted puts and deletes, or another answer: records and
+    /// more.
+    Map {
+        call: Call,
+        got: Piece,
+        right: Piece,
     },
 }
 
@@ -55,35 +103,79 @@ impl fmt::Display for Difference {
                 at,
                 got,
                 right,
-            } => write!(out, "{call:?} left word {at} as {got} and not {right}"),
+            } => write!(out, "{call:?} left {at} as {got} and not {right}"),
             Difference::Touched {
                 call,
                 at,
                 got,
                 entry,
-            } => write!(out, "{call:?} changed word {at} from {entry} to {got}"),
-            Difference::Guard { call, number } => {
-                write!(out, "{call:?} changed guard word {number}")
-            }
+            } => write!(out, "{call:?} changed {at} from {entry} to {got}"),
+            Difference::Guard { call, at } => write!(out, "{call:?} changed guard {at}"),
             Difference::Reference { call, plain, fast } => {
                 write!(
                     out,
                     "{call:?}: the reference says {plain:?} and {fast:?}, or leaves other words"
                 )
             }
+            Difference::Map { call, got, right } => {
+                let ((got, more), (right, further)) = (got, right);
+                let at = (0..).find(|&at| got.get(at) != right.get(at) || at == right.len());
+                let at = at.unwrap_or(0);
+                write!(
+                    out,
+                    "{call:?} gave {} records, more {more}, and the map has {}, more {further}; record {at} is {:?} \
+                    and not {:?}",
+                    got.len(),
+                    right.len(),
+                    got.get(at),
+                    right.get(at)
+                )
+            }
         }
     }
 }
 
-/// A store that is lent to calls, between guard words, with its words at entry.
-pub struct Bench {
-    entry: Vec<u32>,
+/// Words that are lent, between guard words.
+#[derive(Default)]
+struct Guarded {
     /// The guards, the lent words, the guards.
-    lent: Vec<u32>,
-    /// The words of the reference.
-    right: Vec<u32>,
-    /// The words of the other implementation of the reference.
-    other: Vec<u32>,
+    all: Vec<u32>,
+}
+
+impl Guarded {
+    /// Other words.
+    fn load(&mut self, words: &[u32]) {
+        self.all.clear();
+        self.all.extend((0..GUARDS).map(guard));
+        self.all.extend_from_slice(words);
+        self.all.extend((GUARDS..2 * GUARDS).map(guard));
+    }
+
+    /// The lent words.
+    fn words(&self) -> &[u32] {
+        &self.all[GUARDS..self.all.len() - GUARDS]
+    }
+
+    /// The lent words, to be changed.
+    fn words_mut(&mut self) -> &mut [u32] {
+        let end = self.all.len() - GUARDS;
+        &mut self.all[GUARDS..end]
+    }
+
+    /// Where the lent words start; guard words before and after them can be reached.
+    fn lend(&mut self) -> *mut u32 {
+        self.all.as_mut_ptr().wrapping_add(GUARDS)
+    }
+
+    /// The number of a guard word that has changed.
+    fn broken_guard(&self) -> Option<usize> {
+        let (before, rest) = self.all.split_at(GUARDS);
+        let after = &rest[rest.len() - GUARDS..];
+        (0..)
+            .zip(before.iter().chain(after))
+            .find(|&(number, &word)| word != guard(number))
+            .map(|(number, _)| number)
+    }
 }
 
 /// The first place where two slices of one length differ.
@@ -94,46 +186,63 @@ fn first_difference(left: &[u32], right: &[u32]) -> Option<usize> {
     (0..left.len()).find(|&at| left[at] != right[at])
 }
 
+/// The words of each kind.
+fn kinds(held: &Held) -> [&[u32]; 3] {
+    [&held.store, &held.keys, &held.payloads]
+}
+
+/// A store that is lent to calls, and arrays for stretches, between guard words,
+/// with all words at entry.
+pub struct Bench {
+    entry: Held,
+    /// Of each kind.
+    lent: [Guarded; 3],
+    /// The words of the reference.
+    right: Held,
+    /// The words of the other implementation of the reference.
+    other: Held,
+}
+
 impl Bench {
     /// No store yet.
     pub fn new() -> Bench {
+        let mut lent: [Guarded; 3] = Default::default();
+        lent.iter_mut().for_each(|some| some.load(&[]));
         Bench {
-            entry: Vec::new(),
-            lent: Vec::new(),
-            right: Vec::new(),
-            other: Vec::new(),
+            entry: Held::default(),
+            lent,
+            right: Held::default(),
+            other: Held::default(),
         }
     }
 
     /// A store to be asked.
     pub fn load(&mut self, words: &[u32]) {
-        self.entry.clear();
-        self.entry.extend_from_slice(words);
-        self.right.clone_from(&self.entry);
-        self.other.clone_from(&self.entry);
-        self.lent.clear();
-        self.lent.extend((0..GUARDS).map(guard));
-        self.lent.extend_from_slice(words);
-        self.lent.extend((GUARDS..2 * GUARDS).map(guard));
+        self.entry.store.clear();
+        self.entry.store.extend_from_slice(words);
+        self.right.store.clone_from(&self.entry.store);
+        self.other.store.clone_from(&self.entry.store);
+        self.lent[0].load(words);
     }
 
-    /// The lent words.
-    fn words(&self) -> &[u32] {
-        &self.lent[GUARDS..GUARDS + self.entry.len()]
+    /// Arrays with this room, filled with known words.
+    fn lend_arrays(&mut self, [keys, payloads]: [usize; 2]) {
+        self.entry.keys.clear();
+        self.entry.keys.extend((0..keys).map(|at| filling(0, at)));
+        self.entry.payloads.clear();
+        let filling = (0..payloads).map(|at| filling(1, at));
+        self.entry.payloads.extend(filling);
+        self.lent[1].load(&self.entry.keys);
+        self.lent[2].load(&self.entry.payloads);
+        for held in [&mut self.right, &mut self.other] {
+            held.keys.clone_from(&self.entry.keys);
+            held.payloads.clone_from(&self.entry.payloads);
+        }
     }
 
-    /// The number of a guard word that has changed.
-    fn broken_guard(&self) -> Option<usize> {
-        let after = &self.lent[GUARDS + self.entry.len()..];
-        let guards = self.lent[..GUARDS].iter().chain(after);
-        guards
-            .enumerate()
-            .find(|&(number, &word)| word != guard(number))
-            .map(|(number, _)| number)
-    }
-
-    /// One call on the store as it was loaded. With `both` the two
-    /// implementations of the reference are held against each other too.
+    /// One call on the store as it was loaded, which it is afterwards again. With
+    /// `both` the two implementations of the reference are held against each other
+    /// too.
     pub fn ask(
         &mut self,
         store: &dyn Store,
@@ -141,13 +250,61 @@ impl Bench {
         oracle: Oracle,
         both: bool,
     ) -> Result<Answer, Difference> {
-        let words = self.entry.len();
-        let lent = self.lent[..].as_mut_ptr().wrapping_add(GUARDS);
-        // The words stand inside `lent`, which nothing else uses meanwhile.
-        let got = unsafe { store.call(lent, words, call) };
+        let answer = self.compare(store, call, oracle, both)?;
+        if !answer.unchanged(call) {
+            self.right.store.copy_from_slice(&self.entry.store);
+            self.other.store.copy_from_slice(&self.entry.store);
+            self.lent[0].words_mut().copy_from_slice(&self.entry.store);
+        }
+        Ok(answer)
+    }
+
+    /// One call after which the store stays as the call leaves it.
+    pub fn go_on(
+        &mut self,
+        store: &dyn Store,
+        call: Call,
+        oracle: Oracle,
+    ) -> Result<Answer, Difference> {
+        let answer = self.compare(store, call, oracle, false)?;
+        if !answer.unchanged(call) {
+            self.entry.store.copy_from_slice(&self.right.store);
+        }
+        Ok(answer)
+    }
+
+    /// The records that the last call, a stretch, has written.
+    pub fn records(&self, answer: Answer) -> Vec<(u32, u32)> {
+        let (keys, payloads) = (self.lent[1].words(), self.lent[2].words());
+        let both = keys.iter().copied().zip(payloads.iter().copied());
+        both.take(answer.written()).collect()
+    }
+
+    /// One call: answers, words and guards.
+    fn compare(
+        &mut self,
+        store: &dyn Store,
+        call: Call,
+        oracle: Oracle,
+        both: bool,
+    ) -> Result<Answer, Difference> {
+        self.lend_arrays(call.rooms());
+        let words = self.entry.store.len();
+        let [lent, keys, payloads] = &mut self.lent;
+        let lent = Lent {
+            store: lent.lend(),
+            words,
+            keys: keys.lend(),
+            payloads: payloads.lend(),
+        };
+        // The words stand inside `self.lent`, which nothing else uses meanwhile.
+        let got = unsafe { store.call(lent, call) };
         std::hint::black_box(&mut self.lent);
-        if let Some(number) = self.broken_guard() {
-            return Err(Difference::Guard { call, number });
+        for (of, some) in KINDS.into_iter().zip(&self.lent) {
+            if let Some(at) = some.broken_guard() {
+                let at = Place { of, at };
+                return Err(Difference::Guard { call, at });
+            }
         }
         let right = oracle.call(&mut self.right, call);
         if both {
@@ -156,36 +313,40 @@ impl Bench {
         if got != right {
             return Err(Difference::Answer { call, got, right });
         }
-        let unchanged = call.only_reads() || right.reason() != 0;
-        self.same_words(call, unchanged)?;
-        if !unchanged {
-            self.right.copy_from_slice(&self.entry);
-            self.lent[GUARDS..GUARDS + words].copy_from_slice(&self.entry);
-        }
+        self.same_words(call, right)?;
         Ok(right)
     }
 
     /// Every lent word is as the reference has it, and where the call is to change
-    /// nothing, as it was at entry.
-    fn same_words(&self, call: Call, unchanged: bool) -> Result<(), Difference> {
-        let words = self.words();
-        if let Some(at) = first_difference(words, &self.entry).filter(|_| unchanged) {
-            let (got, entry) = (words[at], self.entry[at]);
-            return Err(Difference::Touched {
-                call,
+    /// nothing, as it was at entry: in the store if it only reads or is refused, in
+    /// an array behind the last written entry.
+    fn same_words(&self, call: Call, answer: Answer) -> Result<(), Difference> {
+        let (store, written) = (self.entry.store.len(), answer.written());
+        let store = if answer.unchanged(call) { 0 } else { store };
+        let (entries, rights) = (kinds(&self.entry), kinds(&self.right));
+        for (kind, changed) in [store, written, written].into_iter().enumerate() {
+            let (got, entry, right) = (self.lent[kind].words(), entries[kind], rights[kind]);
+            let place = |at| Place {
+                of: KINDS[kind],
                 at,
-                got,
-                entry,
-            });
-        }
-        if let Some(at) = first_difference(words, &self.right) {
-            let (got, right) = (words[at], self.right[at]);
-            return Err(Difference::Word {
-                call,
-                at,
-                got,
-                right,
-            });
+            };
+            let from = changed.min(got.len());
+            if let Some(at) = first_difference(&got[from..], &entry[from..]) {
+                return Err(Difference::Touched {
+                    call,
+                    at: place(from + at),
+                    got: got[from + at],
+                    entry: entry[from + at],
+                });
+            }
+            if let Some(at) = first_difference(got, right) {
+                return Err(Difference::Word {
+                    call,
+                    at: place(at),
+                    got: got[at],
+                    right: right[at],
+                });
+            }
         }
         Ok(())
     }
@@ -197,9 +358,6 @@ impl Bench {
         let fast = Oracle::Fast.call(&mut self.other, call);
         if plain != fast || copy != self.other {
             return Err(Difference::Reference { call, plain, fast });
-        }
-        if !call.only_reads() {
-            self.other.copy_from_slice(&self.entry);
         }
         Ok(())
     }

@@ -1,7 +1,9 @@
 //! The verified store, called over its static library and held against the two
 //! implementations of `reference`: `damage` looks for a difference on damaged
-//! stores, `bench` compares times.
+//! stores, `walks` in histories of calls with stretches between them, `bench`
+//! compares times.
 
+pub mod asked;
 pub mod calls;
 pub mod cold;
 pub mod compare;
@@ -10,7 +12,9 @@ pub mod maker;
 pub mod measure;
 pub mod planted;
 pub mod search;
+pub mod stretches;
 pub mod table;
+pub mod walks;
 
 #[cfg(test)]
 mod tests;

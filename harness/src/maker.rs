@@ -1,6 +1,6 @@
 //! Random stores of many geometries, from the smallest to some of the largest.
 
-use crate::calls::{Call, Oracle};
+use crate::calls::{Call, Held, Oracle};
 use reference::breach::Breach;
 use reference::damage::damaged;
 use reference::generate::{legal_geometries, Choices, Stream};
@@ -67,7 +67,7 @@ impl Maker {
     }
 
     /// A random geometry.
-    fn geometry(&self, random: &mut Random) -> (Geometry, Size) {
+    pub fn geometry(&self, random: &mut Random) -> (Geometry, Size) {
         match random.below(200) {
             0..=2 => {
                 let largest = Geometry::new(random.pick(&LARGEST)).filter(|_| random.one_in(2));
@@ -93,14 +93,14 @@ impl Maker {
                 let calls = random.below(most);
                 let mut words = vec![0; geometry.length()];
                 calls::format(&mut words, geometry.numbers());
-                run(random, geometry, &mut words, oracle, calls);
+                let words = run(random, geometry, words, oracle, calls);
                 (words, Origin::History(calls))
             }
             4..=7 => {
                 let few = random.below(20);
                 let calls = random.pick(&[0, 0, 0, few]);
-                let mut words = unreachable::store(random, geometry);
-                run(random, geometry, &mut words, oracle, calls);
+                let words = unreachable::store(random, geometry);
+                let words = run(random, geometry, words, oracle, calls);
                 (words, Origin::Unreachable(calls))
             }
             _ => {
@@ -127,15 +127,23 @@ impl Default for Maker {
     }
 }
 
-/// Runs random calls of the reference on a store.
-fn run(random: &mut Random, geometry: Geometry, words: &mut [u32], oracle: Oracle, calls: usize) {
-    let keys = unreachable::map(words).into_keys().collect();
+/// The words after random calls of the reference on a store.
+fn run(
+    random: &mut Random,
+    geometry: Geometry,
+    words: Vec<u32>,
+    oracle: Oracle,
+    calls: usize,
+) -> Vec<u32> {
+    let keys = unreachable::map(&words).into_keys().collect();
     let mut stream = Stream::new(random, geometry, keys);
+    let mut held = Held::store(words);
     for _ in 0..calls {
         match stream.call(random) {
-            Line::Put(key, payload) => oracle.call(words, Call::Put(key, payload)),
-            Line::Delete(key) => oracle.call(words, Call::Delete(key)),
+            Line::Put(key, payload) => oracle.call(&mut held, Call::Put(key, payload)),
+            Line::Delete(key) => oracle.call(&mut held, Call::Delete(key)),
             Line::Get(_) | Line::Format(_) => continue,
         };
     }
+    held.store
 }

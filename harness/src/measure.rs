@@ -5,7 +5,7 @@
 //! those of other geometries and cold calls in between. A figure of a block comes
 //! from medians over its rounds; how far the blocks lie apart is the noise.
 
-use crate::calls::{Answer, Call, Library, Oracle, Store};
+use crate::calls::{Answer, Call, Held, Library, Oracle, Store};
 use crate::cold::{Cold, Work};
 use reference::fast as baseline;
 use reference::geometry::Geometry;
@@ -20,8 +20,12 @@ const FEWEST: usize = 3;
 const MOST: usize = 80;
 /// Puts before the measured ones, to get warm.
 const WARMING: usize = 64;
-/// The reading calls are measured before every so many puts.
+/// The reading calls are measured before every so many puts, stretches before
+/// every so many.
 const APART: usize = 4;
+const STRETCHES_APART: usize = 64;
+/// Next calls in a row, which stand for as many as there are records.
+pub const IN_A_ROW: usize = 8;
 
 /// A store with N keys and all levels in steady state, and its keys: filled by puts
 /// of random keys, then calls that overwrite or replace a key, as many as all levels
@@ -131,6 +135,10 @@ pub struct Subject {
     pub rules: Times,
     pub look_up: Times,
     pub next: Times,
+    /// All records at once, the same once more, and one next for each.
+    pub stretch: Times,
+    pub again: Times,
+    pub nexts: Times,
     pub put: Times,
     /// The merges of each put.
     pub merges: Vec<u32>,
@@ -229,16 +237,23 @@ impl Rounds {
 
     /// One round of one implementation: the list of puts with the reading calls
     /// between them; answers the words afterwards.
-    fn list(&self, subject: &mut Subject, call: impl Fn(&mut [u32], Call) -> Answer) -> Vec<u32> {
-        let mut lent = self.store.clone();
+    fn list(&self, subject: &mut Subject, call: impl Fn(&mut Held, Call) -> Answer) -> Vec<u32> {
+        let mut lent = Held {
+            store: self.store.clone(),
+            keys: vec![0; self.geometry.key_limit()],
+            payloads: vec![0; self.geometry.key_limit()],
+        };
         for turn in &self.puts[..WARMING] {
             call(&mut lent, Call::Put(turn.put, 0));
         }
-        lent.copy_from_slice(&self.store);
+        lent.store.copy_from_slice(&self.store);
         subject.merges.clear();
         for (number, turn) in self.puts.iter().enumerate() {
             if number % APART == 0 {
                 self.read(subject, &mut lent, number, &call);
+            }
+            if number % STRETCHES_APART == 0 {
+                self.stretch(subject, &mut lent, number, &call);
             }
             if let Some(key) = turn.deleted {
                 call(&mut lent, Call::Delete(key));
@@ -249,23 +264,23 @@ impl Rounds {
             subject.put.add(number, time);
             subject.merges.push(answer.merges());
         }
-        lent
+        lent.store
     }
 
     /// The reading calls before put `number`.
     fn read(
         &self,
         subject: &mut Subject,
-        lent: &mut [u32],
+        lent: &mut Held,
         number: usize,
-        call: impl Fn(&mut [u32], Call) -> Answer,
+        call: impl Fn(&mut Held, Call) -> Answer,
     ) {
         let (place, key) = (number / APART, self.asked[number]);
         let pass = self
             .clock
-            .timed(|| plain_pass(self.geometry, black_box(lent)));
+            .timed(|| plain_pass(self.geometry, black_box(&lent.store)));
         subject.pass.add(place, pass.0);
-        let time = |lent: &mut [u32], asked, times: &mut Times| {
+        let time = |lent: &mut Held, asked, times: &mut Times| {
             let (time, answer) = self.clock.timed(|| call(black_box(lent), asked));
             times.add(place, time);
             answer.reason()
@@ -273,23 +288,62 @@ impl Rounds {
         let sound = time(lent, Call::Check, &mut subject.check);
         time(lent, Call::LookUp(key), &mut subject.look_up);
         time(lent, Call::Next(key), &mut subject.next);
-        let marks = last_marks(self.geometry, lent);
-        lent[marks] = 1;
+        let marks = last_marks(self.geometry, &lent.store);
+        lent.store[marks] = 1;
         let broken = time(lent, Call::Check, &mut subject.rules);
-        lent[marks] = 0;
+        lent.store[marks] = 0;
         assert!((sound, broken) == (0, 4), "what check says");
+    }
+
+    /// All N records before put `number`: by one stretch, after calls of other kinds,
+    /// by the same once more, and by next calls, each from one above the key before. Of
+    /// those only some in a row are made.
+    fn stretch(
+        &self,
+        subject: &mut Subject,
+        lent: &mut Held,
+        number: usize,
+        call: impl Fn(&mut Held, Call) -> Answer,
+    ) {
+        let (place, records) = (number / STRETCHES_APART, self.geometry.key_limit());
+        let all = Call::Stretch {
+            first: 0,
+            last: u32::MAX,
+            rooms: [records; 2],
+        };
+        for times in [&mut subject.stretch, &mut subject.again] {
+            let (time, answer) = self.clock.timed(|| call(black_box(lent), all));
+            let whole = Answer::Stretched([0, records as u32, 0]);
+            assert!(answer == whole, "a stretch of all records");
+            times.add(place, time);
+        }
+        let at = self.asked[number] as usize % (records - IN_A_ROW);
+        let (first, last) = (lent.keys[at], lent.keys[at + IN_A_ROW - 1]);
+        let (time, found) = self.clock.timed(|| {
+            (0..IN_A_ROW).fold(first.wrapping_sub(1), |key, _| {
+                match call(black_box(lent), Call::Next(key.wrapping_add(1))) {
+                    Answer::Nexted([0, 1, found, _]) => found,
+                    _ => panic!("there is a further record"),
+                }
+            })
+        });
+        assert!(found == last, "the same records");
+        let one = time / IN_A_ROW as f64;
+        subject.nexts.add(place, one * records as f64);
     }
 }
 
 /// A call of the library.
-pub fn library(lent: &mut [u32], call: Call) -> Answer {
-    // The words are lent to this call alone.
-    unsafe { Library.call(lent.as_mut_ptr(), lent.len(), call) }
+pub fn library(held: &mut Held, call: Call) -> Answer {
+    let [keys, payloads] = call.rooms();
+    assert!(keys <= held.keys.len() && payloads <= held.payloads.len());
+    // The words are lent to this call alone, and the arrays have the room that it names.
+    unsafe { Library.call(held.lend(), call) }
 }
 
 /// A call of the fast baseline.
-pub fn fast(lent: &mut [u32], call: Call) -> Answer {
-    Oracle::Fast.call(lent, call)
+pub fn fast(held: &mut Held, call: Call) -> Answer {
+    Oracle::Fast.call(held, call)
 }
 
 /// What times a call.

@@ -1,7 +1,7 @@
 //! Wrong stores that a search must find out: each answers as another store does,
 //! but for one fault.
 
-use crate::calls::{Answer, Call, Store};
+use crate::calls::{Answer, Call, Lent, Store};
 
 /// A planted fault.
 #[derive(Clone, Copy, Debug, PartialEq, Eq)]
@@ -14,6 +14,28 @@ pub enum Fault {
     LookUpPayload,
     /// Next answers the key itself as absent.
     NextNone,
+    /// A stretch leaves its last key out.
+    StretchLast,
+    /// A stretch from a first key above the last takes them the other way round.
+    StretchSwapped,
+    /// A stretch says that more follow if the store has a record behind its last key.
+    StretchMore,
+    /// A stretch with no room says that none follow.
+    StretchNoRoom,
+    /// A stretch counts one record too few.
+    StretchFewer,
+    /// A stretch gives its last record another payload.
+    StretchPayload,
+    /// A stretch changes the key behind the last written one.
+    StretchBehind,
+    /// A stretch goes on in the longer array behind the length of the shorter one.
+    StretchLonger,
+    /// A stretch that is turned down for 4 changes an array.
+    RefusedStretchWrites,
+    /// A stretch writes after the payloads that it was lent.
+    StretchWritesAfter,
+    /// A stretch changes a word of the store.
+    StretchStore,
     /// Show answers a part that starts a word too late.
     ShowStart,
     /// About says 0 to a store that is turned down for 4.
@@ -46,13 +68,24 @@ pub enum Fault {
 
 impl Fault {
     /// Every fault.
-    pub const ALL: [Fault; 18] = {
+    pub const ALL: [Fault; 29] = {
         use Fault::*;
         [
             CheckLenient,
             CheckOrder,
             LookUpPayload,
             NextNone,
+            StretchLast,
+            StretchSwapped,
+            StretchMore,
+            StretchNoRoom,
+            StretchFewer,
+            StretchPayload,
+            StretchBehind,
+            StretchLonger,
+            RefusedStretchWrites,
+            StretchWritesAfter,
+            StretchStore,
             ShowStart,
             AboutLenient,
             AboutLive,
@@ -69,6 +102,23 @@ impl Fault {
             DeleteWritesBefore,
         ]
     };
+
+    /// Those of stretches of a sound store.
+    pub const STRETCHES: [Fault; 10] = {
+        use Fault::*;
+        [
+            StretchLast,
+            StretchSwapped,
+            StretchMore,
+            StretchNoRoom,
+            StretchFewer,
+            StretchPayload,
+            StretchBehind,
+            StretchLonger,
+            StretchWritesAfter,
+            StretchStore,
+        ]
+    };
 }
 
 /// A store with a fault.
@@ -78,6 +128,21 @@ pub struct Planted<S> {
 }
 
 impl Fault {
+    /// The call that the fault makes of the one asked for.
+    fn call(self, call: Call) -> Call {
+        match (self, call) {
+            (Fault::StretchLast, Call::Stretch { first, last, rooms }) if last > 0 => {
+                let last = last - 1;
+                Call::Stretch { first, last, rooms }
+            }
+            (Fault::StretchSwapped, Call::Stretch { first, last, rooms }) if first > last => {
+                let (first, last) = (last, first);
+                Call::Stretch { first, last, rooms }
+            }
+            _ => call,
+        }
+    }
+
     /// The answer that the fault makes of the right one.
     fn answer(self, call: Call, right: Answer) -> Answer {
         use Fault::*;
@@ -89,6 +154,10 @@ impl Fault {
             }
             (NextNone, Call::Next(key), Answer::Nexted([0, 1, found, _])) if key == found => {
                 Answer::Nexted([0; 4])
+            }
+            (StretchNoRoom, _, Answer::Stretched([0, 0, 1])) => Answer::Stretched([0; 3]),
+            (StretchFewer, _, Answer::Stretched([0, written, more])) if written > 0 => {
+                Answer::Stretched([0, written - 1, more])
             }
             (ShowStart, _, Answer::Part(start, length)) if length > 0 => {
                 Answer::Part(start + 1, length)
@@ -115,29 +184,60 @@ impl Fault {
             _ => right,
         }
     }
+
+    /// What the fault does to the arrays of a stretch, which have this room, after
+    /// the right answer.
+    unsafe fn arrays(self, lent: Lent, [keys, payloads]: [usize; 2], right: [u32; 3]) {
+        use Fault::*;
+        let [reason, written, more] = right;
+        let (room, behind) = (keys.min(payloads), written as usize);
+        match self {
+            StretchPayload if written > 0 => *lent.payloads.add(behind - 1) ^= 1,
+            StretchBehind if reason == 0 && behind < room => *lent.keys.add(behind) ^= 1,
+            StretchLonger if more == 1 && keys > room => *lent.keys.add(room) ^= 1,
+            StretchLonger if more == 1 && payloads > room => *lent.payloads.add(room) ^= 1,
+            RefusedStretchWrites if reason == 4 && payloads > 0 => *lent.payloads ^= 1,
+            StretchWritesAfter if more == 1 => *lent.payloads.add(payloads) ^= 1,
+            _ => {}
+        }
+    }
 }
 
 impl<S: Store> Store for Planted<S> {
-    unsafe fn call(&self, lent: *mut u32, words: usize, call: Call) -> Answer {
+    unsafe fn call(&self, lent: Lent, call: Call) -> Answer {
         use Fault::*;
-        let last = (words > 0).then(|| *lent.add(words - 1));
-        let right = self.store.call(lent, words, call);
+        let Lent { store, words, .. } = lent;
+        let last = (words > 0).then(|| *store.add(words - 1));
+        let right = self.store.call(lent, self.fault.call(call));
         match (self.fault, call, right) {
             (FormatLeaves, _, Answer::Formatted([0, _])) => {
-                *lent.add(words - 1) = last.unwrap_or(0);
+                *store.add(words - 1) = last.unwrap_or(0);
             }
             (PutWord, Call::Put(key, payload), Answer::Changed([0, ..])) => {
-                self.store.call(lent, words, Call::Put(key, payload ^ 1));
+                self.store.call(lent, Call::Put(key, payload ^ 1));
             }
             (RefusedPutWrites, Call::Put(..), Answer::Changed([4, ..])) => {
-                *lent.add(words - 1) ^= 1;
+                *store.add(words - 1) ^= 1;
             }
             (LookUpWrites, Call::LookUp(_), Answer::Looked([0, ..])) => {
-                *lent.add(words - 1) ^= 1 << 31;
+                *store.add(words - 1) ^= 1 << 31;
             }
-            (AboutWrites, Call::About, Answer::About([4, ..])) => *lent.add(words - 1) ^= 1,
-            (CheckWritesBehind, Call::Check, _) => *lent.add(words) ^= 1,
-            (DeleteWritesBefore, Call::Delete(_), _) => *lent.sub(1) ^= 1,
+            (AboutWrites, Call::About, Answer::About([4, ..])) => *store.add(words - 1) ^= 1,
+            (CheckWritesBehind, Call::Check, _) => *store.add(words) ^= 1,
+            (DeleteWritesBefore, Call::Delete(_), _) => *store.sub(1) ^= 1,
+            (
+                StretchMore,
+                Call::Stretch { first, last, .. },
+                Answer::Stretched([0, written, 0]),
+            ) if first <= last && last < u32::MAX => {
+                let behind = self.store.call(lent, Call::Next(last + 1));
+                let more = matches!(behind, Answer::Nexted([0, 1, ..]));
+                return Answer::Stretched([0, written, more.into()]);
+            }
+            (StretchStore, _, Answer::Stretched([0, ..])) => *store.add(words - 1) ^= 1,
+            (_, Call::Stretch { rooms, .. }, Answer::Stretched(numbers)) => {
+                self.fault.arrays(lent, rooms, numbers);
+            }
             _ => {}
         }
         self.fault.answer(call, right)

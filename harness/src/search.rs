@@ -1,10 +1,11 @@
-//! The search for a difference: random stores, damaged, all nine calls on each.
+//! The search for a difference: random stores, damaged, all ten calls on each.
 
 use crate::calls::{Call, Oracle, Store};
 use crate::compare::{Bench, Difference};
 use crate::harm::{damage, Harm};
 use crate::maker::{Base, Maker, Origin, Size};
-use reference::layout::HEADER;
+use crate::stretches::{ends, rooms, Stretches};
+use reference::layout::{HEADER, LIVE};
 use reference::random::Random;
 use std::fmt;
 
@@ -51,6 +52,7 @@ pub struct Counts {
     pub full: u64,
     /// Merges of the puts and deletes.
     pub merges: u64,
+    pub stretches: Stretches,
     /// Calls for which both implementations of the reference were asked.
     pub both: u64,
     /// Stores of more than 16,384 words, and the words of the longest.
@@ -69,6 +71,7 @@ impl fmt::Display for Counts {
             writeln!(out, "  check says {reason}   {stores:>10}")?;
         }
         writeln!(out, "calls compared   {:>10}", self.calls)?;
+        writeln!(out, "{}", self.stretches)?;
         writeln!(out, "  merges         {:>10}", self.merges)?;
         writeln!(out, "  refused for 5  {:>10}", self.full)?;
         write!(out, "  plain and fast {:>10}", self.both)
@@ -131,7 +134,7 @@ impl<'a> Search<'a> {
         Ok(())
     }
 
-    /// All nine calls on one store, each on the words as they are.
+    /// All ten calls on one store, each on the words as they are.
     fn ask_all(
         &mut self,
         random: &mut Random,
@@ -157,6 +160,7 @@ impl<'a> Search<'a> {
             self.counts.calls += 1;
             self.counts.both += u64::from(both);
             self.counts.merges += u64::from(answer.merges());
+            self.counts.stretches.count(answer);
             match call {
                 Call::Check => self.counts.reasons[answer.reason() as usize] += 1,
                 _ => self.counts.full += u64::from(answer.reason() == 5),
@@ -166,10 +170,9 @@ impl<'a> Search<'a> {
     }
 }
 
-/// All nine calls, put and delete twice, with arguments that fit the store.
-fn calls(random: &mut Random, base: &Base, words: &[u32]) -> [Call; 11] {
-    let mut key = || key(random, base, words);
-    let keys = [key(), key(), key(), key(), key(), key(), key()];
+/// All ten calls, stretch, put and delete twice, with arguments that fit the store.
+fn calls(random: &mut Random, base: &Base, words: &[u32]) -> [Call; 13] {
+    let keys: [u32; 11] = std::array::from_fn(|_| key(random, base, words));
     let own = [0, 1, 2, 3, 4, 5].map(|at| words.get(at).copied().unwrap_or(4));
     let mut numbers = match random.below(4) {
         0 => base.geometry.numbers(),
@@ -179,12 +182,20 @@ fn calls(random: &mut Random, base: &Base, words: &[u32]) -> [Call; 11] {
         let at = random.below(6);
         numbers[at] = random.pick(&[0, u32::MAX, numbers[at] ^ 1, numbers[at].wrapping_add(1)]);
     }
+    let live = (base.words[LIVE] as usize).min(base.geometry.key_limit());
+    let stretches = [[keys[7], keys[8]], [keys[9], keys[10]]].map(|keys| {
+        let (first, last) = ends(random, keys);
+        let rooms = rooms(random, live);
+        Call::Stretch { first, last, rooms }
+    });
     let level = random.pick(&[0, 1, 1, 1, 2, 2, 3, 3, 4, u32::MAX]);
     [
         Call::Words(numbers),
         Call::Check,
         Call::LookUp(keys[0]),
         Call::Next(keys[1]),
+        stretches[0],
+        stretches[1],
         Call::Show(level, keys[2]),
         Call::About,
         Call::Put(keys[3], random.word()),

@@ -1,6 +1,6 @@
 //! The tables of `bench`.
 
-use crate::measure::{mean, median, words_read, Block, Rounds};
+use crate::measure::{mean, median, words_read, Block, Rounds, IN_A_ROW};
 use reference::geometry::Geometry;
 use std::fmt::Write;
 
@@ -34,18 +34,20 @@ impl Range {
     }
 
     fn text(self) -> String {
-        format!("{:.2}-{:.2}", self.low, self.high)
+        let digits = if self.high < 1000.0 { 2 } else { 0 };
+        format!("{:.digits$}-{:.digits$}", self.low, self.high)
     }
 }
 
 /// The figures of a block, by name: times in microseconds, and ratios.
-const NAMES: [&str; 15] = [
+const NAMES: [&str; 20] = [
     "plain pass",
     "check",
     "check / plain pass",
     "check / fast check",
     "look up / check",
     "put, mean / check",
+    "stretch / check",
     "next / check",
     "put, still / check",
     "put, merging / check",
@@ -55,15 +57,20 @@ const NAMES: [&str; 15] = [
     "rules / fast",
     "live",
     "live / fast",
+    "stretch",
+    "stretch / fast stretch",
+    "nexts / stretch",
+    "stretch again / check",
 ];
 /// Where the ratios of the first table begin and end, the rest of the second, and
-/// the parts of check.
-const FIRST: std::ops::Range<usize> = 0..6;
-const SECOND: std::ops::Range<usize> = 6..11;
-const PARTS: std::ops::Range<usize> = 11..15;
+/// the parts of check; and what the table of stretches has.
+const FIRST: std::ops::Range<usize> = 0..7;
+const SECOND: std::ops::Range<usize> = 7..12;
+const PARTS: std::ops::Range<usize> = 12..16;
+const STRETCHES: [usize; 6] = [1, 16, 6, 19, 17, 18];
 
 /// The aims, at most so much.
-const AIMS: [(usize, f64); 4] = [(2, 10.0), (3, 1.2), (4, 1.1), (5, 2.0)];
+const AIMS: [(usize, f64); 5] = [(2, 10.0), (3, 1.2), (4, 1.1), (5, 2.0), (6, 2.5)];
 
 /// The cold calls, in microseconds.
 const COLD: [&str; 3] = ["cold check", "cold fast check", "cold put"];
@@ -77,6 +84,7 @@ fn figures(block: &Block) -> [f64; NAMES.len()] {
         library.rules.mean(),
     );
     let (fast_check, fast_rules) = (fast.check.mean(), fast.rules.mean());
+    let stretch = library.stretch.mean();
     let puts = library.put.medians();
     let of = |merging: bool| {
         let both = puts.iter().zip(&library.merges);
@@ -90,6 +98,7 @@ fn figures(block: &Block) -> [f64; NAMES.len()] {
         check / fast_check,
         library.look_up.mean() / check,
         mean(&puts) / check,
+        stretch / check,
         library.next.mean() / check,
         of(false) / check,
         of(true) / check,
@@ -99,6 +108,10 @@ fn figures(block: &Block) -> [f64; NAMES.len()] {
         rules / fast_rules,
         (check - rules) / 1000.0,
         (check - rules) / (fast_check - fast_rules),
+        stretch / 1000.0,
+        stretch / fast.stretch.mean(),
+        library.nexts.mean() / stretch,
+        library.again.mean() / check,
     ]
 }
 
@@ -183,14 +196,17 @@ fn table(above: &str, head: &str, rows: &[Row], cells: impl Fn(&Row) -> Vec<Stri
 pub fn print(rows: &[Row]) {
     println!("Full stores, live = N, level 0 in steady state. Lowest and highest of the blocks of");
     println!("rounds, times in microseconds. All but the cold calls are warm.");
-    let head = "plain pass,check,check/pass,check/fast,look up/check,put mean/check";
+    let head = "plain pass,check,check/pass,check/fast,look up/check,put mean/check,stretch/check";
     table(
-        "What the aims speak of. Put: the mean of all puts.",
+        "What the aims speak of. Put: the mean of all puts. Stretch: of all N records.",
         head,
         rows,
         |row| row.cells(FIRST),
     );
-    line("aim at most", &["", "", "10.00", "1.20", "1.10", "2.00"]);
+    let mut aims = [const { String::new() }; FIRST.end];
+    AIMS.iter()
+        .for_each(|&(at, most)| aims[at] = format!("{most:.2}"));
+    line("aim at most", &aims);
     let head = "next/check,put still,put merging,put worst,put/fast put,N,words read,rounds";
     let above = "Put as a share of check: still are the puts without a merge, merging those with, worst the\n\
         slowest. Put/fast put: the mean put as a share of the fast baseline's. Words: what check must read.";
@@ -208,6 +224,21 @@ pub fn print(rows: &[Row]) {
         |row| {
             let mut cells = row.cells(PARTS);
             cells.extend([row.merging.to_string(), row.merges.to_string()]);
+            cells
+        },
+    );
+    let above = format!(
+        "A stretch of all N records after other calls, with arrays of N entries: microseconds, a multiple of check, a\n\
+        share of the fast baseline's. Again: the same stretch at once again. Nexts/stretch: one next for each record\n\
+        instead, reckoned from {IN_A_ROW} in a row."
+    );
+    table(
+        &above,
+        "N,check,stretch,stretch/check,again/check,stretch/fast,nexts/stretch",
+        rows,
+        |row| {
+            let mut cells = vec![row.geometry.key_limit().to_string()];
+            cells.extend(STRETCHES.map(|at| row.figures[at].text()));
             cells
         },
     );

@@ -1,10 +1,11 @@
-//! The search is able to fail, and finds nothing in the library. What the benchmark
-//! says of an aim.
+//! The search and the histories are able to fail, and find nothing in the library.
+//! What the benchmark says of an aim.
 
 use crate::calls::{Library, Package};
 use crate::planted::{Fault, Planted};
 use crate::search::Search;
 use crate::table::Range;
+use crate::walks::{same, Walks};
 
 /// Each planted fault is reported, and the report's group shows it again.
 #[test]
@@ -38,6 +39,67 @@ fn nothing_in_the_library() {
     println!("{counts}");
     assert!(counts.reasons.iter().all(|&stores| stores > 0));
     assert!(counts.merges > 0 && counts.full > 0 && counts.both > 0 && counts.large > 0);
+    let stretches = &counts.stretches;
+    assert!(stretches.cut > 0 && stretches.wrote > stretches.cut && stretches.more > stretches.cut);
+}
+
+/// Each planted fault of a stretch is reported in a history, which shows it again.
+#[test]
+fn planted_faults_are_reported_in_histories() {
+    for fault in Fault::STRETCHES {
+        let store = Planted {
+            store: Library,
+            fault,
+        };
+        let mut walks = Walks::new(vec![&store], 5);
+        let report = (0..400).find_map(|history| walks.history(history).err());
+        let report = report.unwrap_or_else(|| panic!("{fault:?} is not reported"));
+        println!("{fault:?}: {}", report.difference);
+        let again = Walks::new(vec![&store], 5).history(report.history);
+        let again = again.expect_err("the history shows it again");
+        assert_eq!(again.difference, report.difference, "{fault:?}");
+        assert_eq!(again.calls, report.calls, "{fault:?}");
+    }
+}
+
+/// Some histories show nothing.
+#[test]
+fn nothing_in_histories() {
+    let mut walks = Walks::new(vec![&Library, &Package], 1);
+    for history in 0..100 {
+        if let Err(report) = walks.history(history) {
+            panic!("{report}");
+        }
+    }
+    let counts = &walks.counts;
+    println!("{counts}");
+    assert!(counts.merges > 0 && counts.full > 0 && counts.large > 0);
+    assert!(counts.stretches.cut > 0 && counts.steps > 2 * counts.walks);
+}
+
+/// What a stretch gives is held to the map, whatever the reference says.
+#[test]
+fn other_records_than_the_map() {
+    let map = [(10, 1), (20, 2), (30, 3), (40, 4)].into();
+    let held = |first, last, rooms, records: &[(u32, u32)], more| {
+        same(&map, first, last, rooms, (records.to_vec(), more)).is_ok()
+    };
+    assert!(held(10, 30, [2, 3], &[(10, 1), (20, 2)], true));
+    assert!(held(11, 30, [2, 3], &[(20, 2), (30, 3)], false));
+    assert!(held(41, u32::MAX, [2, 2], &[], false));
+    assert!(held(10, 10, [0, 7], &[], true));
+    assert!(held(30, 10, [7, 7], &[], false));
+    assert!(!held(10, 30, [2, 2], &[(10, 1), (20, 2)], false));
+    assert!(!held(10, 20, [2, 2], &[(10, 1), (20, 2)], true));
+    assert!(!held(10, 30, [7, 7], &[(10, 1), (20, 2)], true));
+    assert!(!held(10, 30, [7, 7], &[(10, 1), (20, 2), (30, 4)], false));
+    assert!(!held(10, 30, [7, 7], &[(20, 2), (10, 1), (30, 3)], false));
+    assert!(!held(30, 10, [7, 7], &[(10, 1)], true));
+    let shown = same(&map, 10, 30, [7, 7], (vec![(10, 1), (30, 3)], true));
+    let shown = shown.expect_err("a record is missing").to_string();
+    assert!(shown.ends_with(
+        "gave 2 records, more true, and the map has 3, more false; record 1 is Some((30, 3)) and not Some((20, 2))"
+    ));
 }
 
 /// An aim is met or missed by all repetitions, or else within their noise.

@@ -2,6 +2,7 @@
 //! slice of words of any length and content; a refused call changes no word.
 
 use crate::block::Record;
+use crate::fault::{self, Fault};
 use crate::form::checked;
 use crate::geometry::Geometry;
 use crate::layout::{COUNTS, CURSOR, HEADER, LIVE, MOST_LEVELS};
@@ -31,6 +32,16 @@ pub struct Next {
     pub found: bool,
     pub key: u32,
     pub payload: u32,
+}
+
+/// The answer of stretch, the call of document 02's card 1.
+#[derive(Clone, Copy, Debug, Default, PartialEq, Eq)]
+pub struct Stretched {
+    pub refusal: u32,
+    /// Records written to the lent arrays.
+    pub written: u32,
+    /// Whether the stretch has further live records.
+    pub more: bool,
 }
 
 /// The answer of about, an addition to document 01's calls.
@@ -135,6 +146,73 @@ pub fn next(words: &[u32], key: u32) -> Next {
         },
         None => Next::default(),
     }
+}
+
+/// Stretch, card 1 of document 02: "Given a first and a last key and two lent arrays,
+/// one for keys and one for payloads, the store fills them with the live records of
+/// that stretch in rising order and says how many it wrote and if more follow. If
+/// the arrays differ in length, the shorter counts; a first key above the last gives
+/// zero records. Entries behind the last written one keep their content. The list is
+/// the map's stretch cut at that length."
+pub fn stretch(
+    words: &[u32],
+    first: u32,
+    last: u32,
+    keys: &mut [u32],
+    payloads: &mut [u32],
+) -> Stretched {
+    let view = match checked(words) {
+        Err(refusal) => {
+            return Stretched {
+                refusal,
+                ..Stretched::default()
+            }
+        }
+        Ok(view) => view,
+    };
+    let records = live_stretch(view, first, last);
+    let room = keys.len().min(payloads.len());
+    let (written, left) = records.split_at(records.len().min(room));
+    for (index, record) in written.iter().enumerate() {
+        keys[index] = record.key;
+        payloads[index] = record.payload;
+    }
+    if fault::is(Fault::TouchBehindWritten) {
+        keys[written.len()..]
+            .iter_mut()
+            .take(1)
+            .for_each(|key| *key = 0);
+    }
+    let mut more = !left.is_empty();
+    if fault::is(Fault::MoreOfTheStore) {
+        more = live_stretch(view, first, u32::MAX).len() > written.len();
+    }
+    Stretched {
+        refusal: 0,
+        written: written.len() as u32,
+        more,
+    }
+}
+
+/// The live records from the first key to the last, both included, in rising order.
+fn live_stretch(view: View, first: u32, last: u32) -> Vec<Record> {
+    let newest = view.newest_from(first);
+    let mut records: Vec<Record> = newest.take_while(|record| record.key <= last).collect();
+    if !fault::is(Fault::ListTombstones) {
+        records.retain(|record| !record.tombstone);
+    }
+    if fault::is(Fault::LeaveOutLast) {
+        records.retain(|record| record.key != last);
+    }
+    if fault::is(Fault::ListOlder) {
+        let levels = 0..=view.geometry.levels();
+        let oldest = |key| levels.clone().rev().find_map(|level| view.find(level, key));
+        records = records
+            .iter()
+            .filter_map(|record| oldest(record.key))
+            .collect();
+    }
+    records
 }
 
 /// Show i, k: "of level i, 1 to h, the words of the block whose first to last key

@@ -18,6 +18,16 @@ pub enum Fault {
     SlotsFreeTooSoon,
     /// Step 5 leaves out level i.
     NoCompactionAbove,
+    /// A stretch ends before its last key.
+    LeaveOutLast,
+    /// More speaks of the live records of the store, not of the stretch.
+    MoreOfTheStore,
+    /// A stretch touches the entry behind the last written one.
+    TouchBehindWritten,
+    /// A stretch lists tombstones.
+    ListTombstones,
+    /// A stretch lists the oldest record of a live key.
+    ListOlder,
 }
 
 #[cfg(test)]

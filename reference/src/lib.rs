@@ -1,7 +1,7 @@
 //! The reference implementation of the flash record store of document 01
-//! ("The record store of a brake tester console"), written from that document
-//! and the list of readings alone. It is plain on purpose: it is the other side
-//! of a comparison. Standard library only.
+//! ("The record store of a brake tester console") with card 1 of document 02,
+//! written from these documents and the lists of readings alone. It is plain on
+//! purpose: it is the other side of a comparison. Standard library only.
 //!
 //! Words of this code and of document 01: a *tombstone* is the document's delete
 //! mark, a *slot* is its place, the *allocation cursor* is its hand, a

@@ -1,7 +1,7 @@
-//! A brake tester's console over the store, in Rust: the same day as c/console.c, and the same lines printed
+//! A brake tester's console over the store, in Rust: the same events as in c/console.c, and the same lines printed
 //! (c/console.out).
 
-use mewilovang::{Change, Geometry, Refusal};
+use mewilovang::{Change, Geometry, Record, Refusal};
 
 const GEOMETRY: Geometry = Geometry {
     b: 4,
@@ -12,12 +12,19 @@ const GEOMETRY: Geometry = Geometry {
     p: 40,
 };
 
+/// Tests are numbered by date: 0 to 49 on the first day, 50 to 99 on the second.
+const DAY_NUMBERS: u32 = 50;
+/// The tests that a listing has room for at a time.
+const PIECE: usize = 5;
+
 #[derive(Clone, Copy)]
 enum Event {
     Measured(u32, u32, u32),
     Deleted(u32),
     Sheet(u32),
     All,
+    Day(u32),
+    Next(u32),
     BlockAround(u32),
     Stored,
     Check(usize),
@@ -25,7 +32,7 @@ enum Event {
 
 use Event::*;
 
-const MORNING: [Event; 19] = [
+const FIRST_TESTS: &[Event] = &[
     Measured(10, 2410, 2490),
     Measured(20, 2420, 2480),
     Measured(30, 2430, 2470),
@@ -42,12 +49,13 @@ const MORNING: [Event; 19] = [
     Sheet(20),
     Sheet(40),
     All,
+    Day(1),
     BlockAround(25),
     BlockAround(55),
     Stored,
 ];
 
-const AFTERNOON: [Event; 18] = [
+const UNTIL_FULL: &[Event] = &[
     Measured(15, 2415, 2485),
     Measured(25, 2425, 2475),
     Measured(35, 2435, 2465),
@@ -63,22 +71,29 @@ const AFTERNOON: [Event; 18] = [
     Deleted(60),
     Measured(100, 2500, 2400),
     All,
+    Day(1),
+    Day(2),
+    Day(4),
+    Next(56),
+    Next(101),
     BlockAround(37),
     Sheet(15),
     Sheet(60),
 ];
 
-const DAMAGED: [Event; 7] = [
+const DAMAGED: &[Event] = &[
     Check(438),
     Sheet(15),
     Measured(49, 2449, 2451),
     Deleted(15),
     All,
+    Day(2),
+    Next(56),
     BlockAround(37),
     Stored,
 ];
 
-const EVENING: [Event; 3] = [Check(438), Check(11), Check(437)];
+const REPAIRED: &[Event] = &[Check(438), Check(11), Check(437)];
 
 fn why(r: Refusal) -> String {
     format!("{r} ({})", r.number())
@@ -122,24 +137,48 @@ fn sheet(store: &[u32], test: u32) {
     }
 }
 
-fn keys(store: &[u32]) -> Result<Vec<u32>, Refusal> {
-    let mut found = Vec::new();
-    let mut from = Some(0);
-    while let Some(key) = from {
-        let Some(record) = mewilovang::next(store, key)? else {
-            break;
-        };
-        found.push(record.key);
-        from = record.key.checked_add(1);
+fn test_line(key: u32, reading: u32) -> String {
+    format!(" {key} ({}/{} N)", reading >> 16, reading & 0xFFFF)
+}
+
+/// The tests from the first to the last number, a line for each call: where more follow, some were written (PIECE > 0).
+fn tests(store: &[u32], mut first: u32, last: u32) {
+    let (mut keys, mut readings) = ([0; PIECE], [0; PIECE]);
+    loop {
+        print!("tests {first} to {last}:");
+        match mewilovang::stretch(store, first, last, &mut keys, &mut readings) {
+            Err(r) => return println!(" {}", why(r)),
+            Ok(piece) => {
+                for i in 0..piece.written {
+                    print!("{}", test_line(keys[i], readings[i]));
+                }
+                if !piece.more {
+                    return println!("{}", if piece.written == 0 { " none" } else { "" });
+                }
+                println!(", more follow");
+                first = keys[piece.written - 1] + 1;
+            }
+        }
     }
-    Ok(found)
 }
 
 fn all_tests(store: &[u32]) {
-    match keys(store) {
-        Err(r) => println!("tests: {}", why(r)),
-        Ok(keys) => println!("{} tests: {}", keys.len(), spaced(&keys)),
-    }
+    println!("all tests");
+    tests(store, 0, u32::MAX);
+}
+
+fn day(store: &[u32], number: u32) {
+    println!("day {number}");
+    tests(store, (number - 1) * DAY_NUMBERS, number * DAY_NUMBERS - 1);
+}
+
+fn next(store: &[u32], from: u32) {
+    let said = match mewilovang::next(store, from) {
+        Err(r) => format!(" {}", why(r)),
+        Ok(None) => " none".to_string(),
+        Ok(Some(Record { key, payload })) => test_line(key, payload),
+    };
+    println!("next test from {from} on:{said}");
 }
 
 fn spaced(numbers: &[u32]) -> String {
@@ -192,6 +231,8 @@ fn run(store: &mut [u32], events: &[Event]) {
             Deleted(test) => deleted(store, test),
             Sheet(test) => sheet(store, test),
             All => all_tests(store),
+            Day(number) => day(store, number),
+            Next(from) => next(store, from),
             BlockAround(test) => block_around(store, test),
             Stored => stored(store),
             Check(words) => check(store, words),
@@ -204,18 +245,18 @@ fn main() -> Result<(), Refusal> {
     let mut store = vec![0; words];
     let limit = mewilovang::format(&mut store, GEOMETRY)?;
     println!("{words} words lent, room for {limit} tests");
-    run(&mut store, &MORNING);
-    run(&mut store, &AFTERNOON);
+    run(&mut store, FIRST_TESTS);
+    run(&mut store, UNTIL_FULL);
 
     println!("a bit of word 70 flips");
     store[70] ^= 0x8000_0000;
     let before = store.clone();
-    run(&mut store, &DAMAGED);
+    run(&mut store, DAMAGED);
     let changed = before.iter().zip(&store).filter(|(a, b)| a != b).count();
     println!("words changed by these calls: {changed}");
     println!("the bit flips back");
     store[70] ^= 0x8000_0000;
-    run(&mut store, &EVENING);
+    run(&mut store, REPAIRED);
 
     match mewilovang::format(&mut store, Geometry { p: 39, ..GEOMETRY }) {
         Ok(limit) => println!("format with 39 places: room for {limit} tests"),

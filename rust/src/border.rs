@@ -1,7 +1,8 @@
 //! The functions and structs of `include/mewilovang.h`, member for member, for a caller that wants the numbers as they are.
 //!
 //! A function that takes a store is safe to call if `store` is not null, is aligned to 4 bytes, and `words` words from it
-//! on can be read, and written where it is `*mut`, with no other use of them during the call.
+//! on can be read, and written where it is `*mut`, with no other use of them during the call. The same holds of `keys` with
+//! `key_room` words and of `payloads` with `payload_room` words, which are written; no word may be in two of the three.
 
 #[repr(C)]
 #[derive(Clone, Copy, Debug, Default, PartialEq, Eq)]
@@ -25,6 +26,14 @@ pub struct Nexted {
     pub found: u32,
     pub key: u32,
     pub payload: u32,
+}
+
+#[repr(C)]
+#[derive(Clone, Copy, Debug, Default, PartialEq, Eq)]
+pub struct Stretched {
+    pub reason: u32,
+    pub written: u32,
+    pub more: u32,
 }
 
 #[repr(C)]
@@ -87,6 +96,16 @@ extern "C" {
     pub fn mewilovang_check(store: *const u32, words: usize) -> u32;
     pub fn mewilovang_look_up(store: *const u32, words: usize, key: u32) -> Looked;
     pub fn mewilovang_next(store: *const u32, words: usize, key: u32) -> Nexted;
+    pub fn mewilovang_stretch(
+        store: *const u32,
+        words: usize,
+        first: u32,
+        last: u32,
+        keys: *mut u32,
+        key_room: usize,
+        payloads: *mut u32,
+        payload_room: usize,
+    ) -> Stretched;
     pub fn mewilovang_show(store: *const u32, words: usize, level: u32, key: u32) -> Part;
     pub fn mewilovang_about(store: *const u32, words: usize) -> AboutStore;
     pub fn mewilovang_put(store: *mut u32, words: usize, key: u32, payload: u32) -> Changed;

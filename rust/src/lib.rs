@@ -114,6 +114,15 @@ pub struct Record {
     pub payload: u32,
 }
 
+/// How far [`stretch`] came.
+#[derive(Clone, Copy, Debug, PartialEq, Eq)]
+pub struct Stretched {
+    /// The records written to the two slices.
+    pub written: usize,
+    /// Further records of the stretch follow.
+    pub more: bool,
+}
+
 /// An empty store of this geometry, whatever the words were; the number of keys that it holds at most.
 pub fn format(store: &mut [u32], geometry: Geometry) -> Result<u32, Refusal> {
     let Geometry { b, w, d, g, h, p } = geometry;
@@ -143,6 +152,64 @@ pub fn next(store: &[u32], key: u32) -> Result<Option<Record>, Refusal> {
         key: a.key,
         payload: a.payload,
     }))
+}
+
+/// The records with keys from `first` to `last`, both included, in rising order: their keys to `keys`, their payloads to
+/// `payloads`, as many as the shorter of the two has room for. What lies behind the last one written stays as it was, and
+/// all of it does if the call is turned down.
+///
+/// If something was written and more follow, the last key written is below `last`, and a call from one above it goes on
+/// with the rest. If one of the slices is empty nothing is written, and `more` says if there is such a record at all: a
+/// loop that goes on while `more` is true would not end.
+///
+/// ```
+/// use mewilovang::{Geometry, Refusal, Stretched};
+///
+/// let geometry = Geometry { b: 4, w: 1, d: 2, g: 4, h: 1, p: 40 };
+/// let mut store = vec![0; 438];
+/// mewilovang::format(&mut store, geometry)?;
+/// for key in [10, 20, 30, 40, 50, 60, 70, 80, 90] {
+///     mewilovang::put(&mut store, key, 2400 + key)?;
+/// }
+/// mewilovang::delete(&mut store, 30)?;
+///
+/// let (mut keys, mut payloads) = ([0; 3], [0; 5]);
+/// let piece = mewilovang::stretch(&store, 20, 60, &mut keys, &mut payloads)?;
+/// assert_eq!(piece, Stretched { written: 3, more: true });
+/// assert_eq!((keys, payloads), ([20, 40, 50], [2420, 2440, 2450, 0, 0]));
+/// let piece = mewilovang::stretch(&store, 50 + 1, 60, &mut keys, &mut payloads)?;
+/// assert_eq!(piece, Stretched { written: 1, more: false });
+/// assert_eq!((keys, payloads), ([60, 40, 50], [2460, 2440, 2450, 0, 0]));
+///
+/// let none = mewilovang::stretch(&store, 20, 60, &mut [], &mut payloads)?;
+/// assert_eq!(none, Stretched { written: 0, more: true });
+/// # Ok::<(), Refusal>(())
+/// ```
+pub fn stretch(
+    store: &[u32],
+    first: u32,
+    last: u32,
+    keys: &mut [u32],
+    payloads: &mut [u32],
+) -> Result<Stretched, Refusal> {
+    // Safe besides: what is `&mut` lies in no other slice, and the pointer of an empty one is aligned and not null.
+    let a = unsafe {
+        border::mewilovang_stretch(
+            store.as_ptr(),
+            store.len(),
+            first,
+            last,
+            keys.as_mut_ptr(),
+            keys.len(),
+            payloads.as_mut_ptr(),
+            payloads.len(),
+        )
+    };
+    accepted(a.reason)?;
+    Ok(Stretched {
+        written: a.written as usize,
+        more: a.more == 1,
+    })
 }
 
 /// Of a level, 1 to h, the words of the block whose first to last key encloses `key`: record count, marks, keys, payloads.

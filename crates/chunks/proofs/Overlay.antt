@@ -1,19 +1,17 @@
 -- Lists of records laid over each other, taken apart from the least key on: the least key leaves every list that has it, and the uppermost record stands.
 use Prim.Native.Nat.{ℕ, _+_, _≤_}
 use mathlib.Core.Path.{_≡_, refl, _∙_}
-use mathlib.Core.Bool.{Bool, true, false, not, _&&_}
+use mathlib.Core.Bool.{Bool, true, false}
 use mathlib.Core.List.{List, [], _∷_, _++_}
-use mathlib.Core.Option.{some}
 use native.Mathlib.Omega.{arith}
 use native.Mathlib.Decide.{ℕ-discrete}
-use lib.Dec.{eqb, leb}
+use lib.Dec.{eqb}
 use lib.ListN.{length}
 use borrow.Author.Tests.{eq-eqb, ne-eqb}
 use Rattle.levels.specs.Basics.{if_then_else_}
 use Rattle.levels.specs.Record.{Rec}
-use Rattle.levels.specs.Map.{overlay, into, unmarked, firstFrom}
+use Rattle.levels.specs.Map.{overlay, into, unmarked}
 use Rattle.chunks.specs.Peel.{past, liveBit}
-use Rattle.levels.proofs.Laid.{overlay-length, kept-length}
 use Rattle.levels.proofs.Overlay.Way.{less, same, more}
 use Rattle.levels.proofs.Overlay.{into-below, into-same, into-above, Way, way}
 
@@ -127,32 +125,3 @@ live-cons r rs = go (r .tombstone)
     go : (t : Bool) → length {A = Rec} (elim t [ true ↦ unmarked rs | false ↦ r ∷ unmarked rs ]) ≡ liveBit t + length (unmarked rs)
     go true = omega arith
     go false = omega arith
-
--- a record before a list is the next live one from q on if it is no tombstone and its key is not below q
-module _ (q : ℕ) (r : Rec) (rs : List Rec) where
-  pub next-here : (leb q (r .key) && not (r .tombstone)) ≡ true → firstFrom q (unmarked (r ∷ rs)) ≡ some r
-  unfolding unmarked firstFrom
-  next-here e = go (leb q (r .key)) (r .tombstone) refl e
-    where
-      go : (a t : Bool) → leb q (r .key) ≡ a → (a && not t) ≡ true → firstFrom q (elim t [ true ↦ unmarked rs | false ↦ r ∷ unmarked rs ]) ≡ some r
-      go true true l h = cc
-      go true false l h = rw (l, firstFrom)
-      go false t l h = cc
-
-  pub next-past : (leb q (r .key) && not (r .tombstone)) ≡ false → firstFrom q (unmarked (r ∷ rs)) ≡ firstFrom q (unmarked rs)
-  unfolding unmarked firstFrom
-  next-past e = go (leb q (r .key)) (r .tombstone) refl e
-    where
-      go : (a t : Bool) → leb q (r .key) ≡ a → (a && not t) ≡ false → firstFrom q (elim t [ true ↦ unmarked rs | false ↦ r ∷ unmarked rs ]) ≡ firstFrom q (unmarked rs)
-      go a true l h = refl
-      go true false l h = cc
-      go false false l h = rw (l, firstFrom)
-
--- four lists have no more live keys than records
-pub four-live-high : (a b c d : List Rec) → length (unmarked (overlay a (overlay b (overlay c d)))) ≤ length a + (length b + (length c + length d))
-four-live-high a b c d =
-    let p = kept-length true (overlay a (overlay b (overlay c d))) in
-    let q = overlay-length a (overlay b (overlay c d)) in
-    let r = overlay-length b (overlay c d) in
-    let s = overlay-length c d in
-    omega arith

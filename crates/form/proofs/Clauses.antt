@@ -21,10 +21,10 @@ use Rattle.words.proofs.Form.{clauses-formed, formed-clauses}
 use Rattle.words.specs.Layout.{liveAt, topRecs, recordCount, levelAt, each, storeAt}
 use Rattle.words.specs.Form.{liveExact, blocksFilled, keysRise, bottomUnmarked, blocksUnusedZero, tombstonesClean, pairsKept, levelsKept, formed}
 use Rattle.entry.specs.Entry.{Sized}
-use Rattle.directory.specs.Directory.{Formed, recordsOf, levelFormed}
+use Rattle.directory.specs.Directory.{recordsOf, levelFormed}
 use Rattle.directory.proofs.Laws.{formed-all}
-use Rattle.walk.specs.Walk.{four, layered}
-use Rattle.form.specs.Form.{topOf, levelOf, headerOk, listsOk, spareOk, passed, Headed}
+use Rattle.walk.specs.Walk.{four, layered, AllFormed}
+use Rattle.form.specs.Form.{topOf, levelOf, levelsOf, headerOk, listsOk, spareOk, passed, Headed}
 use Rattle.form.proofs.Tests.{test-same, range, all-and, all-same, all-at, all-true, all-three}
 use Rattle.form.proofs.Parts.{listed-each}
 use Rattle.form.proofs.Sizes.{header-tests, count-none, lists-in, lists-is, within-top, within-level}
@@ -133,7 +133,7 @@ module _ (g : Geometry) (ws : List ℕ) (z : Headed g ws) where
       go (suc (suc (suc (suc h)))) e a b = absurd (omega arith)
 
   -- what the walk goes over is the view of the store
-  pub layered-is : blocksFilled g ws ≡ true → layered ws (topOf g ws) (levelOf g ws 1) (levelOf g ws 2) (levelOf g ws 3) ≡ view (rows (storeAt g ws))
+  pub layered-is : blocksFilled g ws ≡ true → layered ws (levelsOf g ws) ≡ view (rows (storeAt g ws))
   layered-is f = sym (sym (view-empties (rows (storeAt g ws)) (3 - g .h)) ∙ ap view (rows-four f) ∙ view-four (recordsOf ws (topOf g ws)) (recordsOf ws (levelOf g ws 1)) (recordsOf ws (levelOf g ws 2)) (recordsOf ws (levelOf g ws 3)))
 
   -- "the first level from 0 down that has k decides"
@@ -141,7 +141,7 @@ module _ (g : Geometry) (ws : List ℕ) (z : Headed g ws) where
       → decides k (rows (storeAt g ws)) ≡ orElse (find k (recordsOf ws (topOf g ws))) (orElse (find k (recordsOf ws (levelOf g ws 1))) (orElse (find k (recordsOf ws (levelOf g ws 2))) (find k (recordsOf ws (levelOf g ws 3)))))
   decides-is f k = sym (decides-empties k (rows (storeAt g ws)) (3 - g .h)) ∙ ap (decides k) (rows-four f) ∙ decides-four k (recordsOf ws (topOf g ws)) (recordsOf ws (levelOf g ws 1)) (recordsOf ws (levelOf g ws 2)) (recordsOf ws (levelOf g ws 3))
 
-  pub live-is : blocksFilled g ws ≡ true → eqb (liveAt ws) (length (unmarked (layered ws (topOf g ws) (levelOf g ws 1) (levelOf g ws 2) (levelOf g ws 3)))) ≡ liveExact g ws
+  pub live-is : blocksFilled g ws ≡ true → eqb (liveAt ws) (length (unmarked (layered ws (levelsOf g ws)))) ≡ liveExact g ws
   unfolding liveExact liveCount mapOf
   live-is f = ap (λ (rs : List Rec). eqb (liveAt ws) (length (unmarked rs))) (layered-is f)
 
@@ -227,15 +227,14 @@ passed-filled g ws s e =
     (f .headed, k .0)
 
 -- a store that passes has four levels that the walk and the search can read
-pub passed-formed : (g : Geometry) (ws : List ℕ) → Sized g ws → passed g ws ≡ true
-    → Formed (topOf g ws) ws × (Formed (levelOf g ws 1) ws × (Formed (levelOf g ws 2) ws × Formed (levelOf g ws 3) ws))
+pub passed-formed : (g : Geometry) (ws : List ℕ) → Sized g ws → passed g ws ≡ true → AllFormed ws (levelsOf g ws)
 passed-formed g ws s e =
     let f = passed-found g ws s e in
     let z = f .headed in
-    let l = simp and-eq-true-iff at (levels-is g ws z ∙ f .levels) in (
-      formed-all ws (topOf g ws) (within-top g ws z) (f .top),
-      (
-        formed-all ws (levelOf g ws 1) (within-level g ws z (f .lists) 1 (omega arith) (omega arith)) (l .0),
-        (formed-all ws (levelOf g ws 2) (within-level g ws z (f .lists) 2 (omega arith) (omega arith)) (l .1 .0), formed-all ws (levelOf g ws 3) (within-level g ws z (f .lists) 3 (omega arith) (omega arith)) (l .1 .1)),
-      ),
-    )
+    let l = simp and-eq-true-iff at (levels-is g ws z ∙ f .levels) in
+    record {
+      formed0 = formed-all ws (topOf g ws) (within-top g ws z) (f .top);
+      formed1 = formed-all ws (levelOf g ws 1) (within-level g ws z (f .lists) 1 (omega arith) (omega arith)) (l .0);
+      formed2 = formed-all ws (levelOf g ws 2) (within-level g ws z (f .lists) 2 (omega arith) (omega arith)) (l .1 .0);
+      formed3 = formed-all ws (levelOf g ws 3) (within-level g ws z (f .lists) 3 (omega arith) (omega arith)) (l .1 .1);
+    }

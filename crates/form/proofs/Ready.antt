@@ -15,10 +15,10 @@ use Rattle.entry.specs.declared.Opened.{Opened}
 use Rattle.entry.specs.declared.Opened.the-variants.{Ready, Refused}
 use Rattle.entry.specs.Entry.{Sized, pickOpened, openedOf}
 use Rattle.entry.proofs.Laws.{pick-ready, pick-refused, opened-ready, opened-refused, ready-reason, refused-reason}
-use Rattle.directory.specs.Directory.{Formed, recordsOf}
-use Rattle.walk.specs.Walk.{layered}
+use Rattle.directory.specs.Directory.{recordsOf}
+use Rattle.walk.specs.Walk.{layered, AllFormed}
 use Rattle.form.specs.Checked.{checkedOf}
-use Rattle.form.specs.Form.{Headed, listsOk, topOf, levelOf, passed}
+use Rattle.form.specs.Form.{Headed, listsOk, topOf, levelOf, levelsOf, passed}
 use Rattle.form.proofs.Clauses.{formed-is, passed-filled, passed-formed, layered-is, decides-is}
 
 -- The answers of `check`, by what the code has found out.
@@ -86,11 +86,11 @@ module _ (ws : List ℕ) (g : Geometry) (e : checkedOf ws ≡ Ready g) where
   ready-lists = let k = simp and-eq-true-iff at ready-passed in k .1 .0
 
   -- the searches and the walk can read its four levels
-  pub ready-levels : Formed (topOf g ws) ws × (Formed (levelOf g ws 1) ws × (Formed (levelOf g ws 2) ws × Formed (levelOf g ws 3) ws))
+  pub ready-levels : AllFormed ws (levelsOf g ws)
   ready-levels = passed-formed g ws ready-sized ready-passed
 
   -- what the four levels show together is what the rows of the store show
-  pub ready-view : layered ws (topOf g ws) (levelOf g ws 1) (levelOf g ws 2) (levelOf g ws 3) ≡ view (rows (storeAt g ws))
+  pub ready-view : layered ws (levelsOf g ws) ≡ view (rows (storeAt g ws))
   ready-view = layered-is g ws ready-headed ready-filled
 
   -- "the first level from 0 down that has k decides"

@@ -16,6 +16,7 @@ use Rattle.entry.specs.Entry.{Sized}
 use Rattle.chunks.specs.Chunks.{zerosAt}
 use Rattle.directory.specs.declared.Directory.{Directory}
 use Rattle.directory.specs.Directory.{levelFormed}
+use Rattle.walk.specs.declared.Levels.{Levels}
 use Rattle.walk.specs.Walk.{layered}
 
 -- level 0: pages of B records
@@ -43,6 +44,10 @@ levelOf g ws i = record {
   pays = 0;
   records = 0;
 }
+
+-- the four levels
+abbrev pub levelsOf : Geometry → List ℕ → Levels
+levelsOf g ws = record { d0 = topOf g ws; d1 = levelOf g ws 1; d2 = levelOf g ws 2; d3 = levelOf g ws 3 }
 
 -- the size words are within their limits
 unfoldable pub headerOk : Geometry → List ℕ → Bool
@@ -89,7 +94,7 @@ passed g ws =
     && (levelFormed ws (levelOf g ws 1)
     && (levelFormed ws (levelOf g ws 2)
     && (levelFormed ws (levelOf g ws 3)
-    && eqb (liveAt ws) (length (unmarked (layered ws (topOf g ws) (levelOf g ws 1) (levelOf g ws 2) (levelOf g ws 3))))))))))
+    && eqb (liveAt ws) (length (unmarked (layered ws (levelsOf g ws))))))))))
 
 -- a store whose size words are within their limits
 pub record Headed (g : Geometry) (ws : List ℕ) : Type 0 where

@@ -9,11 +9,12 @@ ghost use Rattle.geometry.specs.Geometry.{Ranged};
 ghost use Rattle.geometry.specs.Room.{placesMost};
 ghost use Rattle.words.specs.Form.{roomOf};
 ghost use Rattle.entry.specs.Entry.{Sized};
-ghost use Rattle.form.specs.Form.{Headed, topOf, levelOf, headerOk, freshOf, markOf, listsOk, spareOk, passed};
+ghost use Rattle.form.specs.Form.{Headed, topOf, levelOf, levelsOf, headerOk, freshOf, markOf, listsOk, spareOk, passed};
 ghost use Rattle.form.specs.Checked.{checkedOf};
 use directory::Directory;
 use entry::Opened;
 use geometry::Geometry;
+use walk::Levels;
 
 // What every call begins with: the geometry of a store that passes, or the reason that it is turned down for.
 pub fn check(s: &[u32]) -> Opened
@@ -72,6 +73,23 @@ pub fn level_of(s: &[u32], g: Geometry, i: usize) -> Directory
         base: base,
         pays: 0,
         records: 0,
+    }
+}
+
+// The four levels of a store.
+pub fn levels_of(s: &[u32], g: Geometry) -> Levels
+    requires { ⌜ Sized g (now s) ⌝ }
+    ensures { λ r. ⌜ r ≡ levelsOf g (now (s .entry)) ⌝ }
+{
+    let d0 = top_of(s, g);
+    let d1 = level_of(s, g, 1);
+    let d2 = level_of(s, g, 2);
+    let d3 = level_of(s, g, 3);
+    Levels {
+        d0: d0,
+        d1: d1,
+        d2: d2,
+        d3: d3,
     }
 }
 
@@ -211,5 +229,11 @@ pub fn passes(s: &[u32], g: Geometry) -> bool
         return false;
     }
     let live = slices::word(s, 6);
-    live == walk::live(s, d0, d1, d2, d3)
+    let levels = Levels {
+        d0: d0,
+        d1: d1,
+        d2: d2,
+        d3: d3,
+    };
+    live == walk::live(s, levels)
 }

@@ -3,6 +3,7 @@ pub mod Lists
 pub mod Rising
 pub mod Overlay
 pub mod View
+pub mod Stretch
 pub mod Levels
 pub mod Capacity
 pub mod Choice

@@ -8,18 +8,21 @@ use Rattle.geometry.specs.declared.Geometry.{Geometry}
 use Rattle.geometry.specs.declared.Built.the-variants.{Legal, Broken}
 use Rattle.geometry.specs.Geometry.{isLegal, builtOf, storeLength}
 use Rattle.geometry.proofs.Laws.{built-valid, built-broken, valid-legal}
-use Rattle.words.specs.Calls.{Outcome, FormatAnswer, ChangeAnswer}
+use Rattle.words.specs.Calls.{Outcome, FormatAnswer, StretchAnswer, StretchOutcome, ChangeAnswer}
 use Rattle.steps.specs.Running.{numbersOf}
 use Rattle.writer.specs.declared.Change.{Change}
 use Rattle.writer.specs.declared.Changed as changed
 use Rattle.writer.specs.declared.Changed.the-variants.{Done}
+use Rattle.reader.specs.declared.Stretched as stretched
+use Rattle.reader.specs.Answers.{stretchAnswer}
 use Rattle.store.specs.declared.Formatted as formatted
 use Rattle.writer.specs.Answers.{changedAnswer}
 use Rattle.store.specs.Answers.{formatAnswer}
 use Rattle.store.specs.Change.{SumsFit, PutDone, DeleteDone}
 use Rattle.mewilovang.specs.declared.Formatted.{Formatted}
+use Rattle.mewilovang.specs.declared.Stretched.{Stretched}
 use Rattle.mewilovang.specs.declared.Changed.{Changed}
-use Rattle.mewilovang.specs.Answers.{wordsOf, formattedReply, formattedOutcome, CountsFit, changedReply, PutReplied, DeleteReplied}
+use Rattle.mewilovang.specs.Answers.{wordsOf, formattedReply, formattedOutcome, stretchedReply, stretchedOutcome, CountsFit, changedReply, PutReplied, DeleteReplied}
 
 -- the words of a layout
 pub words-broken : (g : Geometry) → builtOf g ≡ Broken → 0 ≡ wordsOf g
@@ -50,6 +53,11 @@ module _ (c : changed.Changed) (d : Change) (e : c ≡ Done d) (h : SumsFit (cha
 pub format-replied : (f : formatted.Formatted) (r : Formatted) (out : List ℕ) (o : Outcome FormatAnswer) → _≡_ {A = Outcome FormatAnswer} (record { answer = formatAnswer f; words = out }) o → r ≡ formattedReply (formatAnswer f)
     → _≡_ {A = Outcome Formatted} (record { answer = r; words = out }) (formattedOutcome o)
 format-replied f r out o e q = ap (λ (x : Formatted). record { answer = x; words = out }) q ∙ ap formattedOutcome e
+
+-- stretch's answer and arrays
+pub stretch-replied : (s : stretched.Stretched) (r : Stretched) (keys pays : List ℕ) (o : StretchOutcome StretchAnswer) → _≡_ {A = StretchOutcome StretchAnswer} (record { answer = stretchAnswer s; keys = keys; pays = pays }) o → r ≡ stretchedReply (stretchAnswer s)
+    → _≡_ {A = StretchOutcome Stretched} (record { answer = r; keys = keys; pays = pays }) (stretchedOutcome o)
+stretch-replied s r keys pays o e q = ap (λ (x : Stretched). record { answer = x; keys = keys; pays = pays }) q ∙ ap stretchedOutcome e
 
 module _ (ws : List ℕ) (k : ℕ) (c : changed.Changed) (r : Changed) (out : List ℕ) (q : r ≡ changedReply (changedAnswer c)) where
   pub put-replied : (v : ℕ) → PutDone ws k v c out → PutReplied ws k v r out

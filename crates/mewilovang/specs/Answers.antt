@@ -7,7 +7,7 @@ use Rattle.geometry.specs.declared.Geometry.{Geometry}
 use Rattle.geometry.specs.Geometry.{isLegal, storeLength}
 use Rattle.levels.specs.Count as levels
 use Rattle.words.specs.Layout.{bit}
-use Rattle.words.specs.Calls.{Outcome, FormatAnswer, LookAnswer, NextAnswer, AboutAnswer, ChangeAnswer, putOf, deleteOf}
+use Rattle.words.specs.Calls.{Outcome, FormatAnswer, LookAnswer, NextAnswer, StretchAnswer, StretchOutcome, AboutAnswer, ChangeAnswer, putOf, deleteOf}
 use Rattle.writer.specs.declared.Changed as changed
 use Rattle.writer.specs.Answers.{changedAnswer}
 use Rattle.reader.specs.declared.Part as part
@@ -15,6 +15,7 @@ use Rattle.store.specs.Change.{PutDone, DeleteDone}
 use Rattle.mewilovang.specs.declared.Formatted.{Formatted}
 use Rattle.mewilovang.specs.declared.Looked.{Looked}
 use Rattle.mewilovang.specs.declared.Nexted.{Nexted}
+use Rattle.mewilovang.specs.declared.Stretched.{Stretched}
 use Rattle.mewilovang.specs.declared.Part.{Part}
 use Rattle.mewilovang.specs.declared.AboutStore.{AboutStore}
 use Rattle.mewilovang.specs.declared.Counts.{Counts}
@@ -38,6 +39,13 @@ lookedReply a = record { reason = a .reason; found = bit (a .found); payload = a
 -- "Next k"
 abbrev pub nextedReply : NextAnswer → Nexted
 nextedReply a = record { reason = a .reason; found = bit (a .found); key = a .key; payload = a .pay }
+
+-- Document 02, card 1: the answer, and every entry of both arrays
+abbrev pub stretchedReply : StretchAnswer → Stretched
+stretchedReply a = record { reason = a .reason; written = a .written; more = bit (a .more) }
+
+abbrev pub stretchedOutcome : StretchOutcome StretchAnswer → StretchOutcome Stretched
+stretchedOutcome o = record { answer = stretchedReply (o .answer); keys = o .keys; pays = o .pays }
 
 -- "Show i, k"
 abbrev pub partReply : part.Part → Part

@@ -1,15 +1,16 @@
 // The calls of the store for C and Rust (include/mewilovang.h): plain numbers in and out, no `requires` on any of them.
 
 ghost use mathlib.Core.Path.{_≡_};
-ghost use Rattle.words.specs.Calls.{Outcome, formatOf, checkOf, lookUpOf, nextOf, aboutOf};
-ghost use Rattle.reader.specs.Answers.{lookedAnswer, nextedAnswer, toldAnswer};
+ghost use Rattle.words.specs.Calls.{Outcome, StretchOutcome, formatOf, checkOf, lookUpOf, nextOf, stretchOf, aboutOf};
+ghost use Rattle.reader.specs.Answers.{lookedAnswer, nextedAnswer, stretchAnswer, toldAnswer};
 ghost use Rattle.writer.specs.Answers.{changedAnswer};
 ghost use Rattle.store.specs.Answers.{formatAnswer};
 ghost use Rattle.store.specs.Change.{SumsFit};
 ghost use Rattle.store.specs.Show.{showPart};
 ghost use Rattle.steps.specs.Running.{numbersOf};
 ghost use Rattle.mewilovang.specs.declared.Formatted.{Formatted};
-ghost use Rattle.mewilovang.specs.Answers.{wordsOf, formattedReply, formattedOutcome, lookedReply, nextedReply, partReply, toldReply, CountsFit, countsReply, changedReply, PutReplied, DeleteReplied};
+ghost use Rattle.mewilovang.specs.declared.Stretched.{Stretched};
+ghost use Rattle.mewilovang.specs.Answers.{wordsOf, formattedReply, formattedOutcome, lookedReply, nextedReply, stretchedReply, stretchedOutcome, partReply, toldReply, CountsFit, countsReply, changedReply, PutReplied, DeleteReplied};
 use geometry::Built;
 use geometry::Geometry;
 
@@ -35,6 +36,14 @@ pub struct Nexted {
     pub found: u32,
     pub key: u32,
     pub payload: u32,
+}
+
+// The reason or 0, how many records were written, and 1 or 0 if more follow or not.
+#[repr(C)]
+pub struct Stretched {
+    pub reason: u32,
+    pub written: u32,
+    pub more: u32,
 }
 
 // A part of the lent store, in words; both 0 for an empty part.
@@ -139,6 +148,23 @@ fn next_reply(n: reader::Nexted) -> Nexted
             found: 0,
             key: 0,
             payload: 0,
+        },
+    }
+}
+
+fn stretch_reply(t: reader::Stretched) -> Stretched
+    ensures { λ r. ⌜ r ≡ stretchedReply (stretchAnswer t) ⌝ }
+{
+    match t {
+        reader::Stretched::Written(n, more) => Stretched {
+            reason: 0,
+            written: n,
+            more: more as u32,
+        },
+        reader::Stretched::Refused(n) => Stretched {
+            reason: n,
+            written: 0,
+            more: 0,
         },
     }
 }
@@ -272,6 +298,20 @@ pub extern "C" fn mewilovang_next(store: &[u32], key: u32) -> Nexted
     ensures { λ r. ⌜ r ≡ nextedReply (nextOf (now (store .entry)) key) ⌝ }
 {
     next_reply(store::next(store, key))
+}
+
+#[no_mangle]
+pub extern "C" fn mewilovang_stretch(
+    store: &[u32],
+    first: u32,
+    last: u32,
+    keys: &mut [u32],
+    payloads: &mut [u32],
+) -> Stretched
+    ensures { λ r. ⌜ _≡_ {A = StretchOutcome Stretched} (record { answer = r; keys = now (keys .exit); pays = now (payloads .exit) })
+        (stretchedOutcome (stretchOf (now (store .entry)) first last (now (keys .entry)) (now (payloads .entry)))) ⌝ }
+{
+    stretch_reply(store::stretch(store, first, last, keys, payloads))
 }
 
 #[no_mangle]

@@ -14,7 +14,7 @@ use Rattle.geometry.specs.Geometry.{keyLimitOf, listStart, placeStart, blockWid
 use Rattle.geometry.proofs.Laws.{place-inside}
 use Rattle.levels.specs.Basics.{if_then_else_, orElse}
 use Rattle.levels.specs.Record.{Rec, Block}
-use Rattle.levels.specs.Map.{find, unmarked, mapOf, decides, present, firstFrom, next}
+use Rattle.levels.specs.Map.{find, unmarked, mapOf, decides, present, firstFrom, next, stretch}
 use Rattle.levels.specs.Store.{rows}
 use Rattle.words.specs.Layout.{word, geometryAt, storeAt, liveAt, topCountAt, countAt, levelAt, blockAt}
 use Rattle.words.specs.Calls.{lookAnswer, nextAnswer, enclosing, partOf, showIn, aboutIn}
@@ -30,7 +30,7 @@ use Rattle.search.specs.declared.Found.the-variants as found
 use Rattle.search.specs.declared.Enclosed.{Enclosed}
 use Rattle.search.specs.declared.Enclosed.the-variants as enclosed
 use Rattle.search.specs.Search.{foundOf, encloses, enclosedFrom, enclosedOf}
-use Rattle.form.specs.Form.{topOf, levelOf}
+use Rattle.form.specs.Form.{topOf, levelOf, levelsOf}
 use Rattle.form.specs.Checked.{checkedOf}
 use Rattle.form.proofs.Parts.{wordsFrom, Listed}
 use Rattle.form.proofs.Sizes.{lists-in, place-below}
@@ -80,9 +80,13 @@ module _ (ws : List ℕ) (g : Geometry) (e : checkedOf ws ≡ Ready g) where
       ∙ found-or (find k (recordsOf ws (topOf g ws))) (find k (recordsOf ws (levelOf g ws 1))) (find k (recordsOf ws (levelOf g ws 2))) (find k (recordsOf ws (levelOf g ws 3)))
 
   -- the walk goes over the map
-  pub next-levels : (k : ℕ) → firstFrom k (unmarked (layered ws (topOf g ws) (levelOf g ws 1) (levelOf g ws 2) (levelOf g ws 3))) ≡ next k (rows (storeAt g ws))
+  pub next-levels : (k : ℕ) → firstFrom k (unmarked (layered ws (levelsOf g ws))) ≡ next k (rows (storeAt g ws))
   unfolding next mapOf
   next-levels k = rw (ready-view ws g e)
+
+  pub stretch-levels : (first last : ℕ) → stretch first last (unmarked (layered ws (levelsOf g ws))) ≡ stretch first last (mapOf (rows (storeAt g ws)))
+  unfolding mapOf
+  stretch-levels first last = rw (ready-view ws g e)
 
 -- Show: levels that there are not, and those that there are.
 pub part-low : (g : Geometry) (ws : List ℕ) (i k : ℕ) → i < 1 → emptyPart ≡ showPartIn g ws i k
@@ -137,9 +141,9 @@ module _ (ws : List ℕ) (g : Geometry) (e : checkedOf ws ≡ Ready g) where
   -- every level from 1 on can be searched
   pub ready-level : (i : ℕ) → 1 ≤ i → i ≤ 3 → Formed (levelOf g ws i) ws
   ready-level ℕ.zero a b = absurd (omega arith)
-  ready-level (suc ℕ.zero) a b = ready-levels ws g e .1 .0
-  ready-level (suc (suc ℕ.zero)) a b = ready-levels ws g e .1 .1 .0
-  ready-level (suc (suc (suc ℕ.zero))) a b = ready-levels ws g e .1 .1 .1
+  ready-level (suc ℕ.zero) a b = ready-levels ws g e .formed1
+  ready-level (suc (suc ℕ.zero)) a b = ready-levels ws g e .formed2
+  ready-level (suc (suc (suc ℕ.zero))) a b = ready-levels ws g e .formed3
   ready-level (suc (suc (suc (suc i)))) a b = absurd (omega arith)
 
   module _ (i : ℕ) (a : 1 ≤ i) (b : i ≤ g .h) where

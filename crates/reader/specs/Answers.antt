@@ -1,12 +1,14 @@
 -- Document 01's number and values for each case of an answer: "the answer has only the number and zeros" where a call is turned down.
 use mathlib.Core.Bool.{true, false}
-use Rattle.words.specs.Calls.{LookAnswer, NextAnswer, AboutAnswer, aboutRefused}
+use Rattle.words.specs.Calls.{LookAnswer, NextAnswer, StretchAnswer, AboutAnswer, aboutRefused}
 use Rattle.search.specs.declared.Found.{Found}
 use Rattle.search.specs.declared.Found.the-variants as found
 use Rattle.reader.specs.declared.Looked.{Looked}
 use Rattle.reader.specs.declared.Looked.the-variants as looked
 use Rattle.reader.specs.declared.Nexted.{Nexted}
 use Rattle.reader.specs.declared.Nexted.the-variants as nexted
+use Rattle.reader.specs.declared.Stretched.{Stretched}
+use Rattle.reader.specs.declared.Stretched.the-variants as stretched
 use Rattle.reader.specs.declared.Facts.{Facts}
 use Rattle.reader.specs.declared.Told.{Told}
 use Rattle.reader.specs.declared.Told.the-variants as told
@@ -20,6 +22,10 @@ abbrev pub nextedAnswer : Nexted → NextAnswer
 nextedAnswer (nexted.At k v) = record { reason = 0; found = true; key = k; pay = v }
 nextedAnswer nexted.Nothing = record { reason = 0; found = false; key = 0; pay = 0 }
 nextedAnswer (nexted.Refused n) = record { reason = n; found = false; key = 0; pay = 0 }
+
+abbrev pub stretchAnswer : Stretched → StretchAnswer
+stretchAnswer (stretched.Written n more) = record { reason = 0; written = n; more = more }
+stretchAnswer (stretched.Refused n) = record { reason = n; written = 0; more = false }
 
 -- "a mark or no record is absent"
 abbrev pub lookedOf : Found → Looked

@@ -1,14 +1,15 @@
 // What the reading calls answer of a store that passes (document 01, "Calls").
 
 ghost use mathlib.Core.Path.{_≡_};
-ghost use Rattle.levels.specs.Map.{decides, next};
+ghost use Prim.Native.Nat.{_<_};
+ghost use Rattle.levels.specs.Map.{mapOf, decides, next, stretch};
 ghost use Rattle.levels.specs.Store.{rows};
 ghost use Rattle.words.specs.Layout.{storeAt};
-ghost use Rattle.words.specs.Calls.{nextAnswer, aboutIn};
+ghost use Rattle.words.specs.Calls.{StretchAnswer, StretchOutcome, nextAnswer, filled, aboutIn};
 ghost use Rattle.entry.specs.declared.Opened.the-variants.{Ready};
 ghost use Rattle.search.specs.Search.{foundOf};
 ghost use Rattle.form.specs.Checked.{checkedOf};
-ghost use Rattle.reader.specs.Answers.{lookedOf, nextedAnswer, factsAnswer};
+ghost use Rattle.reader.specs.Answers.{lookedOf, nextedAnswer, stretchAnswer, factsAnswer};
 ghost use Rattle.reader.specs.Show.{showPartIn};
 use geometry::Geometry;
 use search::Enclosed;
@@ -26,6 +27,12 @@ pub enum Looked {
 pub enum Nexted {
     At(u32, u32),
     Nothing,
+    Refused(u32),
+}
+
+// How many records of a stretch were written and whether more of it follow, or the reason that the store is turned down for.
+pub enum Stretched {
+    Written(u32, bool),
     Refused(u32),
 }
 
@@ -93,17 +100,32 @@ pub fn look_answer(f: Found) -> Looked
 
 // The smallest live key at or above k, of a store that passes.
 pub fn next_key(s: &[u32], g: Geometry, k: usize) -> Nexted
-    requires { ⌜ checkedOf (now s) ≡ Ready g ⌝ }
+    requires { ⌜ (checkedOf (now s) ≡ Ready g) × (k < 4294967296) ⌝ }
     ensures { λ r. ⌜ nextedAnswer r ≡ nextAnswer (next k (rows (storeAt g (now (s .entry))))) ⌝ }
 {
-    let d0 = form::top_of(s, g);
-    let d1 = form::level_of(s, g, 1);
-    let d2 = form::level_of(s, g, 2);
-    let d3 = form::level_of(s, g, 3);
-    let Following::At(key, pay) = walk::next_from(s, d0, d1, d2, d3, k) else {
+    let levels = form::levels_of(s, g);
+    let Following::At(key, pay) = walk::next_from(s, levels, k) else {
         return Nexted::Nothing;
     };
     Nexted::At(key as u32, pay)
+}
+
+// The live records of a store that passes with keys from `first` to `last`, as many as both arrays have room for.
+pub fn list_stretch(
+    s: &[u32],
+    g: Geometry,
+    first: usize,
+    last: usize,
+    keys: &mut [u32],
+    pays: &mut [u32],
+) -> Stretched
+    requires { ⌜ (checkedOf (now s) ≡ Ready g) × ((first < 4294967296) × (last < 4294967296)) ⌝ }
+    ensures { λ r. ⌜ _≡_ {A = StretchOutcome StretchAnswer} (record { answer = stretchAnswer r; keys = now (keys .exit); pays = now (pays .exit) })
+        (filled (stretch first last (mapOf (rows (storeAt g (now (s .entry)))))) (now (keys .entry)) (now (pays .entry))) ⌝ }
+{
+    let levels = form::levels_of(s, g);
+    let listed = walk::list_stretch(s, levels, first, last, keys, pays);
+    Stretched::Written(listed.written as u32, listed.more)
 }
 
 // The words of the block of a level whose first to last key encloses k, of a store that passes: where they lie in it.

@@ -8,23 +8,24 @@ use lib.Dec.{eqb}
 use lib.ListN.{take, drop}
 use borrow.Author.Tests.{eq-eqb, ne-eqb}
 use Rattle.geometry.specs.declared.Geometry.{Geometry}
-use Rattle.levels.specs.Map.{decides, present, lookUp, next}
+use Rattle.levels.specs.Map.{mapOf, decides, present, lookUp, next, stretch}
 use Rattle.levels.specs.Store.{rows}
 use Rattle.words.specs.Layout.{geometryAt, storeAt}
 use Rattle.words.specs.Form.{reasonOf}
-use Rattle.words.specs.Calls.{lookAnswer, lookUpOf, nextAnswer, nextOf, showIn, showOf, aboutIn, aboutOf, checkOf}
+use Rattle.words.specs.Calls.{StretchAnswer, StretchOutcome, lookAnswer, lookUpOf, nextAnswer, nextOf, filled, stretchOf, showIn, showOf, aboutIn, aboutOf, checkOf}
 use Rattle.entry.specs.declared.Opened.{Opened}
 use Rattle.entry.specs.declared.Opened.the-variants.{Ready, Refused}
 use Rattle.search.specs.declared.Found.{Found}
 use Rattle.search.specs.Search.{foundOf}
 use Rattle.form.specs.Checked.{checkedOf}
 use Rattle.form.proofs.Ready.{checked-ready, checked-refused}
-use Rattle.reader.specs.Answers.{lookedAnswer, lookedOf, nextedAnswer, factsAnswer, toldAnswer}
+use Rattle.reader.specs.Answers.{lookedAnswer, lookedOf, nextedAnswer, stretchAnswer, factsAnswer, toldAnswer}
 use Rattle.reader.specs.Show.{emptyPart, showPartIn}
 use Rattle.store.specs.Show.{showPart}
 use Rattle.reader.specs.declared.Part.{Part}
 use Rattle.reader.specs.declared.Looked.the-variants as looked
 use Rattle.reader.specs.declared.Nexted.the-variants as nexted
+use Rattle.reader.specs.declared.Stretched.the-variants as stretched
 use Rattle.reader.specs.declared.Facts.{Facts}
 use Rattle.reader.specs.declared.Told.the-variants as told
 use Rattle.reader.proofs.Answering.{look-present, part-words-in, Inside, empty-inside, part-inside-in}
@@ -45,6 +46,10 @@ module _ (ws : List ℕ) (n : ℕ) (e : checkedOf ws ≡ Refused n) where
   pub next-refused : (k : ℕ) → nextedAnswer (nexted.Refused n) ≡ nextOf ws k
   unfolding nextOf
   next-refused k = rw (refused-test, nextOf, checked-refused ws n e .0)
+
+  pub stretch-refused : (first last : ℕ) (keys pays : List ℕ) → _≡_ {A = StretchOutcome StretchAnswer} (record { answer = stretchAnswer (stretched.Refused n); keys = keys; pays = pays }) (stretchOf ws first last keys pays)
+  unfolding stretchOf
+  stretch-refused first last keys pays = rw (refused-test, stretchOf, checked-refused ws n e .0)
 
   pub show-refused : (i k : ℕ) → emptyPart ≡ showPart ws i k
   unfolding showPart
@@ -72,6 +77,11 @@ module _ (ws : List ℕ) (g : Geometry) (e : checkedOf ws ≡ Ready g) where
   unfolding nextOf
   next-ready k =
       rw (ready-test, nextOf) (ap (λ (t : Geometry). nextAnswer (next k (rows (storeAt t ws)))) (checked-ready ws g e .0))
+
+  pub stretch-ready : (first last : ℕ) (keys pays : List ℕ) → filled (stretch first last (mapOf (rows (storeAt g ws)))) keys pays ≡ stretchOf ws first last keys pays
+  unfolding stretchOf
+  stretch-ready first last keys pays =
+      rw (ready-test, stretchOf) (ap (λ (t : Geometry). filled (stretch first last (mapOf (rows (storeAt t ws)))) keys pays) (checked-ready ws g e .0))
 
   pub show-ready : (i k : ℕ) → showPartIn g ws i k ≡ showPart ws i k
   unfolding showPart

@@ -21,6 +21,11 @@ use Rattle.entry.proofs.Laws.{size-short, size-broken, size-other, sized-opened
 -- that of next, `next-map` is the map's first record at or above the key, which is the smallest there is (`next-smallest-map`).
 -- The map's keys rise (`map-rises`), none of its records is a mark (`map-unmarked`), their number is live (`live-map`) and at most N (`map-within`).
 pub use Rattle.words.proofs.MapAfter.{look-up-map, next-map, next-smallest-map, map-rises, map-unmarked, live-map, map-within}
+-- Card 1: with the contract of stretch, `stretch-map` is the map's stretch cut at the shorter array. Its records are those of the map within its keys
+-- (`find-stretch`), and rise (`stretch-first`); none if the first key is above the last (`stretch-none`). Arrays: `filled-keys` to `filled-full`. Resumed: `stretch-below-last`, `stretch-goes-on`; walked to its end:
+-- `walk-keys`, `walk-pays`. A store that is turned down: `stretch-turned-down`.
+pub use Rattle.levels.proofs.Stretch.{stretch-first, stretch-none, find-stretch}
+pub use Rattle.words.proofs.Stretch.{stretch-map, stretch-turned-down, filled-keys, filled-pays, filled-keys-behind, filled-pays-behind, filled-lengths, filled-ends, filled-full, stretch-below-last, stretch-goes-on, walk-keys, walk-pays}
 
 -- Show: levels that there are not, and those that there are.
 show-low : (g : Geometry) (ws : List ℕ) (i k : ℕ) → i < 1 → [] ≡ showIn g ws i k

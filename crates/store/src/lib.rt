@@ -4,8 +4,8 @@ ghost use mathlib.Core.Path.{_≡_};
 ghost use Prim.Native.Nat.{_≤_};
 ghost use lib.ListN.{length};
 ghost use Rattle.geometry.specs.Geometry.{Valid, keyLimitOf};
-ghost use Rattle.words.specs.Calls.{Outcome, FormatAnswer, formatOf, checkOf, lookUpOf, nextOf, showOf, aboutOf};
-ghost use Rattle.reader.specs.Answers.{lookedAnswer, nextedAnswer, toldAnswer};
+ghost use Rattle.words.specs.Calls.{Outcome, FormatAnswer, StretchAnswer, StretchOutcome, formatOf, checkOf, lookUpOf, nextOf, stretchOf, showOf, aboutOf};
+ghost use Rattle.reader.specs.Answers.{lookedAnswer, nextedAnswer, stretchAnswer, toldAnswer};
 ghost use Rattle.store.specs.Answers.{formatAnswer};
 ghost use Rattle.store.specs.Change.{PutDone, DeleteDone};
 ghost use Rattle.store.specs.Format.{headed};
@@ -15,6 +15,7 @@ use geometry::Geometry;
 use reader::Looked;
 use reader::Nexted;
 use reader::Part;
+use reader::Stretched;
 use reader::Told;
 use writer::Changed;
 
@@ -89,6 +90,20 @@ pub fn next(s: &[u32], k: u32) -> Nexted
     match form::check(s) {
         Opened::Refused(n) => Nexted::Refused(n),
         Opened::Ready(g) => reader::next_key(s, g, k as usize),
+    }
+}
+
+// The live records with keys from `first` to `last`, in key order, into two arrays, as many as both have room for
+// (document 02, card 1).
+pub fn stretch(s: &[u32], first: u32, last: u32, keys: &mut [u32], pays: &mut [u32]) -> Stretched
+    ensures { λ r. ⌜ _≡_ {A = StretchOutcome StretchAnswer} (record { answer = stretchAnswer r; keys = now (keys .exit); pays = now (pays .exit) })
+        (stretchOf (now (s .entry)) first last (now (keys .entry)) (now (pays .entry))) ⌝ }
+{
+    match form::check(s) {
+        Opened::Refused(n) => Stretched::Refused(n),
+        Opened::Ready(g) => {
+            reader::list_stretch(s, g, first as usize, last as usize, keys, pays)
+        }
     }
 }
 

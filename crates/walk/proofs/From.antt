@@ -1,81 +1,151 @@
 -- The walk from a key on: of each level, what stands before the key may be passed over.
-use Prim.Native.Nat.{ℕ, _-_, _≤_, _<_}
+use Prim.Native.Nat.{ℕ, suc, _-_, _+_, _≤_, _<_}
 use mathlib.Core.Path.{_≡_, refl, sym, _∙_, ap}
-use mathlib.Core.List.{List, [], _++_}
-use mathlib.Core.Option.{Option, none, some, Option·none-ne-some}
+use mathlib.Core.Logic.{dite, inl, inr}
+use mathlib.Core.List.{List, [], _∷_, _++_, append-assoc}
+use native.Mathlib.Decide.{decLt}
 use native.Mathlib.Omega.{arith}
+use lib.ListN.{length, length-append}
 use Rattle.levels.specs.Record.{Rec}
-use Rattle.levels.specs.Map.{find, overlay, unmarked, present, firstFrom}
-use Rattle.levels.proofs.Rising.{rising-right}
-use Rattle.levels.proofs.Overlay.{find-append, find-above, find-overlay, overlay-rising, Way, way}
+use Rattle.levels.specs.Map.{into, overlay}
+use Rattle.levels.proofs.Rising.{rising-from, rising-right, below-append}
+use Rattle.levels.proofs.Overlay.{into-below, into-same, into-above, overlay-rising, Way, way}
 use Rattle.levels.proofs.Overlay.Way.{less, same, more}
-use Rattle.levels.proofs.View.{unmarked-rising, find-unmarked, Smallest, first-from-smallest}
 use Rattle.levels.specs.Rising.{Rising, Below}
+use Rattle.chunks.proofs.Overlay.{Least}
 use Rattle.directory.specs.declared.Directory.{Directory}
 use Rattle.directory.specs.Directory.{Formed, recordsFrom, recordsOf}
 use Rattle.search.specs.Search.{Sought}
-use Rattle.search.proofs.Laws.{span, span-split, span-before}
+use Rattle.search.proofs.Laws.{span, span-split, span-before, span-after}
 use Rattle.walk.specs.declared.Cursor.{Cursor}
-use Rattle.walk.specs.Walk.{rest, Good, FromKey, layered}
-use Rattle.walk.proofs.Four.{rests}
+use Rattle.walk.specs.declared.Front.{Front}
+use Rattle.walk.specs.declared.Levels.{Levels}
+use Rattle.walk.specs.Walk.{rest, Good, FromKey, Skims, SkimStops, four, layered, AllFormed, rests, Ahead, Entered}
+use Rattle.walk.proofs.Rest.{headOf, more as others, rest-alive, least-of}
+use Rattle.walk.proofs.Between.{overlay-before}
+use Rattle.walk.proofs.Four.{layered-few}
 
--- the smallest record from q on is settled by what is found from q on
-smallest-one : (q : ℕ) (f g : ℕ → Option Rec) (o p : Option Rec) → ((j : ℕ) → q ≤ j → f j ≡ g j) → Smallest q f o → Smallest q g p → o ≡ p
-smallest-one q f g none none e s t = refl
-smallest-one q f g none (some y) e s t = absurd (Option·none-ne-some y (sym (s (y .key) (t .0)) ∙ e (y .key) (t .0) ∙ t .1))
-smallest-one q f g (some x) none e s t = absurd (Option·none-ne-some x (sym (t (x .key) (s .0)) ∙ sym (e (x .key) (s .0)) ∙ s .1))
-smallest-one q f g (some x) (some y) e s t = go (way (x .key) (y .key))
+-- a sorted list begins at its first key
+pub least-rising : (low k : ℕ) (xs : List Rec) → Rising low xs → Least k xs → Rising k xs
+least-rising low k [] h b = tt
+least-rising low k (x ∷ xs) h b = (b, h .1)
+
+rising-least : (k : ℕ) (xs : List Rec) → Rising k xs → Least k xs
+rising-least k [] h = tt
+rising-least k (x ∷ xs) h = h .0
+
+-- keys below q of both lists stand before the others
+module _ (q : ℕ) (u : Rec) (f g : List Rec → List Rec) (zs ys : List Rec) (h : u .key < q) (d : Least q ys) (i : (vs : List Rec) → Below q vs → f (vs ++ ys) ≡ g vs ++ zs) where
+  into-split : (vs : List Rec) → Below q vs → into u f (vs ++ ys) ≡ into u g vs ++ zs
+  unfolding into
+  into-split [] b = go ys refl
+    where
+      go : (xs : List Rec) → ys ≡ xs → into u f ys ≡ u ∷ (g [] ++ zs)
+      go [] e = rw e (ap (λ (rs : List Rec). u ∷ rs) (sym (ap f e) ∙ i [] tt))
+      go (x ∷ xs) e =
+          let l : q ≤ x .key = rw e at d in
+          ap (into u f) e ∙ into-above u f x xs (omega arith) ∙ ap (λ (rs : List Rec). u ∷ rs) (sym (ap f e) ∙ i [] tt)
+  into-split (v ∷ vs) b = go (way (v .key) (u .key)) (into-split vs (b .1))
+    where
+      go : Way (v .key) (u .key) → into u f (vs ++ ys) ≡ into u g vs ++ zs → into u f (v ∷ (vs ++ ys)) ≡ into u g (v ∷ vs) ++ zs
+      go (less w) ih = rw (into-below u f v (vs ++ ys) w, into-below u g v vs w) (ap (λ (rs : List Rec). v ∷ rs) ih)
+      go (same w) ih = rw (into-same u f v (vs ++ ys) w, into-same u g v vs w) (ap (λ (rs : List Rec). u ∷ rs) (i vs (b .1)))
+      go (more w) ih = rw (into-above u f v (vs ++ ys) w, into-above u g v vs w) (ap (λ (rs : List Rec). u ∷ rs) (i (v ∷ vs) b))
+
+overlay-split : (q : ℕ) (us xs vs ys : List Rec) → Below q us → Below q vs → Least q xs → Least q ys → overlay (us ++ xs) (vs ++ ys) ≡ overlay us vs ++ overlay xs ys
+unfolding overlay
+overlay-split q [] xs vs ys a b c d = overlay-before q xs vs ys c b
+overlay-split q (u ∷ us) xs vs ys a b c d = into-split q u (λ zs. overlay (us ++ xs) zs) (λ zs. overlay us zs) (overlay xs ys) ys (a .0) d (λ zs z. overlay-split q us xs zs ys (a .1) z c d) vs b
+
+-- and are below q still
+module _ (q : ℕ) (u : Rec) (g : List Rec → List Rec) (h : u .key < q) (i : (zs : List Rec) → Below q zs → Below q (g zs)) where
+  into-low : (vs : List Rec) → Below q vs → Below q (into u g vs)
+  unfolding into
+  into-low [] b = (h, i [] tt)
+  into-low (v ∷ vs) b = go (way (v .key) (u .key)) (into-low vs (b .1))
+    where
+      go : Way (v .key) (u .key) → Below q (into u g vs) → Below q (into u g (v ∷ vs))
+      go (less w) ih = rw (into-below u g v vs w) (b .0, ih)
+      go (same w) ih = rw (into-same u g v vs w) (h, i vs (b .1))
+      go (more w) ih = rw (into-above u g v vs w) (h, i (v ∷ vs) b)
+
+overlay-low : (q : ℕ) (us vs : List Rec) → Below q us → Below q vs → Below q (overlay us vs)
+unfolding overlay
+overlay-low q [] vs a b = b
+overlay-low q (u ∷ us) vs a b = into-low q u (λ zs. overlay us zs) (a .0) (λ zs z. overlay-low q us zs (a .1) z) vs b
+
+-- a list in two parts, below q and from q on
+record Split (q : ℕ) (all passed left : List Rec) : Type 0 where
+  cut : all ≡ passed ++ left
+  below : Below q passed
+  from : Rising q left
+
+split-overlay : (q : ℕ) (a us xs b vs ys : List Rec) → Split q a us xs → Split q b vs ys → Split q (overlay a b) (overlay us vs) (overlay xs ys)
+split-overlay q a us xs b vs ys s t =
+    record {
+      cut = rw (s .cut, t .cut) (overlay-split q us xs vs ys (s .below) (t .below) (rising-least q xs (s .from)) (rising-least q ys (t .from)));
+      below = overlay-low q us vs (s .below) (t .below);
+      from = overlay-rising q xs ys (s .from) (t .from);
+    }
+
+-- a cursor whose level has nothing below q left
+key-from : (ws : List ℕ) (d : Directory) (q : ℕ) (c : Cursor) → Good ws d c → q ≤ 4294967296 → Rising q (rest ws d c) → q ≤ c .key
+key-from ws d q c g h r =
+    dite (decLt 0 (c .chunk .count))
+    (λ y. let k : Rising q (headOf ws (c .chunk) ∷ others ws d c) = rw (rest-alive ws d c g y) at r in let e = g .alive y .0 in omega (arith, k .0))
+    (λ n. omega (arith, g .ended (omega arith) .0))
+
+-- a cursor at the chunk that was sought, past the records below q
+pub from-sought : (ws : List ℕ) (d : Directory) (q r : ℕ) (c after : Cursor) (live : ℕ) → Formed d ws → q ≤ 4294967296 → Sought ws d q r → rest ws d c ≡ recordsFrom ws d r (d .chunks - r) → (r < d .chunks → c .next ≡ r + 1)
+    → Skims ws d c q after live → SkimStops ws d c q after → FromKey ws d q after
+from-sought ws d q r c after live f h s e n k stops =
+    record {
+      good = k .good;
+      passed = span ws d 0 r ++ k .between;
+      cut =
+          span-split ws d r (let l = s .inside in omega arith)
+          ∙ ap (λ (rs : List Rec). span ws d 0 r ++ rs) (sym e ∙ k .joined)
+          ∙ sym (append-assoc (span ws d 0 r) (k .between) (rest ws d after));
+      below = below-append q (span ws d 0 r) (k .between) (span-before ws d f q r s) (k .below);
+      ahead = go stops;
+    }
   where
-    go : Way (x .key) (y .key) → some x ≡ some y
-    go (less h) = absurd (Option·none-ne-some x (sym (t .2 (x .key) (s .0) h) ∙ sym (e (x .key) (s .0)) ∙ s .1))
-    go (same h) = sym (s .1) ∙ e (x .key) (s .0) ∙ ap g h ∙ t .1
-    go (more h) = absurd (Option·none-ne-some y (sym (s .2 (y .key) (t .0) h) ∙ e (y .key) (t .0) ∙ t .1))
-
--- two sorted lists that have the same records from q on
-record Alike (q : ℕ) (xs ys : List Rec) : Type 0 where
-  rises : Rising 0 xs
-  rises′ : Rising 0 ys
-  finds : (j : ℕ) → q ≤ j → find j xs ≡ find j ys
-
-module _ (q : ℕ) where
-  -- a list and its rest after records below q
-  alike-cut : (xs ys : List Rec) → Rising 0 (xs ++ ys) → Below q xs → Alike q (xs ++ ys) ys
-  alike-cut xs ys h b = record { rises = h; rises′ = rising-right 0 xs ys h; finds = λ j l. find-append j xs ys ∙ rw (find-above j q xs b l) }
-
-  alike-overlay : {a b x y : List Rec} → Alike q a b → Alike q x y → Alike q (overlay a x) (overlay b y)
-  alike-overlay {a = a} {b = b} {x = x} {y = y} u v = record {
-    rises = overlay-rising 0 a x (u .rises) (v .rises);
-    rises′ = overlay-rising 0 b y (u .rises′) (v .rises′);
-    finds = λ j l. find-overlay j 0 a x (u .rises) ∙ rw (u .finds j l, v .finds j l) (sym (find-overlay j 0 b y (u .rises′)));
-  }
-
-  alike-unmarked : {a b : List Rec} → Alike q a b → Alike q (unmarked a) (unmarked b)
-  alike-unmarked {a = a} {b = b} u = record {
-    rises = unmarked-rising 0 a (u .rises);
-    rises′ = unmarked-rising 0 b (u .rises′);
-    finds = λ j l. find-unmarked j 0 a (u .rises) ∙ ap present (u .finds j l) ∙ sym (find-unmarked j 0 b (u .rises′));
-  }
-
-  alike-first : {a b : List Rec} → Alike q a b → firstFrom q a ≡ firstFrom q b
-  alike-first {a = a} {b = b} u =
-      smallest-one q (λ j. find j a) (λ j. find j b) (firstFrom q a) (firstFrom q b) (u .finds) (first-from-smallest q 0 a (u .rises)) (first-from-smallest q 0 b (u .rises′))
-
-  alike-level : (ws : List ℕ) (d : Directory) (c : Cursor) → FromKey ws d q c → Alike q (recordsOf ws d) (rest ws d c)
-  alike-level ws d c f =
-      let h : Rising 0 (f .passed ++ rest ws d c) = rw (f .cut) at (f .good .formed .rises) in
-      rw (f .cut) (alike-cut (f .passed) (rest ws d c) h (f .below))
-
-  -- the walk finds the first live record from q on in what its cursors have before them
-  pub next-start : (ws : List ℕ) (d0 d1 d2 d3 : Directory) (c0 c1 c2 c3 : Cursor) → FromKey ws d0 q c0 → FromKey ws d1 q c1 → FromKey ws d2 q c2 → FromKey ws d3 q c3
-      → firstFrom q (unmarked (rests ws d0 d1 d2 d3 c0 c1 c2 c3)) ≡ firstFrom q (unmarked (layered ws d0 d1 d2 d3))
-  next-start ws d0 d1 d2 d3 c0 c1 c2 c3 f0 f1 f2 f3 =
-      sym (alike-first (alike-unmarked (alike-overlay (alike-level ws d0 c0 f0) (alike-overlay (alike-level ws d1 c1 f1) (alike-overlay (alike-level ws d2 c2 f2) (alike-level ws d3 c3 f3))))))
-
--- a cursor at the chunk that was sought
-pub from-sought : (ws : List ℕ) (d : Directory) (q r : ℕ) (c : Cursor) → Formed d ws → Sought ws d q r → Good ws d c → rest ws d c ≡ recordsFrom ws d r (d .chunks - r) → FromKey ws d q c
-from-sought ws d q r c f s g e =
-    record { good = g; passed = span ws d 0 r; cut = rw e (span-split ws d r (let l = s .inside in omega arith)); below = span-before ws d f q r s }
+    go : SkimStops ws d c q after → q ≤ after .key
+    go (inl y) = y
+    go (inr y) =
+        let m : c .next ≡ r + 1 = n (s .inside) in
+        let z : Rising (suc q) (rest ws d after) = rw (y, m) (span-after ws d f q r s) in
+        key-from ws d q after (k .good) h (rising-from q (suc q) (rest ws d after) (omega arith) z)
 
 -- a cursor into a level of no chunks
-pub from-none : (ws : List ℕ) (d : Directory) (q : ℕ) (c : Cursor) → d .chunks < 1 → Good ws d c → rest ws d c ≡ recordsFrom ws d 0 (d .chunks - 0) → FromKey ws d q c
-from-none ws d q c h g e = record { good = g; passed = []; cut = (let z : d .chunks - 0 ≡ d .chunks = omega arith in rw (e, z)); below = tt }
+pub from-none : (ws : List ℕ) (d : Directory) (q : ℕ) (c : Cursor) → d .chunks < 1 → q ≤ 4294967296 → Good ws d c → rest ws d c ≡ recordsFrom ws d 0 (d .chunks - 0) → FromKey ws d q c
+unfolding recordsFrom
+from-none ws d q c l h g e =
+    let z : d .chunks ≡ 0 = omega arith in
+    let y : d .chunks - 0 ≡ 0 = omega arith in
+    let r : rest ws d c ≡ [] = rw y at e in
+    record { good = g; passed = []; cut = rw (r, z); below = tt; ahead = key-from ws d q c g h (rw r tt) }
+
+split-level : (ws : List ℕ) (d : Directory) (q : ℕ) (c : Cursor) → Formed d ws → (k : FromKey ws d q c) → Split q (recordsOf ws d) (k .passed) (rest ws d c)
+split-level ws d q c f k =
+    record {
+      cut = k .cut;
+      below = k .below;
+      from = least-rising 0 q (rest ws d c) (rising-right 0 (k .passed) (rest ws d c) (rw (k .cut) at (f .rises))) (least-of ws d c (k .good) q (k .ahead));
+    }
+
+-- four of them
+pub from-all : (ws : List ℕ) (l : Levels) (q : ℕ) (f : Front) → AllFormed ws l → FromKey ws (l .d0) q (f .c0) → FromKey ws (l .d1) q (f .c1) → FromKey ws (l .d2) q (f .c2) → FromKey ws (l .d3) q (f .c3) → Entered ws l q f
+from-all ws l q f a k0 k1 k2 k3 =
+    let s2 = split-overlay q _ _ _ _ _ _ (split-level ws (l .d2) q (f .c2) (a .formed2) k2) (split-level ws (l .d3) q (f .c3) (a .formed3) k3) in
+    let s1 = split-overlay q _ _ _ _ _ _ (split-level ws (l .d1) q (f .c1) (a .formed1) k1) s2 in
+    let s0 : Split q (layered ws l) (four (k0 .passed) (k1 .passed) (k2 .passed) (k3 .passed)) (rests ws l f) = split-overlay q _ _ _ _ _ _ (split-level ws (l .d0) q (f .c0) (a .formed0) k0) s1 in
+    let n = length-append (four (k0 .passed) (k1 .passed) (k2 .passed) (k3 .passed)) (rests ws l f) in
+    let e = ap (λ (rs : List Rec). length rs) (s0 .cut) in
+    let o : Ahead ws l f =
+    record {
+      abreast = record { good0 = k0 .good; good1 = k1 .good; good2 = k2 .good; good3 = k3 .good };
+      rises = rising-from 0 q (rests ws l f) (omega arith) (s0 .from);
+      few = omega (arith, e, n, layered-few ws l a);
+    } in
+    record { ahead = o; passed = four (k0 .passed) (k1 .passed) (k2 .passed) (k3 .passed); cut = s0 .cut; below = s0 .below; from = s0 .from }

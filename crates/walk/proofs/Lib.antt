@@ -1,4 +1,9 @@
 pub mod Rest
+pub mod Listing
+pub mod Between
 pub mod Four
 pub mod From
-pub mod Between
+pub mod Nearest
+pub mod Counting
+pub mod Walking
+pub mod Ends

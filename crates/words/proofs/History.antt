@@ -24,6 +24,7 @@ use Rattle.words.specs.History.{
   check,
   lookUpKey,
   nextKey,
+  stretchKeys,
   showKey,
   putKey,
   delKey,
@@ -33,6 +34,7 @@ use Rattle.words.specs.History.{
   checks,
   looks,
   nexts,
+  stretches,
   changes,
   tells,
   replyOf,
@@ -49,6 +51,7 @@ use Rattle.words.specs.History.{
 use Rattle.words.proofs.Formatted.{format-sizes, format-turned-down, format-accepted, format-length, format-geometry, format-passes}
 use Rattle.words.proofs.Steps.{put-passes, delete-passes}
 use Rattle.words.proofs.About.{about-reason, about-live, about-words}
+use Rattle.words.proofs.Stretch.{stretch-map}
 use Rattle.words.proofs.MapAfter.{none-is, format-map, look-up-map, next-map, put-geometry, delete-geometry, put-enters, delete-takes-out, put-full-outcome, put-accepted, delete-accepted, put-length, delete-length}
 
 -- What a form of the store has to show of each call alone, from any state that passes.
@@ -162,6 +165,7 @@ words-answers ws (formatAs g) e = format-reply ws g
 words-answers ws check e = ap checks e
 words-answers ws (lookUpKey k) e = ap looks (look-up-map ws k e)
 words-answers ws (nextKey k) e = ap nexts (next-map ws k e)
+words-answers ws (stretchKeys first last keys pays) e = ap stretches (stretch-map ws first last keys pays e)
 words-answers ws (showKey i k) e = refl
 words-answers ws (putKey k v) e = put-reply ws e k v
 words-answers ws (delKey k) e = delete-reply ws e k
@@ -173,6 +177,7 @@ words-pass ws (formatAs g) e = format-step ws e g .0
 words-pass ws check e = e
 words-pass ws (lookUpKey k) e = e
 words-pass ws (nextKey k) e = e
+words-pass ws (stretchKeys first last keys pays) e = e
 words-pass ws (showKey i k) e = e
 words-pass ws (putKey k v) e = put-passes ws k v e
 words-pass ws (delKey k) e = delete-passes ws k e
@@ -184,6 +189,7 @@ words-feed ws (formatAs g) e = format-step ws e g .1
 words-feed ws check e = refl
 words-feed ws (lookUpKey k) e = refl
 words-feed ws (nextKey k) e = refl
+words-feed ws (stretchKeys first last keys pays) e = refl
 words-feed ws (showKey i k) e = refl
 words-feed ws (putKey k v) e = put-held ws e k v
 words-feed ws (delKey k) e = delete-held ws e k

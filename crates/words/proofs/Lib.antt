@@ -12,6 +12,7 @@ pub mod Steps
 pub mod Demand
 pub mod Formatted
 pub mod MapAfter
+pub mod Stretch
 pub mod About
 pub mod History
 pub mod Kept

@@ -27,7 +27,7 @@ use Rattle.geometry.specs.Geometry.{
   sizeReason,
 }
 use Rattle.levels.specs.Basics.{if_then_else_}
-use Rattle.levels.specs.Map.{find, into, overlay, view, unmarked, mapOf, liveCount, decides, lookUp, isLive, firstFrom, next}
+use Rattle.levels.specs.Map.{find, into, overlay, view, unmarked, mapOf, liveCount, decides, lookUp, isLive, firstFrom, next, stretch}
 use Rattle.levels.specs.Choose.{cutAt}
 use Rattle.levels.specs.Place.{freeAfter, firstFree, settle, newlyUsed}
 use Rattle.levels.specs.Call.{mergeCut, compactLevel, compactIfNeeded, stepFive, mergeRun, mergeLevel, deepestOver, mergesBelow, mergesFrom}
@@ -64,6 +64,8 @@ use Rattle.words.specs.Calls.{
   checkOf,
   lookUpOf,
   nextOf,
+  filled,
+  stretchOf,
   enclosing,
   showIn,
   showOf,
@@ -74,8 +76,8 @@ use Rattle.words.specs.Calls.{
   aboutIn,
   aboutOf,
 }
-use Rattle.words.specs.History.{Answer, formatted, checked, looked, nexted, shown, changed, told}
-pub use Rattle.words.specs.History.{Call, formatAs, check, lookUpKey, nextKey, showKey, putKey, delKey, about}
+use Rattle.words.specs.History.{Answer, formatted, checked, looked, nexted, stretched, shown, changed, told}
+pub use Rattle.words.specs.History.{Call, formatAs, check, lookUpKey, nextKey, stretchKeys, showKey, putKey, delKey, about}
 unfoldable pub use Rattle.words.specs.History.{perform}
 
 -- the numbers that document 01 gives each answer
@@ -90,6 +92,7 @@ numbersOf (formatted a) = a .reason ∷ a .limit ∷ []
 numbersOf (checked n) = n ∷ []
 numbersOf (looked a) = a .reason ∷ bit (a .found) ∷ a .pay ∷ []
 numbersOf (nexted a) = a .reason ∷ bit (a .found) ∷ a .key ∷ a .pay ∷ []
+numbersOf (stretched o) = o .answer .reason ∷ o .answer .written ∷ bit (o .answer .more) ∷ (o .keys ++ o .pays)
 numbersOf (shown ws) = ws
 numbersOf (changed a) = changeNumbers a
 numbersOf (told a) =
@@ -99,12 +102,12 @@ numbersOf (told a) =
 unfoldable pub computed : List ℕ → Call → Outcome (List ℕ)
 unfolding
     capacityOf windowOf capacitySum flashCapacityOf keyLimitOf inRanges inSizes isLegal topCapacityOf marksStart keysStart paysStart listStart blockWidth
-    placesStart placeStart storeLength sizeReason find into overlay view unmarked mapOf liveCount decides lookUp isLive firstFrom next cutAt freeAfter
+    placesStart placeStart storeLength sizeReason find into overlay view unmarked mapOf liveCount decides lookUp isLive firstFrom next stretch cutAt freeAfter
     firstFree settle newlyUsed mergeCut compactLevel compactIfNeeded stepFive mergeRun mergeLevel deepestOver mergesBelow mergesFrom insert mergesFor enter
     put delete blocksMerged blocksCompacted countsOf slotsAt pageSlots topSlots topRecs listAt listedAt blockSlots blockAt levelAt storeAt markWord
     headerWords topWords listWords blockWords writeBlock writeBlocks storeWords listedPlaces liveExact liveFits cursorInside topFits roomOf countsFit placesInside placesOnce
     blocksFilled keysRise bottomUnmarked topUnusedZero listsUnusedZero blocksUnusedZero tombstonesClean pairsKept levelsKept clauses formed reasonOf formatWords formatOf
-    checkOf lookUpOf nextOf enclosing showIn showOf leftWords changeOutcome putOf deleteOf aboutIn aboutOf perform
+    checkOf lookUpOf nextOf filled stretchOf enclosing showIn showOf leftWords changeOutcome putOf deleteOf aboutIn aboutOf perform
 computed ws c = let o = perform ws c in record { answer = numbersOf (o .answer); words = o .words }
 
 -- the words after some calls

@@ -1,19 +1,19 @@
 -- Document 01, "Calls": each call as a function from the lent words and its arguments to its answer and the lent words afterwards.
-use Prim.Native.Nat.{ℕ, _-_}
+use Prim.Native.Nat.{ℕ, _-_, min}
 use mathlib.Core.Bool.{Bool, true, false}
 use mathlib.Core.List.{List, [], _∷_, _++_}
 use mathlib.Core.Option.{Option, none, some}
-use lib.Dec.{eqb}
+use lib.Dec.{ltb, eqb}
 use lib.ListN.{length, take, drop, replicate}
 use Rattle.geometry.specs.declared.Geometry.{Geometry}
 use Rattle.geometry.specs.Geometry.{keyLimitOf, placeStart, blockWidth, sizeReason, within}
 use Rattle.levels.specs.Record.{Rec, Block, Level, firstKey, lastKey}
-use Rattle.levels.specs.Map.{mapOf, liveCount, lookUp, next}
+use Rattle.levels.specs.Map.{mapOf, liveCount, lookUp, next, stretch}
 use Rattle.levels.specs.Store.{Store, rows, blocksOf}
 use Rattle.levels.specs.Call.{Compaction, Merge}
 use Rattle.levels.specs.Put.{Change, refused, absent, entered, put, delete}
 use Rattle.levels.specs.Count.{Counts, countsOf}
-use Rattle.words.specs.Layout.{geometryAt, storeAt, storeWords, areaOf, writeBlocks, levelAt, placeOf}
+use Rattle.words.specs.Layout.{geometryAt, storeAt, storeWords, areaOf, writeBlocks, levelAt, placeOf, keysOf, paysOf}
 use Rattle.words.specs.Form.{reasonOf}
 
 -- What a call gives: its answer and the words afterwards.
@@ -36,6 +36,12 @@ pub record NextAnswer : Type 0 where
   pub found : Bool
   pub key : ℕ
   pub pay : ℕ
+
+-- how many records were written, and if more follow
+pub record StretchAnswer : Type 0 where
+  pub reason : ℕ
+  pub written : ℕ
+  pub more : Bool
 
 -- the six numbers of the geometry, live, N, the records in level 0 and the blocks of levels 1 to 3
 pub record AboutAnswer : Type 0 where
@@ -101,6 +107,34 @@ unfoldable pub nextOf : List ℕ → ℕ → NextAnswer
 nextOf ws k = elim (eqb (reasonOf ws) 0) [
   | true ↦ nextAnswer (next k (rows (storeAt (geometryAt ws) ws)))
   | false ↦ record { reason = reasonOf ws; found = false; key = 0; pay = 0 }
+]
+
+-- Document 02, card 1: "Given a first and a last key and two lent arrays, one for keys and one for payloads, the store fills them with the live
+-- records of that stretch in rising order and says how many it wrote and if more follow." The answer and both arrays afterwards.
+pub record StretchOutcome (A : Type 0) : Type 0 where
+  pub answer : A
+  pub keys : List ℕ
+  pub pays : List ℕ
+
+-- "Entries behind the last written one keep their content."
+abbrev pub over : List ℕ → List ℕ → List ℕ
+over written old = written ++ drop (length written) old
+
+-- Records written to both arrays, "cut at that length"; "If the arrays differ in length, the shorter counts".
+unfoldable pub filled : List Rec → List ℕ → List ℕ → StretchOutcome StretchAnswer
+filled rs keys pays =
+    let cut = take (min (length keys) (length pays)) rs in
+    record {
+      answer = record { reason = 0; written = length cut; more = ltb (length cut) (length rs) };
+      keys = over (keysOf cut) keys;
+      pays = over (paysOf cut) pays;
+    }
+
+-- "The list is the map's stretch cut at that length"
+unfoldable pub stretchOf : List ℕ → ℕ → ℕ → List ℕ → List ℕ → StretchOutcome StretchAnswer
+stretchOf ws first last keys pays = elim (eqb (reasonOf ws) 0) [
+  | true ↦ filled (stretch first last (mapAt ws)) keys pays
+  | false ↦ record { answer = record { reason = reasonOf ws; written = 0; more = false }; keys = keys; pays = pays }
 ]
 
 -- "Show i, k: of level i, 1 to h, the words of the block whose first to last key encloses k, given back as that part of the lent store;

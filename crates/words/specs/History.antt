@@ -11,7 +11,7 @@ use Rattle.geometry.specs.declared.Geometry.{Geometry}
 use Rattle.geometry.specs.Geometry.{keyLimitOf, sizeReason}
 use Rattle.levels.specs.Basics.{if_then_else_, isSome}
 use Rattle.levels.specs.Record.{Rec}
-use Rattle.levels.specs.Map.{find, firstFrom}
+use Rattle.levels.specs.Map.{find, firstFrom, stretch}
 use Rattle.levels.specs.Put.{insert, without, putRec}
 use Rattle.words.specs.Layout.{geometryAt}
 use Rattle.words.specs.Form.{reasonOf}
@@ -29,18 +29,24 @@ use Rattle.words.specs.Calls.{
   checkOf,
   lookUpOf,
   nextOf,
+  StretchAnswer,
+  StretchOutcome,
+  filled,
+  stretchOf,
   showOf,
   putOf,
   deleteOf,
   aboutOf,
 }
 
--- Document 01's calls, and About.
+-- Document 01's calls, card 1's, and About.
 pub data Call : Type 0 where
   formatAs : Geometry → Call
   check : Call
   lookUpKey : ℕ → Call
   nextKey : ℕ → Call
+  -- first and last key, and the two arrays as they are lent
+  stretchKeys : ℕ → ℕ → List ℕ → List ℕ → Call
   showKey : ℕ → ℕ → Call
   putKey : ℕ → ℕ → Call
   delKey : ℕ → Call
@@ -52,6 +58,7 @@ pub data Answer : Type 0 where
   checked : ℕ → Answer
   looked : LookAnswer → Answer
   nexted : NextAnswer → Answer
+  stretched : StretchOutcome StretchAnswer → Answer
   shown : List ℕ → Answer
   changed : ChangeAnswer → Answer
   told : AboutAnswer → Answer
@@ -62,6 +69,7 @@ perform ws (formatAs g) = let o = formatOf ws g in record { answer = formatted (
 perform ws check = record { answer = checked (checkOf ws); words = ws }
 perform ws (lookUpKey k) = record { answer = looked (lookUpOf ws k); words = ws }
 perform ws (nextKey k) = record { answer = nexted (nextOf ws k); words = ws }
+perform ws (stretchKeys first last keys pays) = record { answer = stretched (stretchOf ws first last keys pays); words = ws }
 perform ws (showKey i k) = record { answer = shown (showOf ws i k); words = ws }
 perform ws (putKey k v) = let o = putOf ws k v in record { answer = changed (o .answer); words = o .words }
 perform ws (delKey k) = let o = deleteOf ws k in record { answer = changed (o .answer); words = o .words }
@@ -73,6 +81,7 @@ pub data Reply : Type 0 where
   checks : ℕ → Reply
   looks : LookAnswer → Reply
   nexts : NextAnswer → Reply
+  stretches : StretchOutcome StretchAnswer → Reply
   shows : Reply
   -- the reason or 0, and "if k was live"
   changes : ℕ → Bool → Reply
@@ -84,6 +93,7 @@ replyOf (formatted a) = formats a
 replyOf (checked n) = checks n
 replyOf (looked a) = looks a
 replyOf (nexted a) = nexts a
+replyOf (stretched o) = stretches o
 replyOf (shown ws) = shows
 replyOf (changed a) = changes (a .reason) (a .live)
 replyOf (told a) = tells (a .reason) (a .live) (a .limit)
@@ -106,6 +116,7 @@ mapReply m (formatAs g) =
 mapReply m check = checks 0
 mapReply m (lookUpKey k) = looks (lookAnswer (find k (m .records)))
 mapReply m (nextKey k) = nexts (nextAnswer (firstFrom k (m .records)))
+mapReply m (stretchKeys first last keys pays) = stretches (filled (stretch first last (m .records)) keys pays)
 mapReply m (showKey i k) = shows
 mapReply m (putKey k v) = if isFull m k then changes 5 false else changes 0 (isSome (find k (m .records)))
 mapReply m (delKey k) = changes 0 (isSome (find k (m .records)))
@@ -117,6 +128,7 @@ mapAfter m (formatAs g) = if eqb (sizeReason (m .size) g) 0 then record { size =
 mapAfter m check = m
 mapAfter m (lookUpKey k) = m
 mapAfter m (nextKey k) = m
+mapAfter m (stretchKeys first last keys pays) = m
 mapAfter m (showKey i k) = m
 mapAfter m (putKey k v) = if isFull m k then m else record { size = m .size; limit = m .limit; records = insert (putRec k v) (m .records) }
 mapAfter m (delKey k) = record { size = m .size; limit = m .limit; records = without k (m .records) }

@@ -5,40 +5,26 @@
 //! `damage --repeat SEED GROUP` runs one group; `damage --self-test` plants faults
 //! and sees each of them reported.
 
+use harness::asked::Asked;
 use harness::calls::{Library, Package};
 use harness::planted::{Fault, Planted};
 use harness::search::Search;
 use std::process::ExitCode;
-use std::time::{Duration, Instant, SystemTime, UNIX_EPOCH};
+use std::time::{Duration, Instant};
 
 /// Damaged stores, and calls, that a run must at least have.
 const ENOUGH: u64 = 100_000;
 
 fn main() -> ExitCode {
-    let arguments: Vec<String> = std::env::args().skip(1).collect();
-    let words: Vec<&str> = arguments.iter().map(String::as_str).collect();
-    let number = |text: &str| text.parse::<u64>().ok();
-    match words[..] {
-        ["--self-test"] => return self_test(),
-        ["--repeat", seed, group] => {
-            if let (Some(seed), Some(group)) = (number(seed), number(group)) {
-                return search(seed, group, Duration::ZERO);
-            }
+    match Asked::read() {
+        Some(Asked::SelfTest) => self_test(),
+        Some(Asked::Repeat { seed, number }) => search(seed, number, Duration::ZERO),
+        Some(Asked::Run { time, seed }) => search(seed, 0, time),
+        None => {
+            eprintln!("usage: damage SECONDS [SEED] | --repeat SEED GROUP | --self-test");
+            ExitCode::from(2)
         }
-        [seconds] | [seconds, _] => {
-            let clock = || SystemTime::now().duration_since(UNIX_EPOCH).ok();
-            let seed = match words.get(1) {
-                Some(text) => number(text),
-                None => clock().map(|time| time.as_nanos() as u64 % 1_000_000_000),
-            };
-            if let (Some(seconds), Some(seed)) = (number(seconds), seed) {
-                return search(seed, 0, Duration::from_secs(seconds));
-            }
-        }
-        _ => {}
     }
-    eprintln!("usage: damage SECONDS [SEED] | --repeat SEED GROUP | --self-test");
-    ExitCode::from(2)
 }
 
 /// Groups from `first` on, at least one, till the time is over.

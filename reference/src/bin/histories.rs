@@ -1,8 +1,9 @@
 //! Prints an antt module of short histories for the definitions to be computed on:
 //! `histories SEED COUNT CALLS WORDS`. Each history is a store that no call list
 //! reaches, some calls on it, their answers' numbers and the words afterwards, all
-//! by this implementation. Free slots hold 7 in each word, so that the text stays
-//! short: words are written as counts and values.
+//! by this implementation. CALLS counts the calls but stretches, one of which follows
+//! every second of them. Free slots hold 7 in each word, so that the text stays short:
+//! words are written as counts and values.
 
 use reference::calls;
 use reference::generate::{Choices, Stream};
@@ -30,20 +31,29 @@ fn main() -> ExitCode {
         return ExitCode::FAILURE;
     };
     let mut random = Random::new(seed as u64);
+    let mut stretches = Random::new(seed as u64 ^ 38);
     let choices = Choices::new(words);
     print!("{HEAD}");
     for number in 1..=count {
-        print!("{}", history(&mut random, &choices, number, calls));
+        let text = history(&mut random, &mut stretches, &choices, number, calls);
+        print!("{text}");
     }
     ExitCode::SUCCESS
 }
 
 /// One history as a theorem. Of some tries, the one with the most merges is taken.
-fn history(random: &mut Random, choices: &Choices, number: usize, count: usize) -> String {
+/// The stretches are drawn apart, so that the other calls don't depend on them.
+fn history(
+    random: &mut Random,
+    stretches: &mut Random,
+    choices: &Choices,
+    number: usize,
+    count: usize,
+) -> String {
     let tries = (0..20).map(|_| {
         let geometry = choices.pick(random);
         let start = start(random, geometry);
-        let (steps, end) = run(random, geometry, &start, count);
+        let (steps, end) = run(random, stretches, geometry, &start, count);
         let merges: usize = steps.iter().map(|step| step.merges).sum();
         (merges, start, steps, end)
     });
@@ -81,9 +91,11 @@ fn start(random: &mut Random, geometry: Geometry) -> Vec<u32> {
     words
 }
 
-/// Runs random puts and deletes, and after each a reading call.
+/// Runs so many random calls, mostly puts and deletes, and after every second one a
+/// stretch.
 fn run(
     random: &mut Random,
+    stretches: &mut Random,
     geometry: Geometry,
     start: &[u32],
     count: usize,
@@ -92,29 +104,70 @@ fn run(
     let keys = unreachable::map(&words).into_keys().collect();
     let mut stream = Stream::new(random, geometry, keys);
     let mut steps = Vec::new();
-    while steps.len() < count {
-        match stream.call(random) {
-            Line::Put(key, payload) => {
-                let (answer, merges) = calls::put_listed(&mut words, key, payload);
-                steps.push(Step {
-                    act: format!("putKey {key} {payload}"),
-                    answer: changed(&answer),
-                    merges: merges.len(),
-                });
-            }
-            Line::Delete(key) => {
-                let (answer, merges) = calls::delete_listed(&mut words, key);
-                steps.push(Step {
-                    act: format!("delKey {key}"),
-                    answer: changed(&answer),
-                    merges: merges.len(),
-                });
-            }
-            Line::Get(key) => steps.push(reading(random, &words, key)),
-            Line::Format(_) => {}
+    for number in 1..=count {
+        let line = stream.call(random);
+        steps.push(step(random, &mut words, line));
+        if number % 2 == 0 {
+            steps.push(stretch(stretches, &words));
         }
     }
     (steps, words)
+}
+
+/// A put, a delete, or a call that changes nothing.
+fn step(random: &mut Random, words: &mut [u32], line: Line) -> Step {
+    let (act, (answer, merges)) = match line {
+        Line::Put(key, payload) => (
+            format!("putKey {key} {payload}"),
+            calls::put_listed(words, key, payload),
+        ),
+        Line::Delete(key) => (format!("delKey {key}"), calls::delete_listed(words, key)),
+        Line::Get(key) => return reading(random, words, key),
+        // A stream has none of these.
+        Line::Format(_) => return reading(random, words, 0),
+    };
+    Step {
+        act,
+        answer: changed(&answer),
+        merges: merges.len(),
+    }
+}
+
+/// A stretch between keys at and beside live ones, at the ends or anywhere, now and
+/// then with the first key above the last, in short arrays filled with words that
+/// differ. Its numbers: refusal, written, more, then all entries of both arrays.
+fn stretch(random: &mut Random, words: &[u32]) -> Step {
+    let live: Vec<u32> = unreachable::map(words).into_keys().collect();
+    let mut end = || match random.below(8) {
+        0 => random.pick(&[0, u32::MAX]),
+        1 => random.word(),
+        _ if live.is_empty() => random.word(),
+        _ => random
+            .pick(&live)
+            .wrapping_add(random.pick(&[0, 0, 0, 1, u32::MAX])),
+    };
+    let (one, other) = (end(), end());
+    let (mut first, mut last) = (one.min(other), one.max(other));
+    if random.one_in(8) {
+        (first, last) = (last, first);
+    }
+    let length = random.below(7);
+    let longer = length + random.between(1, 3);
+    let [length, other] = random.pick(&[[length; 2], [length, longer], [longer, length]]);
+    let mut keys: Vec<u32> = (601..).take(length).collect();
+    let mut payloads: Vec<u32> = (801..).take(other).collect();
+    let act = format!(
+        "stretchKeys {first} {last} ({}) ({})",
+        list(&keys),
+        list(&payloads)
+    );
+    let answer = calls::stretch(words, first, last, &mut keys, &mut payloads);
+    let numbers = vec![answer.refusal, answer.written, u32::from(answer.more)];
+    Step {
+        act,
+        answer: [numbers, keys, payloads].concat(),
+        merges: 0,
+    }
 }
 
 /// One of the calls that change nothing.
@@ -190,5 +243,5 @@ const HEAD: &str = "-- Short histories from stores that no call list reaches: th
 use mathlib.Core.Path.{_≡_, refl}
 use mathlib.Core.Bool.{true}
 use mathlib.Core.List.{[], _∷_}
-use Rattle.words.specs.Bench.{check, lookUpKey, nextKey, showKey, putKey, delKey, perform, expand, agrees}
+use Rattle.words.specs.Bench.{check, lookUpKey, nextKey, showKey, putKey, delKey, stretchKeys, perform, expand, agrees}
 ";

@@ -8,13 +8,15 @@ mod form;
 mod merge;
 mod search;
 mod shape;
+mod stretch;
 mod top;
 mod walk;
 mod weave;
 
-use crate::calls::{About, Changed, Counts, Formatted, Found, Next};
+use crate::calls::{About, Changed, Counts, Formatted, Found, Next, Stretched};
 use merge::Work;
 use shape::Shape;
+use stretch::Lent;
 
 /// Format.
 pub fn format(s: &mut [u32], numbers: [u32; 6]) -> Formatted {
@@ -76,6 +78,32 @@ pub fn next(s: &[u32], key: u32) -> Next {
                 payload,
             },
         },
+    }
+}
+
+/// Stretch.
+pub fn stretch(
+    s: &[u32],
+    first: u32,
+    last: u32,
+    keys: &mut [u32],
+    payloads: &mut [u32],
+) -> Stretched {
+    let shape = match form::check(s) {
+        Err(refusal) => {
+            return Stretched {
+                refusal,
+                ..Stretched::default()
+            }
+        }
+        Ok(shape) => shape,
+    };
+    let mut lent = Lent::of(keys, payloads);
+    let more = lent.fill(s, &shape, first, last);
+    Stretched {
+        refusal: 0,
+        written: lent.written() as u32,
+        more,
     }
 }
 

@@ -9,24 +9,24 @@ const END: u64 = 1 << 32;
 
 /// What is left of a level.
 #[derive(Clone, Copy)]
-struct Cursor {
+pub struct Cursor {
     /// The next key.
-    key: u64,
+    pub key: u64,
     /// The word of the next key, and the one after the last key of its chunk.
-    at: usize,
-    end: usize,
+    pub at: usize,
+    pub end: usize,
     /// The chunk's tombstone bits, the next record's the lowest.
-    marks: u32,
+    pub marks: u32,
     /// From the word of a key to that of its payload.
-    gap: usize,
+    pub gap: usize,
     /// The next chunk's number, and the number of chunks.
     next: usize,
     chunks: usize,
 }
 
 /// All that a cursor reads of a level: level 0 has pages, the others blocks.
-struct Level<'a> {
-    s: &'a [u32],
+pub struct Level<'a> {
+    pub s: &'a [u32],
     shape: &'a Shape,
     level: usize,
 }
@@ -77,7 +77,7 @@ impl Level<'_> {
 
     /// Past the next record.
     #[inline]
-    fn step(&self, cursor: &mut Cursor) {
+    pub fn step(&self, cursor: &mut Cursor) {
         cursor.at += 1;
         if cursor.at < cursor.end {
             cursor.key = u64::from(self.s[cursor.at]);
@@ -87,8 +87,20 @@ impl Level<'_> {
         }
     }
 
+    /// Past so many records of the chunk.
+    #[inline]
+    pub fn skip(&self, cursor: &mut Cursor, count: usize) {
+        cursor.at += count;
+        if cursor.at < cursor.end {
+            cursor.key = u64::from(self.s[cursor.at]);
+            cursor.marks >>= count;
+        } else {
+            self.refill(cursor);
+        }
+    }
+
     /// The level from its first key on that isn't below `key`.
-    fn seek(&self, key: u32) -> Cursor {
+    pub fn seek(&self, key: u32) -> Cursor {
         let (s, shape) = (self.s, self.shape);
         let chunk = if self.level == 0 {
             let index = top::locate(s, shape, key).unwrap_or_else(|index| index);
@@ -106,31 +118,37 @@ impl Level<'_> {
     }
 }
 
-/// Levels 0 to h − 1 with their cursors, used up ones for those a store lacks, and
-/// level h with its own: there every record of a key that the others lack is live.
-struct Levels<'a> {
-    upper: [Level<'a>; 3],
-    bottom: Level<'a>,
+/// The levels above a bottom one, level h or the last that has blocks, with stand-ins
+/// for those a store lacks, and the bottom one: in level h every record of a key that
+/// the others lack is live.
+pub struct Levels<'a> {
+    pub upper: [Level<'a>; 3],
+    pub bottom: Level<'a>,
 }
 
 impl<'a> Levels<'a> {
     /// The levels of a store.
     fn of(s: &'a [u32], shape: &'a Shape) -> Levels<'a> {
+        Levels::down_to(s, shape, shape.h)
+    }
+
+    /// The levels of a store down to one from 1 on.
+    pub fn down_to(s: &'a [u32], shape: &'a Shape, bottom: usize) -> Levels<'a> {
         let level = |level| Level { s, shape, level };
-        // Level h stands in for a missing one; its cursor there is used up.
-        let upper = [0, 1, 2].map(|number: usize| level(number.min(shape.h)));
+        // The bottom level stands in for a missing one; its cursor there is used up.
+        let upper = [0, 1, 2].map(|number: usize| level(number.min(bottom)));
         Levels {
             upper,
-            bottom: level(shape.h),
+            bottom: level(bottom),
         }
     }
 
     /// A cursor for each upper level.
-    fn cursors(&self, of: impl Fn(&Level) -> Cursor) -> [Cursor; 3] {
-        let h = self.bottom.level;
+    pub fn cursors(&self, of: impl Fn(&Level) -> Cursor) -> [Cursor; 3] {
+        let bottom = self.bottom.level;
         [0, 1, 2].map(|number| {
             let level = &self.upper[number];
-            if number < h {
+            if number < bottom {
                 of(level)
             } else {
                 level.from(usize::MAX)
@@ -154,7 +172,7 @@ fn pass(levels: &[Level; 3], cursors: &mut [Cursor; 3], key: u64) -> u32 {
 
 /// The least next key of three levels.
 #[inline]
-fn least(cursors: &[Cursor; 3]) -> u64 {
+pub fn least(cursors: &[Cursor; 3]) -> u64 {
     cursors[0].key.min(cursors[1].key).min(cursors[2].key)
 }
 

@@ -347,7 +347,7 @@ impl Checker {
         Ok(())
     }
 
-    /// The whole map by next, and every key by look up through one view.
+    /// The whole map by the walk and by stretch, every key by look up through one view.
     pub fn sweep(&self) -> Checked {
         let view = View {
             geometry: self.geometry,
@@ -359,6 +359,13 @@ impl Checker {
         ensure!(
             unreachable::map(&self.words) == self.map,
             "the walk differs from the map"
+        );
+        let (mut keys, mut payloads) = (vec![0; self.map.len()], vec![0; self.map.len()]);
+        let all = calls::stretch(&self.words, 0, u32::MAX, &mut keys, &mut payloads);
+        ensure!(!all.more && all.refusal == 0, "the whole stretch: {all:?}");
+        ensure!(
+            keys.iter().zip(&payloads).eq(&self.map),
+            "the whole stretch differs from the map"
         );
         Ok(())
     }

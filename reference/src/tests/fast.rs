@@ -79,6 +79,8 @@ impl Both {
         )?;
         same("next", calls::next(plain, key), fast::next(fast, key))?;
         same("about", calls::about(plain), fast::about(fast))?;
+        self.stretch(key, key.saturating_add(1 << 20), 20)?;
+        self.stretch(key, key.wrapping_add(7), 3)?;
         for level in [0, 1, 2, 3, 4, u32::MAX] {
             let part = |whole: &[u32], part: &[u32]| {
                 let start = part.as_ptr() as usize - whole.as_ptr() as usize;
@@ -88,6 +90,15 @@ impl Both {
             same("show", plain, part(fast, fast::show(fast, level, key)))?;
         }
         self.words()
+    }
+
+    /// A stretch in arrays of this length, and every entry.
+    fn stretch(&self, first: u32, last: u32, length: usize) -> Same {
+        let mut plain = (vec![8; length], vec![9; length]);
+        let mut fast = plain.clone();
+        let answer = calls::stretch(&self.plain, first, last, &mut plain.0, &mut plain.1);
+        let other = fast::stretch(&self.fast, first, last, &mut fast.0, &mut fast.1);
+        same("stretch", (answer, plain), (other, fast))
     }
 
     /// Every word.

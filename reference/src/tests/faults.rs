@@ -2,6 +2,7 @@
 
 use super::checker::Statistics;
 use super::lists::{formatted, run_calls};
+use super::stretch::{self, agrees, by_fast, by_next, by_the_map, random_ask, Other};
 use crate::fault::{set, Fault};
 use crate::generate::Choices;
 use crate::random::Random;
@@ -53,5 +54,47 @@ fn wrong_variants_are_found_out() {
         let found = found_out(fault);
         println!("{fault:?}: {found:?}");
         assert!(found.is_some(), "{fault:?} is not found out");
+    }
+}
+
+/// Whether a wrong stretch is found out by this comparison over random stores, and
+/// after how many.
+fn stretch_found_out(fault: Fault, other: Other) -> Option<(usize, String)> {
+    let mut random = Random::new(7);
+    let choices = Choices::new(2500);
+    (1..=300).find_map(|round| {
+        let geometry = choices.pick(&mut random);
+        let words = unreachable::store(&mut random, geometry);
+        let live: Vec<u32> = unreachable::map(&words).into_keys().collect();
+        let ask = random_ask(&mut random, &words, &live);
+        set(Some(fault));
+        let result = agrees(&words, ask, other);
+        set(None);
+        result.err().map(|text| (round, text))
+    })
+}
+
+/// Each wrong stretch is found out by the hand-written cases, by the map, by
+/// repeated next and by the implementation written for speed, each alone.
+#[test]
+fn wrong_stretches_are_found_out() {
+    use Fault::*;
+    let faults = [
+        LeaveOutLast,
+        MoreOfTheStore,
+        TouchBehindWritten,
+        ListTombstones,
+        ListOlder,
+    ];
+    for fault in faults {
+        set(Some(fault));
+        let cases = stretch::CASES.map(|case| case().is_err());
+        set(None);
+        assert!(cases.contains(&true), "no case finds {fault:?}");
+        for other in [by_the_map as Other, by_next, by_fast] {
+            let found = stretch_found_out(fault, other);
+            println!("{fault:?}: {cases:?} {found:?}");
+            assert!(found.is_some(), "{fault:?} is not found out");
+        }
     }
 }

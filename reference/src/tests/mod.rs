@@ -13,6 +13,7 @@ mod readings;
 mod refusals;
 mod scripts;
 mod steps;
+mod stretch;
 mod workloads;
 
 use crate::block::{write_slot, Record};

@@ -36,6 +36,15 @@ fn all_refuse(words: &[u32], refusal: u32) {
                 ..About::default()
             }
         );
+        let (mut keys, mut payloads) = ([8; 3], [9; 2]);
+        assert_eq!(
+            stretch(&lent, key, u32::MAX, &mut keys, &mut payloads),
+            Stretched {
+                refusal,
+                ..Stretched::default()
+            }
+        );
+        assert_eq!((keys, payloads), ([8; 3], [9; 2]));
         for level in [0, 1, 2, 3, 4, u32::MAX] {
             assert!(show(&lent, level, key).is_empty());
         }
@@ -235,6 +244,7 @@ fn one_of_each(words: &mut [u32], random: &mut Random) {
     look_up(words, key);
     next(words, key);
     show(words, 1, key);
+    stretch(words, key, u32::MAX, &mut [0; 3], &mut [0; 2]);
     assert_eq!(about(words).live, words[LIVE]);
     put(words, key, 1);
     assert_eq!(check(words), 0);

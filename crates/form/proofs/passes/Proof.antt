@@ -167,16 +167,13 @@ live-requires c κs =
     let k4 = k5 .before .before .before in
     let k3 = k4 .before .before .before in
     let k2 = k3 .before .before in
-    let hd = headed (k2 .before .before) in (
-      rw (k4 .before .before .top-of .ensures) (formed-all _ _ (within-top _ _ hd) (h4 k4)),
-      (
-        rw (k5 .before .before .level-of .ensures) (formed-all _ _ (within-level _ _ hd (h2 k2) 1 (omega arith) (omega arith)) (h5 k5)),
-        (
-          rw (k6 .before .before .level-of2 .ensures) (formed-all _ _ (within-level _ _ hd (h2 k2) 2 (omega arith) (omega arith)) (h6 k6)),
-          rw (k7 .before .before .level-of3 .ensures) (formed-all _ _ (within-level _ _ hd (h2 k2) 3 (omega arith) (omega arith)) (h7 k7)),
-        ),
-      ),
-    )
+    let hd = headed (k2 .before .before) in
+    record {
+      formed0 = rw (k4 .before .before .top-of .ensures) (formed-all _ _ (within-top _ _ hd) (h4 k4));
+      formed1 = rw (k5 .before .before .level-of .ensures) (formed-all _ _ (within-level _ _ hd (h2 k2) 1 (omega arith) (omega arith)) (h5 k5));
+      formed2 = rw (k6 .before .before .level-of2 .ensures) (formed-all _ _ (within-level _ _ hd (h2 k2) 2 (omega arith) (omega arith)) (h6 k6));
+      formed3 = rw (k7 .before .before .level-of3 .ensures) (formed-all _ _ (within-level _ _ hd (h2 k2) 3 (omega arith) (omega arith)) (h7 k7));
+    }
 
 returns-8 : tie.Need-returns-8
 unfolding passed

@@ -14,7 +14,7 @@ top-of-requires : tie.Need-top-of-requires
 top-of-requires c κs = ready-sized _ _ (c .before .pre)
 
 find-in-requires : tie.Need-find-in-requires
-find-in-requires c κs = rw (c .top-of .ensures) (ready-levels _ _ (c .before .before .pre) .0)
+find-in-requires c κs = rw (c .top-of .ensures) (ready-levels _ _ (c .before .before .pre) .formed0)
 
 enum-known-m0 : tie.Need-enum-known-m0
 enum-known-m0 c = search needs
@@ -26,7 +26,7 @@ level-of-requires : tie.Need-level-of-requires
 level-of-requires c κs = (ready-sized _ _ (c .before .before .before .before .before .pre), (omega arith, omega arith))
 
 find-in-requires-2 : tie.Need-find-in-requires-2
-find-in-requires-2 c κs = rw (c .level-of .ensures) (ready-levels _ _ (c .before .before .before .before .before .before .pre) .1 .0)
+find-in-requires-2 c κs = rw (c .level-of .ensures) (ready-levels _ _ (c .before .before .before .before .before .before .pre) .formed1)
 
 enum-known-m1 : tie.Need-enum-known-m1
 enum-known-m1 c = search needs
@@ -38,7 +38,7 @@ level-of-requires-2 : tie.Need-level-of-requires-2
 level-of-requires-2 c κs = (ready-sized _ _ (c .before .before .before .before .before .before .before .before .before .pre), (omega arith, omega arith))
 
 find-in-requires-3 : tie.Need-find-in-requires-3
-find-in-requires-3 c κs = rw (c .level-of2 .ensures) (ready-levels _ _ (c .before .before .before .before .before .before .before .before .before .before .pre) .1 .1 .0)
+find-in-requires-3 c κs = rw (c .level-of2 .ensures) (ready-levels _ _ (c .before .before .before .before .before .before .before .before .before .before .pre) .formed2)
 
 enum-known-m2 : tie.Need-enum-known-m2
 enum-known-m2 c = search needs
@@ -50,7 +50,7 @@ level-of-requires-3 : tie.Need-level-of-requires-3
 level-of-requires-3 c κs = (ready-sized _ _ (c .before .before .before .before .before .before .before .before .before .before .before .before .before .pre), (omega arith, omega arith))
 
 find-in-requires-4 : tie.Need-find-in-requires-4
-find-in-requires-4 c κs = rw (c .level-of3 .ensures) (ready-levels _ _ (c .before .before .before .before .before .before .before .before .before .before .before .before .before .before .pre) .1 .1 .1)
+find-in-requires-4 c κs = rw (c .level-of3 .ensures) (ready-levels _ _ (c .before .before .before .before .before .before .before .before .before .before .before .before .before .before .pre) .formed3)
 
 returns : tie.Need-returns
 returns c = rw (found-levels (c .before .before .before .before .before .before .before .before .before .before .before .before .before .before .before .args .s .now) (c .before .before .before .before .before .before .before .before .before .before .before .before .before .before .before .args .g) (c .before .before .before .before .before .before .before .before .before .before .before .before .before .before .before .pre) (c .before .before .before .before .before .before .before .before .before .before .before .before .before .before .before .args .k), ← c .before .before .before .before .before .before .before .before .before .before .before .before .before .top-of .ensures, ← c .before .before .before .before .before .before .before .before .before .before .before .before .find-in .ensures, c .before .before .before .before .before .before .before .before .before .before .enum-told .given .1, ← c .before .before .before .before .before .before .before .before .before .level-of .ensures, ← c .before .before .before .before .before .before .before .before .find-in2 .ensures, c .before .before .before .before .before .before .enum-told2 .given .1, ← c .before .before .before .before .before .level-of2 .ensures, ← c .before .before .before .before .find-in3 .ensures, c .before .before .enum-told3 .given .1, ← c .before .level-of3 .ensures) (c .find-in4 .ensures)

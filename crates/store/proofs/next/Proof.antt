@@ -1,4 +1,5 @@
 use mathlib.Core.Path.{sym, _∙_}
+use native.Mathlib.Omega.{arith}
 use Rattle.store.proofs.Answering.{next-refused, next-ready}
 use borrow.Author.Needs.{needs}
 use Rattle.store.proofs.next.Statement.{statement}
@@ -18,7 +19,7 @@ enum-known-g : tie.Need-enum-known-g
 enum-known-g c = search needs
 
 next-key-requires : tie.Need-next-key-requires
-next-key-requires c κs = sym (c .before .before .before .check .ensures) ∙ c .before .g .given .1
+next-key-requires c κs = (sym (c .before .before .before .check .ensures) ∙ c .before .g .given .1, omega arith)
 
 returns : tie.Need-returns
 returns c = next-refused _ _ (sym (c .before .before .before .check .ensures) ∙ c .before .n .given .1) _

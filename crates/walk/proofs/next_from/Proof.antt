@@ -1,123 +1,55 @@
 use native.Mathlib.Omega.{arith}
-use mathlib.Core.Path.{_≡_, sym, _∙_}
-use Rattle.levels.specs.Map.{unmarked, firstFrom}
-use Rattle.walk.specs.Walk.{rest, layered}
-use Rattle.walk.proofs.Four.{Abreast, rests, load, upper-pay-in, next-hit, next-miss, next-end, walk-less}
-use Rattle.walk.proofs.From.{next-start}
+use Rattle.walk.proofs.Ends.{next-none, next-some}
+use borrow.Author.Needs.{needs}
 use Rattle.walk.proofs.next_from.Statement.{statement}
 use Rattle.walk.proofs.next_from.Tie as tie
 use Rattle.walk.proofs.next_from.Reads as reads
 use Rattle.walk.proofs.next_from.Lts as lts
-use Rattle.walk.proofs.cursor_from.Reads as cursor-from-reads
-use Rattle.walk.proofs.least.Reads as least-reads
-use Rattle.walk.proofs.step.Reads as step-reads
-use Rattle.walk.proofs.upper.Reads as upper-reads
+use Rattle.walk.proofs.deepest_last.Reads as deepest-last-reads
+use Rattle.walk.proofs.enter.Reads as enter-reads
+use Rattle.walk.proofs.walk_on.Reads as walk-on-reads
 
-abbrev Inv-loop : tie.InvT-loop
-Inv-loop s d0 d1 d2 d3 q c0₀ c1₀ c2₀ c3₀ c0 c1 c2 c3 = Abreast s d0 d1 d2 d3 c0 c1 c2 c3 × (firstFrom q (unmarked (rests s d0 d1 d2 d3 c0 c1 c2 c3)) ≡ firstFrom q (unmarked (layered s d0 d1 d2 d3)))
+deepest-last-requires : tie.Need-deepest-last-requires
+deepest-last-requires c κs = search needs
 
-abbrev μ-loop : tie.MeasureT-loop
-μ-loop s d0 d1 d2 d3 q c0₀ c1₀ c2₀ c3₀ c0 c1 c2 c3 = load (rest s d0 c0) (rest s d1 c1) (rest s d2 c2) (rest s d3 c3)
+enter-requires : tie.Need-enter-requires
+enter-requires c κs = (c .deepest-last .ensures .formed _ (c .before .before .pre .0), c .before .before .pre .1)
 
-cursor-from-requires : tie.Need-cursor-from-requires Inv-loop μ-loop
-cursor-from-requires c κs = c .before .pre .0
+slice-aggregate-walk-on : tie.Need-slice-aggregate-walk-on
+slice-aggregate-walk-on c = search needs
 
-cursor-from-requires-2 : tie.Need-cursor-from-requires-2 Inv-loop μ-loop
-cursor-from-requires-2 c κs = c .before .before .pre .1 .0
+slice-aggregate-walk-on-2 : tie.Need-slice-aggregate-walk-on-2
+slice-aggregate-walk-on-2 c = search needs
 
-cursor-from-requires-3 : tie.Need-cursor-from-requires-3 Inv-loop μ-loop
-cursor-from-requires-3 c κs = c .before .before .before .pre .1 .1 .0
+walk-on-requires : tie.Need-walk-on-requires
+walk-on-requires c κs = search needs
 
-cursor-from-requires-4 : tie.Need-cursor-from-requires-4 Inv-loop μ-loop
-cursor-from-requires-4 c κs = c .before .before .before .before .pre .1 .1 .1
+returns : tie.Need-returns
+returns c = rw (← c .before .before .before .before .before .before .before .deepest-last .ensures .shows _) (next-none _ _ _ _ (c .before .before .before .before .before .before .enter .ensures) _ _ _ (c .before .before .before .walk-on .ensures) (c .if1 .taken), tt)
 
-loop-holds : tie.Need-loop-holds Inv-loop μ-loop
-loop-holds c =
-    let r0 = c .before .before .before .cursor-from .ensures in
-    let r1 = c .before .before .cursor-from2 .ensures in
-    let r2 = c .before .cursor-from3 .ensures in
-    let r3 = c .cursor-from4 .ensures in
-    (record { good0 = r0 .good; good1 = r1 .good; good2 = r2 .good; good3 = r3 .good }, next-start _ _ _ _ _ _ _ _ _ _ r0 r1 r2 r3)
+array-read-t16 : tie.Need-array-read-t16
+array-read-t16 c = search needs
 
-least-requires : tie.Need-least-requires Inv-loop μ-loop
-least-requires c κs = tt
+cast-t17 : tie.Need-cast-t17
+cast-t17 c = omega (arith, next-some _ _ _ _ (c .before .before .before .before .before .before .enter .ensures) _ _ _ (c .before .before .before .walk-on .ensures) (c .if1 .left) .1)
 
-returns : tie.Need-returns Inv-loop μ-loop
-returns c =
-    let i = c .before .before .loop .inv in
-    let a = c .before .before .before .before .before .before .before .before in
-    (rw (← i .1, next-end _ _ _ _ _ _ _ _ _ (i .0) _ (c .before .least .ensures) (c .if1 .taken) (a .args .q)), tt)
+array-read-t20 : tie.Need-array-read-t20
+array-read-t20 c = search needs
 
-upper-requires : tie.Need-upper-requires Inv-loop μ-loop
-upper-requires c κs = tt
-
-mul-t18 : tie.Need-mul-t18 Inv-loop μ-loop
-mul-t18 c =
-    let k = c .before .before in
-    let i = k .before .before .before .loop .inv in
-    let p = upper-pay-in _ _ _ _ _ _ _ _ _ (i .0) _ (k .before .before .least .ensures) (k .before .if1 .left) _ (k .upper .ensures) in
-    omega (arith, i .0 .good0 .formed .within .short)
-
-shared-slice-read-t20 : tie.Need-shared-slice-read-t20 Inv-loop μ-loop
-shared-slice-read-t20 c =
-    let k = c .before .before .before in
-    let i = k .before .before .before .loop .inv in
-    upper-pay-in _ _ _ _ _ _ _ _ _ (i .0) _ (k .before .before .least .ensures) (k .before .if1 .left) _ (k .upper .ensures)
-
-returns-2 : tie.Need-returns-2 Inv-loop μ-loop
-returns-2 c =
-    let k = c .before .before .before in
-    let i = k .before .before .before .loop .inv in
-    let a = k .before .before .before .before .before .before .before .before .before in
-    (rw (← i .1, next-hit _ _ _ _ _ _ _ _ _ (i .0) _ (k .before .before .least .ensures) (k .before .if1 .left) _ (k .upper .ensures) (a .args .q) (c .before .if2 .taken)), k .before .if1 .left)
-
-step-requires : tie.Need-step-requires Inv-loop μ-loop
-step-requires c κs = (c .before .before .before .before .before .loop .inv .0 .good0, c .before .before .before .if1 .left)
-
-step-requires-2 : tie.Need-step-requires-2 Inv-loop μ-loop
-step-requires-2 c κs = (c .before .before .before .before .before .before .loop .inv .0 .good1, c .before .before .before .before .if1 .left)
-
-step-requires-3 : tie.Need-step-requires-3 Inv-loop μ-loop
-step-requires-3 c κs = (c .before .before .before .before .before .before .before .loop .inv .0 .good2, c .before .before .before .before .before .if1 .left)
-
-step-requires-4 : tie.Need-step-requires-4 Inv-loop μ-loop
-step-requires-4 c κs = (c .before .before .before .before .before .before .before .before .loop .inv .0 .good3, c .before .before .before .before .before .before .if1 .left)
-
-loop-less : tie.Need-loop-less Inv-loop μ-loop
-loop-less c =
-    let k = c .before .before .before .before .before .before in
-    let i = k .before .before .before .loop .inv in
-    rw (c .before .before .before .step .ensures .1, c .before .before .step2 .ensures .1, c .before .step3 .ensures .1, c .step4 .ensures .1)
-    (walk-less _ _ _ _ _ _ _ _ _ (i .0) _ (k .before .before .least .ensures) (k .before .if1 .left))
-
-loop-again : tie.Need-loop-again Inv-loop μ-loop
-loop-again c =
-    let k = c .before .before .before .before .before .before in
-    let i = k .before .before .before .loop .inv in
-    let a = k .before .before .before .before .before .before .before .before .before in
-    let e = next-miss _ _ _ _ _ _ _ _ _ (i .0) _ (k .before .before .least .ensures) (k .before .if1 .left) _ (k .upper .ensures) (a .args .q) (c .before .before .before .before .if2 .left) in
-    (record { good0 = c .before .before .before .step .ensures .0; good1 = c .before .before .step2 .ensures .0; good2 = c .before .step3 .ensures .0; good3 = c .step4 .ensures .0 }, rw (c .before .before .before .step .ensures .1, c .before .before .step2 .ensures .1, c .before .step3 .ensures .1, c .step4 .ensures .1) (sym e ∙ i .1))
+returns-2 : tie.Need-returns-2
+returns-2 c = rw (← c .before .before .before .before .before .before .before .deepest-last .ensures .shows _) (next-some _ _ _ _ (c .before .before .before .before .before .before .enter .ensures) _ _ _ (c .before .before .before .walk-on .ensures) (c .if1 .left))
 
 pub next-from-spec : {M : Type 1} → statement M
 next-from-spec =
     tie.close
     (tie.spec
-    Inv-loop
-    μ-loop
-    cursor-from-requires
-    cursor-from-requires-2
-    cursor-from-requires-3
-    cursor-from-requires-4
-    loop-holds
-    least-requires
+    deepest-last-requires
+    enter-requires
+    slice-aggregate-walk-on
+    slice-aggregate-walk-on-2
+    walk-on-requires
     returns
-    upper-requires
-    mul-t18
-    shared-slice-read-t20
-    returns-2
-    step-requires
-    step-requires-2
-    step-requires-3
-    step-requires-4
-    loop-less
-    loop-again)
+    array-read-t16
+    cast-t17
+    array-read-t20
+    returns-2)

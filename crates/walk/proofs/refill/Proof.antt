@@ -24,10 +24,16 @@ add-t10 : tie.Need-add-t10
 add-t10 c = search needs
 
 returns : tie.Need-returns
-returns c = let a = c .before .before .before .before in refill-chunk _ _ (a .pre .0) _ (c .before .before .if1 .taken) _ _ (c .before .chunk-at .ensures) refl (c .shared-slice-known2 .given (c .before .chunk-at .result .keys) .fits)
+returns c =
+    let a = c .before .before .before .before in
+    let p = refill-chunk _ _ (a .pre .0) _ (c .before .before .if1 .taken) _ _ (c .before .chunk-at .ensures) refl (c .shared-slice-known2 .given (c .before .chunk-at .result .keys) .fits) in
+    (p .0, p .1, λ h. refl)
 
 returns-2 : tie.Need-returns-2
-returns-2 c = let a = c .before .before in refill-none _ _ (a .pre .0) _ (c .if1 .left) (a .pre .1)
+returns-2 c =
+    let a = c .before .before in
+    let p = refill-none _ _ (a .pre .0) _ (c .if1 .left) (a .pre .1) in
+    (p .0, p .1, λ h. absurd (omega (arith, c .if1 .left)))
 
 pub refill-spec : {M : Type 1} → statement M
 refill-spec =

@@ -1,0 +1,261 @@
+//! Histories: a store that is formatted, then random puts, deletes and look ups of
+//! the library and of the reference side by side, with stretches between them.
+//! Beside both stands a plain map that is fed with the accepted puts and deletes,
+//! and every stretch is held to it too, and every walk: stretches from a first to a
+//! last key, each resumed one above the last key that was written, till none follow.
+
+use crate::calls::{Answer, Call, Oracle, Store};
+use crate::compare::{Bench, Difference, Piece};
+use crate::maker::{Maker, Size};
+use crate::stretches::{ends, rooms, Stretches};
+use reference::generate::Stream;
+use reference::geometry::Geometry;
+use reference::random::Random;
+use reference::script::Line;
+use std::collections::BTreeMap;
+use std::fmt;
+
+/// What was found, and all that is needed to see it again.
+#[derive(Debug)]
+pub struct Report {
+    pub seed: u64,
+    pub history: u64,
+    pub numbers: [u32; 6],
+    /// Puts, deletes and look ups before it.
+    pub calls: usize,
+    pub difference: Difference,
+}
+
+impl fmt::Display for Report {
+    fn fmt(&self, out: &mut fmt::Formatter) -> fmt::Result {
+        writeln!(out, "DIFFERENCE: {}", self.difference)?;
+        writeln!(out, "geometry  {:?}, call {}", self.numbers, self.calls)?;
+        writeln!(out, "seed      {}, history {}", self.seed, self.history)?;
+        write!(
+            out,
+            "repeat    walks --repeat {} {}",
+            self.seed, self.history
+        )
+    }
+}
+
+/// What all histories have been through.
+#[derive(Clone, Debug, Default)]
+pub struct Counts {
+    pub histories: u64,
+    /// Stores of more than 16,384 words.
+    pub large: u64,
+    /// Puts, deletes and look ups; puts turned down for 5; merges.
+    pub calls: u64,
+    pub full: u64,
+    pub merges: u64,
+    pub stretches: Stretches,
+    /// Walks, their stretches and their records.
+    pub walks: u64,
+    pub steps: u64,
+    pub records: u64,
+}
+
+impl fmt::Display for Counts {
+    fn fmt(&self, out: &mut fmt::Formatter) -> fmt::Result {
+        writeln!(out, "histories        {:>10}", self.histories)?;
+        writeln!(out, "  over 16384     {:>10}", self.large)?;
+        writeln!(out, "  changes, looks {:>10}", self.calls)?;
+        writeln!(out, "  merges         {:>10}", self.merges)?;
+        writeln!(out, "  refused for 5  {:>10}", self.full)?;
+        writeln!(out, "{}", self.stretches)?;
+        writeln!(out, "walks            {:>10}", self.walks)?;
+        writeln!(out, "  stretches      {:>10}", self.steps)?;
+        write!(out, "  records        {:>10}", self.records)
+    }
+}
+
+/// Histories under way.
+pub struct Walks<'a> {
+    /// Who is asked, in turn from history to history.
+    asked: Vec<&'a dyn Store>,
+    seed: u64,
+    maker: Maker,
+    bench: Bench,
+    pub counts: Counts,
+}
+
+impl<'a> Walks<'a> {
+    /// Histories with this seed.
+    pub fn new(asked: Vec<&'a dyn Store>, seed: u64) -> Walks<'a> {
+        Walks {
+            asked,
+            seed,
+            maker: Maker::new(),
+            bench: Bench::new(),
+            counts: Counts::default(),
+        }
+    }
+
+    /// One history, which depends on nothing but the seed and its number.
+    pub fn history(&mut self, number: u64) -> Result<(), Box<Report>> {
+        let start = Random::new(self.seed.wrapping_add(number.wrapping_mul(0x9e37_79b9))).bits();
+        let mut random = Random::new(start);
+        let (geometry, size) = self.maker.geometry(&mut random);
+        self.counts.histories += 1;
+        self.counts.large += u64::from(geometry.length() > 16_384);
+        let mut history = History {
+            store: self.asked[number as usize % self.asked.len()],
+            oracle: match size {
+                Size::Medium | Size::Large => Oracle::Fast,
+                Size::Tiny | Size::Small => Oracle::Plain,
+            },
+            bench: &mut self.bench,
+            counts: &mut self.counts,
+            map: BTreeMap::new(),
+            calls: 0,
+        };
+        history.run(&mut random, geometry).map_err(|difference| {
+            Box::new(Report {
+                seed: self.seed,
+                history: number,
+                numbers: geometry.numbers(),
+                calls: history.calls,
+                difference,
+            })
+        })
+    }
+}
+
+/// A stretch of a map, cut at this length.
+fn cut(map: &BTreeMap<u32, u32>, first: u32, last: u32, room: usize) -> Piece {
+    if first > last {
+        return (Vec::new(), false);
+    }
+    let mut rest = map
+        .range(first..=last)
+        .map(|(&key, &payload)| (key, payload));
+    let records = rest.by_ref().take(room).collect();
+    (records, rest.next().is_some())
+}
+
+/// The records of a stretch, if they are those of the map.
+pub fn same(
+    map: &BTreeMap<u32, u32>,
+    first: u32,
+    last: u32,
+    rooms: [usize; 2],
+    got: Piece,
+) -> Result<Piece, Difference> {
+    let right = cut(map, first, last, rooms[0].min(rooms[1]));
+    if got == right {
+        return Ok(got);
+    }
+    let call = Call::Stretch { first, last, rooms };
+    Err(Difference::Map { call, got, right })
+}
+
+/// A history under way.
+struct History<'a> {
+    store: &'a dyn Store,
+    oracle: Oracle,
+    bench: &'a mut Bench,
+    counts: &'a mut Counts,
+    map: BTreeMap<u32, u32>,
+    calls: usize,
+}
+
+impl History<'_> {
+    /// All of it.
+    fn run(&mut self, random: &mut Random, geometry: Geometry) -> Result<(), Difference> {
+        let limit = geometry.key_limit();
+        self.bench.load(&vec![random.word(); geometry.length()]);
+        self.call(Call::Format(geometry.numbers()))?;
+        let mut stream = Stream::new(random, geometry, Vec::new());
+        let most = (3 * limit + 40).min(3000);
+        for _ in 0..random.below(most) {
+            match stream.call(random) {
+                Line::Put(key, payload) => {
+                    if self.call(Call::Put(key, payload))?.reason() == 0 {
+                        self.map.insert(key, payload);
+                    }
+                }
+                Line::Delete(key) => {
+                    if self.call(Call::Delete(key))?.reason() == 0 {
+                        self.map.remove(&key);
+                    }
+                }
+                Line::Get(key) => drop(self.call(Call::LookUp(key))?),
+                Line::Format(_) => {}
+            }
+            self.calls += 1;
+            if random.one_in(4) {
+                let (first, last) = self.ends(random);
+                let rooms = rooms(random, self.map.len());
+                self.stretch(first, last, rooms)?;
+            }
+            if random.one_in(40) {
+                let (first, last) = self.ends(random);
+                self.walk(random, first, last)?;
+            }
+        }
+        self.walk(random, 0, u32::MAX)
+    }
+
+    /// A call that changes the store or looks a key up.
+    fn call(&mut self, call: Call) -> Result<Answer, Difference> {
+        let answer = self.bench.go_on(self.store, call, self.oracle)?;
+        self.counts.calls += 1;
+        self.counts.full += u64::from(answer.reason() == 5);
+        self.counts.merges += u64::from(answer.merges());
+        Ok(answer)
+    }
+
+    /// A key to ask for: one of the map or next to one, an extreme, or any word.
+    fn key(&self, random: &mut Random) -> u32 {
+        match random.below(8) {
+            0 => random.pick(&[0, 1, u32::MAX, u32::MAX - 1]),
+            1 => random.word() >> random.below(32),
+            _ => {
+                let key = self.map.keys().nth(random.below(self.map.len()));
+                let near = random.pick(&[0, 0, 1, u32::MAX]);
+                key.copied().unwrap_or(9).wrapping_add(near)
+            }
+        }
+    }
+
+    /// The first and the last key of a stretch.
+    fn ends(&self, random: &mut Random) -> (u32, u32) {
+        let keys = [self.key(random), self.key(random)];
+        ends(random, keys)
+    }
+
+    /// One stretch, held to the reference and to the map.
+    fn stretch(&mut self, first: u32, last: u32, rooms: [usize; 2]) -> Result<Piece, Difference> {
+        let call = Call::Stretch { first, last, rooms };
+        let answer = self.bench.go_on(self.store, call, self.oracle)?;
+        self.counts.stretches.count(answer);
+        let more = matches!(answer, Answer::Stretched([0, _, 1]));
+        let got = (self.bench.records(answer), more);
+        same(&self.map, first, last, rooms, got)
+    }
+
+    /// A walk over a stretch with room of any length. One that has no room at a time
+    /// stays where it is.
+    fn walk(&mut self, random: &mut Random, first: u32, last: u32) -> Result<(), Difference> {
+        let live = self.map.len();
+        let most = random.pick(&[2, 7, live / 2 + 1, live + 1]).max(live / 16);
+        let (mut from, mut walked) = (first, Vec::new());
+        loop {
+            let [room, other] = [0; 2].map(|_| random.below(most + 1));
+            let rooms = [room, random.pick(&[room, room, other])];
+            let (records, more) = self.stretch(from, last, rooms)?;
+            self.counts.steps += 1;
+            walked.extend(records);
+            if !more {
+                break;
+            }
+            // The map has a further key up to `last`, so this one has a word above it.
+            from = walked.last().map_or(first, |&(key, _)| key + 1);
+        }
+        self.counts.walks += 1;
+        self.counts.records += walked.len() as u64;
+        same(&self.map, first, last, [usize::MAX; 2], (walked, false))?;
+        Ok(())
+    }
+}
