@@ -8,13 +8,14 @@ use lib.Dec.{ltb}
 use lib.ListN.{length, take, drop, length-map, length-drop}
 use lib.Seq.{length-take-le, drop-drop}
 use borrow.Author.Tests.{lt-ltb, le-ltb, le-leb, lt-leb, ltb-true, ltb-false}
+use Rattle.slices.specs.Ranks.{Rising, countBelow}
 use Rattle.levels.specs.Record.{Block, Level, firstKey, lastKey}
 use Rattle.levels.specs.Choose.{loOf, hiOf, below, notAbove, cutAt}
 use Rattle.choice.specs.declared.Stretch.{Stretch}
-use Rattle.choice.specs.Fences.{Fence, fenceOf, fencesFrom, fencesOf, Ordered, countBelow, countAtMost, Rising, firstKeys, lastKeys, stretchOf}
+use Rattle.choice.specs.Fences.{Fence, fenceOf, fencesFrom, fencesOf, Ordered, countAtMost, firstKeys, lastKeys, stretchOf}
+use Rattle.slices.proofs.Ranks.{count-in, count-none, count-high, count-drop, rising-drop}
 use Rattle.levels.proofs.Lists.{map-take, map-drop}
 use Rattle.choice.proofs.Lists.{map-of-map}
-use Rattle.choice.proofs.Count.{count-in, count-none, count-high, count-drop, rising-drop}
 use Rattle.choice.proofs.Levels.{low-fences, high-fences}
 use Rattle.choice.proofs.Order.{lasts-rise, firsts-rise, stretch-order, ordered-take, ordered-drop}
 use Rattle.choice.proofs.Keys.{run-from}

@@ -4,8 +4,9 @@ use mathlib.Core.Path.{_≡_, refl, _∙_}
 use mathlib.Core.List.{List, map}
 use native.Mathlib.Omega.{arith}
 use lib.ListN.{length, getD, take, drop}
+use Rattle.slices.specs.Ranks.{Rising, countBelow}
 use Rattle.levels.specs.Record.{Level}
-use Rattle.choice.specs.Fences.{Fence, fenceOf, fenceAt, fencesFrom, fencesOf, Ordered, Fenced, lowOf, highOf, countBelow, countAtMost, Rising, firstKeys, lastKeys, stretchOf}
+use Rattle.choice.specs.Fences.{Fence, fenceOf, fenceAt, fencesFrom, fencesOf, Ordered, Fenced, lowOf, highOf, countAtMost, firstKeys, lastKeys, stretchOf}
 use Rattle.words.proofs.Each.{length-each, each-take, each-drop, map-each, each-getD}
 use Rattle.choice.proofs.Order.{lasts-rise, firsts-rise, ordered-drop, ordered-take}
 

@@ -1,5 +1,4 @@
 pub mod Lists
-pub mod Count
 pub mod Levels
 pub mod Order
 pub mod Keys

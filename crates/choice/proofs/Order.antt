@@ -7,9 +7,10 @@ use native.Mathlib.Omega.{arith}
 use lib.Dec.{leb, ltb}
 use lib.ListN.{length, take, drop}
 use borrow.Author.Tests.{leb-true, leb-false, ltb-true, ltb-false}
+use Rattle.slices.specs.Ranks.{Rising, countBelow}
 use Rattle.levels.specs.Basics.{if_then_else_}
-use Rattle.choice.specs.Fences.{Fence, Ordered, lowOf, highOf, countOver, fenceOverlap, countBelow, countAtMost, Rising, firstKeys, lastKeys, stretchOf}
-use Rattle.choice.proofs.Count.{count-in, count-out, count-none, rising-weak}
+use Rattle.choice.specs.Fences.{Fence, Ordered, lowOf, highOf, countOver, fenceOverlap, countAtMost, firstKeys, lastKeys, stretchOf}
+use Rattle.slices.proofs.Ranks.{count-in, count-out, count-none, rising-weak}
 
 pub lasts-rise : (low : ℕ) (fs : List Fence) → Ordered low fs → Rising low (lastKeys fs)
 lasts-rise low [] o = tt

@@ -4,6 +4,7 @@ use mathlib.Core.Bool.{_&&_}
 use mathlib.Core.List.{List, [], _∷_, _++_, map}
 use lib.Dec.{leb, ltb}
 use lib.ListN.{length, take, drop, getD}
+use Rattle.slices.specs.Ranks.{countBelow}
 use Rattle.geometry.specs.declared.Geometry.{Geometry}
 use Rattle.levels.specs.Basics.{if_then_else_}
 use Rattle.levels.specs.Record.{Block, firstKey, lastKey, new, pages}
@@ -81,19 +82,9 @@ choiceOf l = record { first = l .at; overlap = l .value }
 abbrev pub better : Choice → ℕ → ℕ → Choice
 better c i q = if ltb q (c .overlap) then record { first = i; overlap = q } else c
 
--- how many numbers of a list are below a bound
-unfoldable pub countBelow : ℕ → List ℕ → ℕ
-countBelow bound [] = 0
-countBelow bound (x ∷ xs) = if ltb x bound then suc (countBelow bound xs) else countBelow bound xs
-
--- how many are at most a key: those below the number after it
+-- how many numbers of a list are at most a key: those below the number after it
 abbrev pub countAtMost : ℕ → List ℕ → ℕ
 countAtMost key xs = countBelow (suc key) xs
-
--- the list rises strictly from `low` on
-abbrev pub Rising : ℕ → List ℕ → Type 0
-Rising low [] = Unit {0}
-Rising low (x ∷ xs) = (low ≤ x) × Rising (suc x) xs
 
 abbrev pub firstKeys : List Fence → List ℕ
 firstKeys fs = map (λ (f : Fence). f .first) fs

@@ -5,9 +5,10 @@
 ghost use mathlib.Core.Path.{_≡_};
 ghost use Prim.Native.Nat.{ℕ, _+_, _*_, _≤_, _<_};
 ghost use lib.ListN.{length, take};
+ghost use Rattle.slices.specs.Ranks.{Rising, countBelow};
 ghost use Rattle.geometry.specs.Geometry.{Valid, storeLength, topCapacityOf};
 ghost use Rattle.words.specs.Layout.{word, topCountAt};
-ghost use Rattle.choice.specs.Fences.{Fenced, Rising, fencesFrom, fencesOf, chooseFences, choiceOf, better, countBelow, countAtMost, fenceOverlap, stretchOf, fill, listedFence, pageFence, Readable};
+ghost use Rattle.choice.specs.Fences.{Fenced, fencesFrom, fencesOf, chooseFences, choiceOf, better, countAtMost, fenceOverlap, stretchOf, fill, listedFence, pageFence, Readable};
 use geometry::Geometry;
 
 // The chosen run: the index of its first block, and the number of blocks below that it overlaps.
@@ -22,39 +23,20 @@ pub struct Stretch {
     pub end: usize,
 }
 
-// How many of the first n keys are below a bound. The keys rise, so halving finds where they pass it.
-fn count_below(keys: &[u32], n: usize, bound: usize) -> usize
-    requires { ⌜ (n ≤ length (now keys)) × Rising 0 (take n (now keys)) ⌝ }
-    ensures { λ r. ⌜ r ≡ countBelow bound (take n (now (keys .entry))) ⌝ }
-{
-    let mut low: usize = 0;
-    let mut high = n;
-    while low < high {
-        let mid = low + (high - low) / 2;
-        let key = keys[mid] as usize;
-        if key < bound {
-            low = mid + 1;
-        } else {
-            high = mid;
-        }
-    }
-    low
-}
-
-// How many of the first n blocks end below a key.
+// How many of the first n blocks end below a key: its rank among their last keys.
 pub fn ends_below(lasts: &[u32], n: usize, key: u32) -> usize
     requires { ⌜ (n ≤ length (now lasts)) × Rising 0 (take n (now lasts)) ⌝ }
     ensures { λ r. ⌜ r ≡ countBelow key (take n (now (lasts .entry))) ⌝ }
 {
-    count_below(lasts, n, key as usize)
+    slices::rank_of(lasts, 0, n, key as usize).below
 }
 
-// How many of the first n blocks do not start above a key.
+// How many of the first n blocks do not start above a key: the rank of the number after it among their first keys.
 pub fn starts_at_most(firsts: &[u32], n: usize, key: u32) -> usize
     requires { ⌜ (n ≤ length (now firsts)) × Rising 0 (take n (now firsts)) ⌝ }
     ensures { λ r. ⌜ r ≡ countAtMost key (take n (now (firsts .entry))) ⌝ }
 {
-    count_below(firsts, n, key as usize + 1)
+    slices::rank_of(firsts, 0, n, key as usize + 1).below
 }
 
 // The blocks below that a run of w blocks overlaps; where it overlaps none, the gap that its keys lie in.

@@ -33,7 +33,7 @@ slots-recs ws c j (suc n) =
     let v : suc (c .pays + j) ≡ c .pays + suc j = omega arith in
     rw (halved (getD ws (c .marks) 0) j, k, v, slots-recs ws c (suc j) n)
 
-chunk-slots : (ws : List ℕ) (c : Chunk) (n : ℕ) → slotsAt ws (getD ws (c .marks) 0) (c .keys) (c .pays) n ≡ recsFrom ws c 0 n
+pub chunk-slots : (ws : List ℕ) (c : Chunk) (n : ℕ) → slotsAt ws (getD ws (c .marks) 0) (c .keys) (c .pays) n ≡ recsFrom ws c 0 n
 chunk-slots ws c n =
     let m : getD ws (c .marks) 0 / 2 ^ 0 ≡ getD ws (c .marks) 0 = omega arith in
     let k : c .keys + 0 ≡ c .keys = omega arith in
@@ -49,7 +49,7 @@ stored-block g ws q h =
     rw (e, slots-take ws (markWordAt g ws q) (placeStart g q + 2) (placeStart g q + 2 + g .b) (recordCount g ws q) (g .b) h) (ap (λ (rs : List Rec). record { place = some q; recs = rs }) (sym (rw e at c)))
 
 -- a page of level 0
-page-block : (g : Geometry) (ws : List ℕ) (i : ℕ) → blockOf ws (pageChunk (layoutOf g) i) ≡ pageAt g ws i
+pub page-block : (g : Geometry) (ws : List ℕ) (i : ℕ) → blockOf ws (pageChunk (layoutOf g) i) ≡ pageAt g ws i
 page-block g ws i = ap new (sym (chunk-slots ws (pageChunk (layoutOf g) i) (g .b)))
 
 -- the blocks of a list

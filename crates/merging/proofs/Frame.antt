@@ -23,7 +23,7 @@ use Rattle.stream.specs.Machine.{Memory, flushed, writtenAt, append, gathered, 
 use Rattle.levels.proofs.Basics.{if-either}
 use Rattle.merging.proofs.Relation.{nextFree, Stands, Listed, SideAt}
 use Rattle.sides.specs.declared.Chunk.{Chunk}
-use Rattle.merging.proofs.Blocks.{blockOf, storedAt, countAt, blocks, beginWith, side}
+use Rattle.merging.proofs.Blocks.{recsFrom, blockOf, storedAt, countAt, blocks, beginWith, side}
 use Rattle.merging.proofs.Words.{written-other, written-low, written-length, recs-agree}
 
 -- the words of places in use and those before the places are as they were
@@ -152,8 +152,11 @@ module _ (z : Layout) (a b : Memory) (sized : Sized z (a .words)) (k : Same z a 
   chunk-agree true list i s = page-agree i (s .page refl)
   chunk-agree false list i s = stored-agree (getD list i 0) (s .taken refl)
 
+  agree-recs : (c e : Chunk) → c .n ≤ z .b → Agree c e → recsFrom (b .words) c 0 (c .n) ≡ recsFrom (a .words) c 0 (c .n)
+  agree-recs c e h g = recs-agree (b .words) (a .words) c 0 (c .n) (g .marks) (λ i l. g .recs i (omega arith))
+
   agree-block : (c e : Chunk) → c .n ≤ z .b → Agree c e → blockOf (b .words) e ≡ blockOf (a .words) c
-  agree-block c e h g = rw (g .is, recs-agree (b .words) (a .words) c 0 (c .n) (g .marks) (λ i l. g .recs i (omega arith)))
+  agree-block c e h g = rw (g .is, agree-recs c e h g)
 
   pub block-same : (q : ℕ) → getD (a .used) q false ≡ true → countAt z (a .words) q ≤ z .b → storedAt z (b .words) q ≡ storedAt z (a .words) q
   block-same q u h = agree-block (blockChunk z (a .words) q) (blockChunk z (b .words) q) h (stored-agree q u)
@@ -168,7 +171,7 @@ module _ (z : Layout) (a b : Memory) (sized : Sized z (a .words)) (k : Same z a 
         place = s .place;
         taken = λ e. k .used (getD list i 0) (s .taken e);
         page = s .page;
-        formed = rw (g .is) (record { low = s .formed .low; high = s .formed .high; bits = rw (g .marks) (s .formed .bits) });
+        formed = rw (g .is) (record { low = s .formed .low; high = s .formed .high; bits = rw (g .marks) (s .formed .bits); rises = rw (agree-recs _ _ (s .formed .high) g) (s .formed .rises) });
       }
 
   pub listed-kept : (pages : Bool) (list : List ℕ) (end : ℕ) → Listed z pages a list end → Listed z pages b list end

@@ -19,7 +19,7 @@ use Rattle.levels.specs.Merge.{Out, headRec, endsBelow, apart, reusable}
 use Rattle.blocks.specs.declared.Layout.{Layout}
 use Rattle.sides.specs.declared.Chunk.{Chunk}
 use Rattle.sides.specs.declared.Head.{Head}
-use Rattle.sides.specs.Sides.{headAt, follows}
+use Rattle.sides.specs.Sides.{headAt, wholeBelow, follows}
 use Rattle.merging.proofs.Relation.{Formed, headSize}
 use Rattle.merging.proofs.Blocks.{recsFrom, blockOf, begun}
 
@@ -65,30 +65,30 @@ recs-tombstone ws c j (suc n) h = go (getD ws (c .marks) 0 / 2 ^ j) refl (recs-t
         cases (suc r) e = rw (eq-eqb (m % 2) 1 (omega arith), ne-eqb m 0 (λ f. omega arith))
 
 -- what a head shows of the blocks that are left
-pub record Shows (h : Head) (b : Block) : Type 0 where
+pub record Shows (ws : List ℕ) (h : Head) (b : Block) : Type 0 where
   pub there : h .some ≡ true
   pub whole : h .whole ≡ placed b
   pub key : h .key ≡ firstKey (b .recs)
-  pub last : h .last ≡ lastKey (b .recs)
+  pub last : getD ws (h .keys + (h .n - 1)) 0 ≡ lastKey (b .recs)
   pub head : headRec b ≡ record { key = h .key; tombstone = eqb (h .tombstone) 1; pay = h .pay }
   pub filled : 1 ≤ size b
   pub place : h .whole ≡ true → b .place ≡ some (h .place)
   pub n : h .whole ≡ true → h .n ≡ size b
   pub marks : h .whole ≡ true → hasTombstone (b .recs) ≡ not (eqb (h .marks) 0)
 
-pub data Sees : Head → Level → Type 0 where
-  nothing : {h : Head} → h .some ≡ false → Sees h []
-  block : {h : Head} {b : Block} {bs : Level} → Shows h b → Sees h (b ∷ bs)
+pub data Sees (ws : List ℕ) : Head → Level → Type 0 where
+  nothing : {h : Head} → h .some ≡ false → Sees ws h []
+  block : {h : Head} {b : Block} {bs : Level} → Shows ws h b → Sees ws h (b ∷ bs)
 
 div-one : (n : ℕ) → n / 2 ^ 0 ≡ n
 div-one n = omega arith
 
 -- the next record of a chunk shows what is left of its block
-pub shows-at : (z : Layout) (ws : List ℕ) (c : Chunk) (j : ℕ) → Formed z ws c → j < c .n → Shows (headAt ws c j) (begun j (blockOf ws c))
+pub shows-at : (z : Layout) (ws : List ℕ) (c : Chunk) (j : ℕ) → Formed z ws c → j < c .n → Shows ws (headAt ws c j) (begun j (blockOf ws c))
 unfolding recsFrom
 shows-at z ws c zero f l = go (c .n) (c .listed) refl refl (f .low)
   where
-    go : (n : ℕ) (t : Bool) → c .n ≡ n → c .listed ≡ t → 1 ≤ n → Shows (record { some = true; whole = t && true; key = getD ws (c .keys + 0) 0; tombstone = getD ws (c .marks) 0 / 2 ^ 0 % 2; pay = getD ws (c .pays + 0) 0; last = getD ws (c .keys + (n - 1)) 0; marks = getD ws (c .marks) 0; n = n; place = c .place }) (record { place = if t then some (c .place) else none; recs = recsFrom ws c 0 n })
+    go : (n : ℕ) (t : Bool) → c .n ≡ n → c .listed ≡ t → 1 ≤ n → Shows ws (record { some = true; whole = t && true; key = getD ws (c .keys + 0) 0; tombstone = getD ws (c .marks) 0 / 2 ^ 0 % 2; pay = getD ws (c .pays + 0) 0; marks = getD ws (c .marks) 0; keys = c .keys; pays = c .pays; n = n; place = c .place }) (record { place = if t then some (c .place) else none; recs = recsFrom ws c 0 n })
     go zero t e g l = absurd (omega arith)
     go (suc n) t e g l =
         record {
@@ -113,7 +113,7 @@ shows-at z ws c zero f l = go (c .n) (c .listed) refl refl (f .low)
 shows-at z ws c (suc j) f l =
     rw recs-drop (go (c .n - suc j) refl)
   where
-    go : (n : ℕ) → c .n - suc j ≡ n → Shows (headAt ws c (suc j)) (new (recsFrom ws c (0 + suc j) n))
+    go : (n : ℕ) → c .n - suc j ≡ n → Shows ws (headAt ws c (suc j)) (new (recsFrom ws c (0 + suc j) n))
     go zero e = absurd (omega arith)
     go (suc n) e =
         let v : 0 + suc j ≡ suc j = omega arith in
@@ -130,9 +130,9 @@ shows-at z ws c (suc j) f l =
           marks = λ w. absurd (true≢false (sym w ∙ u));
         })
 
-ends-same : (k : ℕ) (o : Head) (l : Level) → Sees o l → endsBelow k l ≡ (not (o .some) || ltb k (o .key))
-ends-same k o [] (nothing e) = rw e
-ends-same k o (b ∷ bs) (block s) = rw (s .there, s .key)
+ends-same : (ws : List ℕ) (k : ℕ) (o : Head) (l : Level) → Sees ws o l → endsBelow k l ≡ (not (o .some) || ltb k (o .key))
+ends-same ws k o [] (nothing e) = rw e
+ends-same ws k o (b ∷ bs) (block s) = rw (s .there, s .key)
 
 apart-same : (B n : ℕ) (done : Level) → 1 ≤ n → apart B n done ≡ ltb B (headSize B done + n)
 apart-same B n [] h = sym (lt-ltb B (B + n) (omega arith))
@@ -152,16 +152,16 @@ off true v x = refl
 off false v x = refl
 
 -- the test on heads is the definition's test
-pub follows-same : (z : Layout) (bottom : Bool) (h o : Head) (b : Block) (l : Level) (out : Out) (e : ℕ) → Shows h b → Sees o l → e ≡ headSize (z .b) (out .done)
-    → follows z bottom h o (length (out .buffer)) e ≡ reusable (z .b) bottom out l b
-unfolding follows
-follows-same z bottom h o b l out e s t d = go (h .whole) refl (out .buffer) (out .done) d
+pub follows-same : (z : Layout) (bottom : Bool) (ws : List ℕ) (h o : Head) (b : Block) (l : Level) (out : Out) (e : ℕ) → Shows ws h b → Sees ws o l → e ≡ headSize (z .b) (out .done)
+    → follows z bottom ws h o (length (out .buffer)) e ≡ reusable (z .b) bottom out l b
+unfolding follows wholeBelow
+follows-same z bottom ws h o b l out e s t d = go (h .whole) refl (out .buffer) (out .done) d
   where
-    go : (w : Bool) → h .whole ≡ w → (buf : List Rec) (done : Level) → e ≡ headSize (z .b) done → follows z bottom h o (length buf) e ≡ reusable (z .b) bottom (record { buffer = buf; done = done }) l b
+    go : (w : Bool) → h .whole ≡ w → (buf : List Rec) (done : Level) → e ≡ headSize (z .b) done → follows z bottom ws h o (length buf) e ≡ reusable (z .b) bottom (record { buffer = buf; done = done }) l b
     go false w buf done d = rw (← s .whole, w) (if-same (eqb (length buf) 0) ∙ sym (off (endsBelow (lastKey (b .recs)) l) _ _))
     go true w [] done d =
-        rw (← s .whole, w, ends-same (lastKey (b .recs)) o l t, s .marks w, s .n w, s .last, d, apart-same (z .b) (size b) done (s .filled))
+        rw (← s .whole, w, ends-same ws (lastKey (b .recs)) o l t, s .last, s .marks w, s .n w, d, apart-same (z .b) (size b) done (s .filled))
         (regroup (not (o .some) || ltb (lastKey (b .recs)) (o .key)) (not (bottom && not (eqb (h .marks) 0))) (ltb (z .b) (headSize (z .b) done + size b)))
     go true w (r ∷ rs) done d =
-        rw (ne-eqb (length (r ∷ rs)) 0 (λ f. omega arith), ← s .whole, w, ends-same (lastKey (b .recs)) o l t, s .marks w, s .n w, s .last, d, apart-same (z .b) (length (r ∷ rs)) done (omega arith))
+        rw (ne-eqb (length (r ∷ rs)) 0 (λ f. omega arith), ← s .whole, w, ends-same ws (lastKey (b .recs)) o l t, s .last, s .marks w, s .n w, d, apart-same (z .b) (length (r ∷ rs)) done (omega arith))
         (regroup (not (o .some) || ltb (lastKey (b .recs)) (o .key)) (not (bottom && not (eqb (h .marks) 0))) (ltb (z .b) (length (r ∷ rs) + size b) && ltb (z .b) (headSize (z .b) done + length (r ∷ rs))))

@@ -1,6 +1,6 @@
 -- The whole merge: what it asks of the store gives all that its steps ask, and what it leaves is what levels' merge and settle say.
 use Prim.Native.Nat.{ℕ, zero, suc, _+_, _-_, _*_, _≤_, _<_}
-use mathlib.Core.Path.{_≡_, sym, ap, _∙_, refl}
+use mathlib.Core.Path.{_≡_, sym, ap, _∙_, refl, subst}
 use mathlib.Core.Bool.{Bool, true, false, true≢false}
 use mathlib.Core.List.{List, []}
 use mathlib.Core.Logic.{dite}
@@ -12,22 +12,24 @@ use lib.Seq.{getD-set-same, getD-set-other}
 use Rattle.geometry.specs.declared.Geometry.{Geometry}
 use Rattle.geometry.specs.Geometry.{placeStart}
 use Rattle.levels.specs.Basics.{iterate}
-use Rattle.levels.specs.Record.{Level, size, records}
+use Rattle.levels.specs.Record.{Block, Level, size, records}
+use Rattle.levels.specs.Rising.{Rising}
 use Rattle.levels.specs.Merge.{State, step}
 use Rattle.levels.specs.Place.{Allocation, Settled, settle}
+use Rattle.words.specs.Layout.{blockAt}
 use Rattle.blocks.specs.declared.Layout.{Layout}
 use Rattle.blocks.specs.Blocks.{Sized, layoutOf, Marks}
 use Rattle.blocks.proofs.Laws.{sized-of, start-place, free-found}
 use Rattle.stream.specs.declared.Inputs.{Inputs}
-use Rattle.sides.specs.Sides.{chunkOf}
+use Rattle.sides.specs.Sides.{chunkOf, blockChunk}
 use Rattle.stream.specs.Machine.{Memory, Ready, turns, idle}
 use Rattle.stream.proofs.Laws.{idle-of}
 use Rattle.joins.specs.Joins.{restedOut, joinedUp, closed, Closable}
 use Rattle.merging.specs.declared.Cut.{Cut}
 use Rattle.merging.proofs.Blocks.{blockOf, blocks, side, layAll}
-use Rattle.merging.proofs.Relation.{Stands, Listed, Holds, Core, Begun, flashOf, start, merged}
+use Rattle.merging.proofs.Relation.{Formed, Stands, Listed, Holds, Core, Begun, flashOf, start, merged}
 use Rattle.merging.proofs.Relation as relation
-use Rattle.merging.specs.Contract.{blocksOf, runOf, mergeOf, ListedBlock, FullPage, Mergeable, Leaves, inputsOf, beginOf, limitOf}
+use Rattle.merging.specs.Contract.{pageAt, blocksOf, runOf, mergeOf, ListedBlock, FullPage, Mergeable, Leaves, inputsOf, beginOf, limitOf}
 use Rattle.merging.proofs.Heads.{recs-length}
 use Rattle.merging.proofs.Moves.{begin-zero, side-cons}
 use Rattle.merging.proofs.Frame.{Same, listed-kept}
@@ -36,7 +38,7 @@ use Rattle.merging.proofs.Run.{begun-turns, begun-ready}
 use Rattle.merging.proofs.Close.{rested-length, flushed-out}
 use Rattle.merging.proofs.Whole.{turns-same, merge-laid}
 use Rattle.merging.proofs.Begin.{begin-holds, begin-tail}
-use Rattle.merging.proofs.Decode.{blocks-listed, blocks-run}
+use Rattle.merging.proofs.Decode.{stored-block, page-block, blocks-listed, blocks-run}
 use Rattle.merging.proofs.Settle.{NewFit}
 use Rattle.merging.proofs.Leaving.{leaves-of}
 use Rattle.merging.proofs.Steps.{steps-fit, reverse-fit, merge-fit, Filled, left, steps-end, steps-enough}
@@ -86,15 +88,21 @@ listed-fit B z ws list i zero = tt
 listed-fit B z ws list i (suc n) = (λ e. absurd (true≢false e), listed-fit B z ws list (suc i) n)
 
 -- what stands in the store stands for the machine
-stored-stands : (g : Geometry) (ws : List ℕ) (used : List Bool) (list : List ℕ) (k : ℕ) → ListedBlock g ws used (getD list k 0) → Stands (layoutOf g) false ws used list k
+stored-stands : (g : Geometry) (ws : List ℕ) (used : List Bool) (list : List ℕ) (k : ℕ) → ListedBlock g ws used (getD list k 0) → Rising 0 (blockAt g ws (getD list k 0) .recs) → Stands (layoutOf g) false ws used list k
 unfolding chunkOf
-stored-stands g ws used list k b =
-    record { place = λ _. b .place; taken = λ _. b .taken; page = λ e. absurd (true≢false (sym e)); formed = rw (start-place g (getD list k 0)) (record { low = b .low; high = b .high; bits = b .bits }) }
+stored-stands g ws used list k b r =
+    let f : Formed (layoutOf g) ws (blockChunk (layoutOf g) ws (getD list k 0)) = record {
+      low = rw (start-place g (getD list k 0)) (b .low);
+      high = rw (start-place g (getD list k 0)) (b .high);
+      bits = rw (start-place g (getD list k 0)) (b .bits);
+      rises = rw (← stored-block g ws (getD list k 0) (b .high)) at r;
+    } in
+    record { place = λ _. b .place; taken = λ _. b .taken; page = λ e. absurd (true≢false (sym e)); formed = f }
 
-page-stands : (g : Geometry) (ws : List ℕ) (used : List Bool) (list : List ℕ) (k : ℕ) → 1 ≤ g .b → FullPage g ws k → Stands (layoutOf g) true ws used list k
+page-stands : (g : Geometry) (ws : List ℕ) (used : List Bool) (list : List ℕ) (k : ℕ) → 1 ≤ g .b → FullPage g ws k → Rising 0 (pageAt g ws k .recs) → Stands (layoutOf g) true ws used list k
 unfolding chunkOf
-page-stands g ws used list k h b =
-    record { place = λ e. absurd (true≢false e); taken = λ e. absurd (true≢false e); page = λ _. b .low; formed = record { low = h; high = le-refl (g .b); bits = b .bits } }
+page-stands g ws used list k h b r =
+    record { place = λ e. absurd (true≢false e); taken = λ e. absurd (true≢false e); page = λ _. b .low; formed = record { low = h; high = le-refl (g .b); bits = b .bits; rises = subst (λ (p : Block). Rising 0 (p .recs)) (sym (page-block g ws k)) r } }
 
 module _ (g : Geometry) (ws : List ℕ) (used : List Bool) (out xs ys : List ℕ) (c : Cut) (cursor : ℕ) (k : Mergeable g ws used out xs ys c cursor) where
   abbrev z : Layout
@@ -111,7 +119,7 @@ module _ (g : Geometry) (ws : List ℕ) (used : List Bool) (out xs ys : List ℕ
   sized = sized-of g ws (k .valid) (k .words)
 
   stands-lower : Listed z false begins ys (c .end)
-  stands-lower i h = stored-stands g ws used ys i (k .lower i h)
+  stands-lower i h = stored-stands g ws used ys i (k .lower i h) (k .lower-rises i h)
 
   lower-within : Listed z false begins ys (c .yend)
   lower-within i h = stands-lower i (let l = k .y-high in omega arith)
@@ -120,8 +128,8 @@ module _ (g : Geometry) (ws : List ℕ) (used : List Bool) (out xs ys : List ℕ
   stands-upper i h = go (c .pages) refl
     where
       go : (p : Bool) → c .pages ≡ p → Stands z p ws used xs i
-      go true e = page-stands g ws used xs i (let l = k .valid .ranged .b-low in omega arith) (k .paged e i h)
-      go false e = stored-stands g ws used xs i (k .upper e i h)
+      go true e = page-stands g ws used xs i (let l = k .valid .ranged .b-low in omega arith) (k .paged e i h) (k .paged-rises e i h)
+      go false e = stored-stands g ws used xs i (k .upper e i h) (k .upper-rises e i h)
 
   fits : c .y ≤ 4096
   fits = let a = k .y-low in let b = k .y-high in let r = k .room in omega arith
@@ -199,7 +207,7 @@ module _ (g : Geometry) (ws : List ℕ) (used : List Bool) (out xs ys : List ℕ
   y-over : c .yend ≤ ends .st .y .i
   y-over = side-over z false (ends .words) ys (ends .st .y .i) (ends .st .y .j) (c .yend) (sym (both .1 .lower) ∙ steps-end (g .b) (c .bottom) (limitOf c) state filled-upper filled-lower few-left .1)
 
-  ended : idle z t xs ys ends ≡ true
+  pub ended : idle z t xs ys ends ≡ true
   ended = idle-of z t xs ys ends x-over y-over
 
   y-at : ends .st .y .i ≡ c .yend

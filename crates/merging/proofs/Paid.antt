@@ -1,5 +1,5 @@
 -- A merge lists and writes no more than its inputs pay for: a potential on numbers, kept by every step.
-use Prim.Native.Nat.{ℕ, zero, suc, _+_, _*_, _≤_, _<_}
+use Prim.Native.Nat.{ℕ, zero, suc, _+_, _-_, _*_, _≤_, _<_}
 use mathlib.Core.Path.{_≡_, sym, ap, refl}
 use mathlib.Core.Bool.{Bool, true, false, not, _&&_, _||_, true≢false}
 use mathlib.Core.List.{List, []}
@@ -18,7 +18,7 @@ use Rattle.sides.specs.declared.Chunk.{Chunk}
 use Rattle.sides.specs.declared.Head.{Head}
 use Rattle.stream.specs.declared.Point.{Point}
 use Rattle.stream.specs.declared.Inputs.{Inputs}
-use Rattle.sides.specs.Sides.{headAt, follows}
+use Rattle.sides.specs.Sides.{headAt, wholeBelow, follows}
 use Rattle.stream.specs.Machine.{Memory, flushed, writtenAt, gathered, reused, emitted, withProgress, withBuffer, pointAfter, moved}
 use Rattle.levels.proofs.Basics.{and-left, and-right, if-either}
 use Rattle.stream.proofs.Laws.{after-one}
@@ -139,14 +139,14 @@ module _ (b end : ℕ) (p : Point) where
       after-one (λ (q : Point). Far b end p q 1 1) p n (λ g. record { list = omega arith; places = omega arith; end-high = omega arith }) (λ g. record { list = omega arith; places = omega arith; end-high = omega arith })
 
 -- a block that is reused has not been begun
-follows-start : (z : Layout) (bottom : Bool) (ws : List ℕ) (c : Chunk) (j : ℕ) (o : Head) (n e : ℕ) → follows z bottom (headAt ws c j) o n e ≡ true → j ≡ 0
-unfolding follows
+follows-start : (z : Layout) (bottom : Bool) (ws : List ℕ) (c : Chunk) (j : ℕ) (o : Head) (n e : ℕ) → follows z bottom ws (headAt ws c j) o n e ≡ true → j ≡ 0
+unfolding follows wholeBelow
 follows-start z bottom ws c j o n e f = eqb-true j 0 (and-right (c .listed) (eqb j 0) (go (eqb n 0) f))
   where
     h : Head
     h = headAt ws c j
 
-    go : (t : Bool) → (if t then (h .whole && (not (o .some) || ltb (h .last) (o .key))) && (not (bottom && not (eqb (h .marks) 0)) && ltb (z .b) (e + h .n)) else (h .whole && (not (o .some) || ltb (h .last) (o .key))) && (not (bottom && not (eqb (h .marks) 0)) && (ltb (z .b) (n + h .n) && ltb (z .b) (e + n)))) ≡ true → h .whole ≡ true
+    go : (t : Bool) → (if t then (h .whole && (not (o .some) || ltb (getD ws (h .keys + (h .n - 1)) 0) (o .key))) && (not (bottom && not (eqb (h .marks) 0)) && ltb (z .b) (e + h .n)) else (h .whole && (not (o .some) || ltb (getD ws (h .keys + (h .n - 1)) 0) (o .key))) && (not (bottom && not (eqb (h .marks) 0)) && (ltb (z .b) (n + h .n) && ltb (z .b) (e + n)))) ≡ true → h .whole ≡ true
     go true f = and-left (h .whole) _ (and-left _ _ f)
     go false f = and-left (h .whole) _ (and-left _ _ f)
 
@@ -167,20 +167,20 @@ module _ (z : Layout) (t : Inputs) (s a : Memory) (p : Paid z t s a) where
       }
 
   module _ (bottom : Bool) where
-    pub upper-paid : (c : Chunk) (o : Head) (e : ℕ) → c .n ≤ z .b → a .st .x .i < t .x → a .st .x .j < c .n → let h = headAt (a .words) c (a .st .x .j) in let r = follows z bottom h o (a .st .buf .n) e in
+    pub upper-paid : (c : Chunk) (o : Head) (e : ℕ) → c .n ≤ z .b → a .st .x .i < t .x → a .st .x .j < c .n → let h = headAt (a .words) c (a .st .x .j) in let r = follows z bottom (a .words) h o (a .st .buf .n) e in
         Paid z t s (emitted z bottom a (record { x = pointAfter (a .st .x) (c .n) r; y = a .st .y; head = h; whole = r }))
     upper-paid c o e hi g j =
         let h = headAt (a .words) c (a .st .x .j) in
-        let r = follows z bottom h o (a .st .buf .n) e in
+        let r = follows z bottom (a .words) h o (a .st .buf .n) e in
         let v = pointAfter (a .st .x) (c .n) r in
         paid-by v (a .st .y) _ (onList (z .b) r) (onPlaces (z .b) r) (onList (z .b) r) (onPlaces (z .b) r) 0 0
         (after-far (z .b) (t .x) (a .st .x) (c .n) r g j hi (follows-start z bottom (a .words) c (a .st .x .j) o (a .st .buf .n) e)) (stay-far (z .b) (t .y) (a .st .y) (p .y-end)) (omega arith) (omega arith) (emit-spent z a bottom v (a .st .y) h r)
 
-    pub lower-paid : (c : Chunk) (o : Head) (e : ℕ) → c .n ≤ z .b → a .st .y .i < t .y → a .st .y .j < c .n → let h = headAt (a .words) c (a .st .y .j) in let r = follows z bottom h o (a .st .buf .n) e in
+    pub lower-paid : (c : Chunk) (o : Head) (e : ℕ) → c .n ≤ z .b → a .st .y .i < t .y → a .st .y .j < c .n → let h = headAt (a .words) c (a .st .y .j) in let r = follows z bottom (a .words) h o (a .st .buf .n) e in
         Paid z t s (emitted z bottom a (record { x = a .st .x; y = pointAfter (a .st .y) (c .n) r; head = h; whole = r }))
     lower-paid c o e hi g j =
         let h = headAt (a .words) c (a .st .y .j) in
-        let r = follows z bottom h o (a .st .buf .n) e in
+        let r = follows z bottom (a .words) h o (a .st .buf .n) e in
         let v = pointAfter (a .st .y) (c .n) r in
         paid-by (a .st .x) v _ (onList (z .b) r) (onPlaces (z .b) r) 0 0 (onList (z .b) r) (onPlaces (z .b) r)
         (stay-far (z .b) (t .x) (a .st .x) (p .x-end)) (after-far (z .b) (t .y) (a .st .y) (c .n) r g j hi (follows-start z bottom (a .words) c (a .st .y .j) o (a .st .buf .n) e)) (omega arith) (omega arith) (emit-spent z a bottom (a .st .x) v h r)

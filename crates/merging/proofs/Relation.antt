@@ -6,6 +6,7 @@ use mathlib.Core.List.{List, [], _∷_, reverse}
 use lib.ListN.{getD, length, take}
 use Rattle.levels.specs.Basics.{iterate}
 use Rattle.levels.specs.Record.{Level, size}
+use Rattle.levels.specs.Rising.{Rising}
 use Rattle.levels.specs.Merge.{Out, State, step, joinLeft, join}
 use Rattle.blocks.specs.declared.Layout.{Layout}
 use Rattle.blocks.specs.Blocks.{Sized, SomeFree, nextMark, bufferOf}
@@ -14,13 +15,14 @@ use Rattle.stream.specs.declared.Point.{Point}
 use Rattle.stream.specs.declared.Inputs.{Inputs}
 use Rattle.sides.specs.Sides.{chunkOf, lastSize}
 use Rattle.stream.specs.Machine.{Memory, turns}
-use Rattle.merging.proofs.Blocks.{storedAt, blocks, side, Flash, layDone}
+use Rattle.merging.proofs.Blocks.{recsFrom, storedAt, blocks, side, Flash, layDone}
 
--- a chunk of 1 to B records, with no bits but theirs in its mark word
+-- a chunk of 1 to B records whose keys rise, with no bits but theirs in its mark word
 pub record Formed (z : Layout) (ws : List ℕ) (c : Chunk) : Type 0 where
   pub low : 1 ≤ c .n
   pub high : c .n ≤ z .b
   pub bits : getD ws (c .marks) 0 < 2 ^ c .n
+  pub rises : Rising 0 (recsFrom ws c 0 (c .n))
 
 -- the sizes that the pair rule speaks of
 abbrev pub headSize : ℕ → Level → ℕ

@@ -87,7 +87,7 @@ module _ {z : Layout} {pages : Bool} {ws : List ℕ} {used : List Bool} {list : 
   abbrev behind : Level
   behind = side z pages ws list (p .i + 1) 0 end
 
-  shows : Shows head top
+  shows : Shows ws head top
   shows = shows-at z ws chunk (p .j) (k .stands (p .i) g .formed) (k .inside g)
 
   bit-low : head .tombstone < 2
@@ -178,7 +178,7 @@ module _ (z : Layout) (t : Inputs) (xs ys : List ℕ) (d : Flash) where
           },
         )
 
-    module _ (bottom : Bool) (h : Head) (b : Block) (s : Shows h b) (u l : Level) (eu : u ≡ side z (t .pages) (a .words) xs (x .i) (x .j) (t .x)) (el : l ≡ side z false (a .words) ys (y .i) (y .j) (t .y)) where
+    module _ (bottom : Bool) (h : Head) (b : Block) (s : Shows (a .words) h b) (u l : Level) (eu : u ≡ side z (t .pages) (a .words) xs (x .i) (x .j) (t .x)) (el : l ≡ side z false (a .words) ys (y .i) (y .j) (t .y)) where
       gather-step : h .tombstone < 2 → Both (record { upper = u; lower = l; out = gather (z .b) bottom (headRec b) o }) (gathered z bottom here h)
       gather-step m =
           let n = c .few in
@@ -211,14 +211,14 @@ module _ (z : Layout) (t : Inputs) (xs ys : List ℕ) (d : Flash) where
   module _ (o : Out) (a : Memory) (c : Core z t xs ys o a) (g : Budget z a) (hs : Holds z d o a) where
     -- whether the block that h shows is reused, where the other side reads i
     abbrev whole : Head → Head → Bool
-    whole h i = follows z (t .bottom) h i (a .st .buf .n) (lastSize z (a .words) (a .out) (a .st .m))
+    whole h i = follows z (t .bottom) (a .words) h i (a .st .buf .n) (lastSize z (a .words) (a .out) (a .st .m))
 
-    test : (h i : Head) (b : Block) (l : Level) → Shows h b → Sees i l → whole h i ≡ reusable (z .b) (t .bottom) o l b
+    test : (h i : Head) (b : Block) (l : Level) → Shows (a .words) h b → Sees (a .words) i l → whole h i ≡ reusable (z .b) (t .bottom) o l b
     unfolding bufferOf
-    test h i b l s e = rw (hs .buf) (follows-same z (t .bottom) h i b l o (lastSize z (a .words) (a .out) (a .st .m)) s e (hs .last))
+    test h i b l s e = rw (hs .buf) (follows-same z (t .bottom) (a .words) h i b l o (lastSize z (a .words) (a .out) (a .st .m)) s e (hs .last))
 
     module _ (gx : a .st .x .i < t .x) where
-      upper-step : (i : Head) (l : Level) → l ≡ side z false (a .words) ys (a .st .y .i) (a .st .y .j) (t .y) → Sees i l → let h = head (c .upper) gx in let r = whole h i in
+      upper-step : (i : Head) (l : Level) → l ≡ side z false (a .words) ys (a .st .y .i) (a .st .y .j) (t .y) → Sees (a .words) i l → let h = head (c .upper) gx in let r = whole h i in
           Both (fromUpper (z .b) (t .bottom) (top (c .upper) gx) (behind (c .upper) gx) l o) (emitted z (t .bottom) a (record { x = pointAfter (a .st .x) (h .n) r; y = a .st .y; head = h; whole = r }))
       upper-step i l el e =
           let k = c .upper in
@@ -230,7 +230,7 @@ module _ (z : Layout) (t : Inputs) (xs ys : List ℕ) (d : Flash) where
           (emit-step o a (pointAfter (a .st .x) (h .n) r) (a .st .y) c g hs (after-at k gx r) (c .lower) (t .bottom) h b (shows k gx) (past r b (behind k gx)) l (after-side k gx r) el r (λ f. found k gx (placed-of (z .b) (t .bottom) o l b f)) (bit-low k gx)))
 
     module _ (gy : a .st .y .i < t .y) where
-      lower-step : (i : Head) (l : Level) → l ≡ side z (t .pages) (a .words) xs (a .st .x .i) (a .st .x .j) (t .x) → Sees i l → let h = head (c .lower) gy in let r = whole h i in
+      lower-step : (i : Head) (l : Level) → l ≡ side z (t .pages) (a .words) xs (a .st .x .i) (a .st .x .j) (t .x) → Sees (a .words) i l → let h = head (c .lower) gy in let r = whole h i in
           Both (fromLower (z .b) (t .bottom) (top (c .lower) gy) (behind (c .lower) gy) l o) (emitted z (t .bottom) a (record { x = a .st .x; y = pointAfter (a .st .y) (h .n) r; head = h; whole = r }))
       lower-step i l el e =
           let k = c .lower in

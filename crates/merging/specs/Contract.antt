@@ -8,6 +8,7 @@ use Rattle.geometry.specs.declared.Geometry.{Geometry}
 use Rattle.geometry.specs.Geometry.{Valid, capacityOf, marksStart, keysStart, paysStart, placesStart, storeLength}
 use Rattle.geometry.specs.Room.{placesMost, listRoom}
 use Rattle.levels.specs.Record.{Block, Level, new}
+use Rattle.levels.specs.Rising.{Rising}
 use Rattle.levels.specs.Merge.{merge}
 use Rattle.levels.specs.Place.{Settled, placesOf}
 use Rattle.words.specs.Layout.{word, slotsAt, recordCount, markWordAt, blockAt, each, bit, areaOf, writeBlocks}
@@ -61,7 +62,7 @@ pub record FullPage (g : Geometry) (ws : List ℕ) (i : ℕ) : Type 0 where
   pub low : i < capacityOf g 0
   pub bits : word ws (marksStart g + i) < 2 ^ g .b
 
--- what a merge asks: a legal store, work arrays of their full length, X and Y within their levels, room in the new list, and a free place for each block of X and Y and one more
+-- what a merge asks: a legal store, work arrays of their full length, X and Y within their levels, keys that rise in each block, room in the new list, and a free place for each block of X and Y and one more
 pub record Mergeable (g : Geometry) (ws : List ℕ) (used : List Bool) (out xs ys : List ℕ) (c : Cut) (cursor : ℕ) : Type 0 where
   pub valid : Valid g
   pub words : length ws ≡ storeLength g
@@ -77,6 +78,9 @@ pub record Mergeable (g : Geometry) (ws : List ℕ) (used : List Bool) (out xs y
   pub upper : c .pages ≡ false → (k : ℕ) → k < c .xend → ListedBlock g ws used (getD xs k 0)
   pub paged : c .pages ≡ true → (k : ℕ) → k < c .xend → FullPage g ws k
   pub lower : (k : ℕ) → k < c .end → ListedBlock g ws used (getD ys k 0)
+  pub upper-rises : c .pages ≡ false → (k : ℕ) → k < c .xend → Rising 0 (blockAt g ws (getD xs k 0) .recs)
+  pub paged-rises : c .pages ≡ true → (k : ℕ) → k < c .xend → Rising 0 (pageAt g ws k .recs)
+  pub lower-rises : (k : ℕ) → k < c .end → Rising 0 (blockAt g ws (getD ys k 0) .recs)
   pub room : c .end + 2 * ((c .xend - c .x) + (c .yend - c .y)) + 2 ≤ listRoom
   pub free : countMarks (g .p) used + ((c .xend - c .x) + (c .yend - c .y)) + 1 ≤ g .p
 

@@ -10,6 +10,7 @@ use lib.ListN.{length, getD, take, drop, List·getD-append}
 use lib.Seq.{length-take-le, getD-take, getD-drop, getD-append-add, take-at, drop-at}
 use Rattle.geometry.specs.declared.Geometry.{Geometry}
 use Rattle.levels.specs.Record.{Level}
+use Rattle.levels.specs.Rising.{Rising}
 use Rattle.levels.specs.Merge.{close}
 use Rattle.levels.specs.Place.{Allocation, settle}
 use Rattle.words.specs.Layout.{blockAt}
@@ -21,7 +22,7 @@ use Rattle.merging.specs.Contract.{ListedBlock, mergeOf, Mergeable, Leaves}
 use Rattle.merging.proofs.Close.{rested-length}
 use Rattle.pair.specs.Contract.{levelOf, InUse, Closable, leftOf, rightOf}
 use Rattle.pair.proofs.Lists.{rested-take, take-entry, drop-take}
-use Rattle.pair.proofs.Merges.{merge-is, level-length}
+use Rattle.pair.proofs.Merges.{merge-is, level-length, listed-rises}
 use Rattle.pair.proofs.Room.{count-few}
 
 -- the cut of step 2: nothing of X, nothing of Y
@@ -56,14 +57,15 @@ module _ (g : Geometry) (ws : List ℕ) (used : List Bool) (upper xs : List ℕ)
   shut-entry : (i : ℕ) → i < a - w → getD shut i 0 ≡ getD (take first upper ++ tail) i 0
   shut-entry i h = sym (getD-take (a - w) shut i 0 h) ∙ ap (λ (l : List ℕ). getD l i 0) shut-take
 
-  shut-blocks : (i : ℕ) → i < a - w → ListedBlock g ws used (getD shut i 0)
-  shut-blocks i h = rw (shut-entry i h) (dite (decLt i first) early late)
+  -- what holds of the entries of the list holds of those that stay
+  shut-each : (P : ℕ → Type 0) → ((i : ℕ) → i < a → P (getD upper i 0)) → (i : ℕ) → i < a - w → P (getD shut i 0)
+  shut-each P f i h = rw (shut-entry i h) (dite (decLt i first) early late)
     where
-      early : i < first → ListedBlock g ws used (getD (take first upper ++ tail) i 0)
+      early : i < first → P (getD (take first upper ++ tail) i 0)
       early l =
-          rw (List·getD-append (take first upper) tail 0 i (rw head-length l), getD-take first upper i 0 l) (k .blocks i (omega (arith, inside)))
+          rw (List·getD-append (take first upper) tail 0 i (rw head-length l), getD-take first upper i 0 l) (f i (omega (arith, inside)))
 
-      late : (i < first → ⊥) → ListedBlock g ws used (getD (take first upper ++ tail) i 0)
+      late : (i < first → ⊥) → P (getD (take first upper ++ tail) i 0)
       late n =
           let e : i ≡ length (take first upper) + (i - first) = omega (arith, head-length) in
           let s : getD (take first upper ++ tail) i 0 ≡ getD upper (first + w + (i - first)) 0 =
@@ -71,7 +73,7 @@ module _ (g : Geometry) (ws : List ℕ) (used : List Bool) (upper xs : List ℕ)
           ∙ getD-take (a - (first + w)) (drop (first + w) xs) (i - first) 0 (omega (arith, inside))
           ∙ getD-drop (first + w) xs (i - first) 0
           ∙ take-entry xs upper a (first + w + (i - first)) (k .same) (omega (arith, inside)) in
-          rw s (k .blocks (first + w + (i - first)) (omega (arith, inside)))
+          rw s (f (first + w + (i - first)) (omega (arith, inside)))
 
   pub shut-mergeable : InUse used × Mergeable g ws used shut xs shut (gapAt first w a) cursor
   shut-mergeable =
@@ -94,7 +96,10 @@ module _ (g : Geometry) (ws : List ℕ) (used : List Bool) (upper xs : List ℕ)
           y-high = omega arith;
           upper = λ e i l. absurd (omega arith);
           paged = λ e. absurd (true≢false (sym e));
-          lower = shut-blocks;
+          lower = shut-each (ListedBlock g ws used) (k .blocks);
+          upper-rises = λ e i l. absurd (omega arith);
+          paged-rises = λ e. absurd (true≢false (sym e));
+          lower-rises = shut-each (λ q. Rising 0 (blockAt g ws q .recs)) (listed-rises g ws upper a (omega (arith, k .upper-long)) (k .rises));
           room = omega arith;
           free = omega arith;
         },

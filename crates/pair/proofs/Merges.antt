@@ -1,18 +1,20 @@
 -- What `merge_blocks` asks and leaves, for lists that are copied and for blocks that are parts of levels.
-use Prim.Native.Nat.{ℕ, _+_, _-_, _≤_}
+use Prim.Native.Nat.{ℕ, zero, suc, _+_, _-_, _≤_, _<_}
 use mathlib.Core.Path.{_≡_, sym, ap, _∙_}
-use mathlib.Core.Bool.{Bool}
-use mathlib.Core.List.{List, map}
+use mathlib.Core.Bool.{Bool, true}
+use mathlib.Core.List.{List, [], _∷_, map}
 use native.Mathlib.Omega.{arith}
-use lib.ListN.{length, take, drop, length-map, length-drop}
-use lib.Seq.{take-all, length-take-le}
+use lib.ListN.{length, getD, take, drop, length-map, length-drop}
+use lib.Seq.{take-all, length-take-le, getD-take}
 use Rattle.geometry.specs.declared.Geometry.{Geometry}
-use Rattle.levels.specs.Record.{Level}
+use Rattle.levels.specs.Record.{Level, records, rising, new}
+use Rattle.levels.specs.Rising.{Rising}
 use Rattle.levels.specs.Choose.{choose}
 use Rattle.levels.specs.Merge.{merge}
 use Rattle.levels.specs.Place.{Settled}
 use Rattle.words.specs.Layout.{blockAt}
-use Rattle.levels.proofs.Lists.{map-take, map-drop}
+use Rattle.levels.proofs.Lists.{map-take, map-drop, getD-map-in}
+use Rattle.levels.proofs.Rising.{test-rising, rising-from, rising-left, rising-right}
 use Rattle.joins.specs.Joins.{restedOut}
 use Rattle.merging.specs.declared.Cut.{Cut}
 use Rattle.merging.specs.declared.Merged.{Merged}
@@ -21,6 +23,12 @@ use Rattle.merging.proofs.Close.{rested-length}
 use Rattle.pair.specs.declared.Picked.{Picked}
 use Rattle.pair.specs.Contract.{levelOf, Chosen, LowerLeaves}
 use Rattle.pair.proofs.Lists.{copied-take, take-drop}
+
+-- where the keys of a level rise, those of each of its blocks do
+pub block-rises : (low : ℕ) (l : Level) (k : ℕ) → Rising low (records l) → k < length l → Rising 0 (getD l k (new []) .recs)
+block-rises low [] k h e = absurd (omega arith)
+block-rises low (b ∷ bs) zero h e = rising-from 0 low (b .recs) (omega arith) (rising-left low (b .recs) (records bs) h)
+block-rises low (b ∷ bs) (suc k) h e = block-rises low bs k (rising-right low (b .recs) (records bs) h) (omega arith)
 
 -- any list of the full length may take the entries
 pub mergeable-in : (g : Geometry) (ws : List ℕ) (used : List Bool) (out new xs ys : List ℕ) (c : Cut) (cursor : ℕ) → Mergeable g ws used out xs ys c cursor → length new ≡ 4096 → Mergeable g ws used new xs ys c cursor
@@ -40,6 +48,9 @@ mergeable-in g ws used out new xs ys c cursor k e =
       upper = k .upper;
       paged = k .paged;
       lower = k .lower;
+      upper-rises = k .upper-rises;
+      paged-rises = k .paged-rises;
+      lower-rises = k .lower-rises;
       room = k .room;
       free = k .free;
     }
@@ -83,6 +94,11 @@ part-is g ws list i m n h =
 
 pub level-length : (g : Geometry) (ws list : List ℕ) (n : ℕ) → n ≤ length list → length (levelOf g ws list n) ≡ n
 level-length g ws list n h = length-map (take n list) (blockAt g ws) ∙ length-take-le n list h
+
+pub listed-rises : (g : Geometry) (ws list : List ℕ) (n : ℕ) → n ≤ length list → rising 0 (records (levelOf g ws list n)) ≡ true → (k : ℕ) → k < n → Rising 0 (blockAt g ws (getD list k 0) .recs)
+listed-rises g ws list n h r k l =
+    let e : getD (levelOf g ws list n) k (new []) ≡ blockAt g ws (getD list k 0) = getD-map-in (blockAt g ws) (take n list) k 0 (new []) (rw (length-take-le n list h) l) ∙ ap (blockAt g ws) (getD-take n list k 0 l) in
+    rw (← e) (block-rises 0 (levelOf g ws list n) k (test-rising 0 (records (levelOf g ws list n)) r) (rw (level-length g ws list n h) l))
 
 -- the blocks behind block i
 rest-is : (g : Geometry) (ws list : List ℕ) (i n : ℕ) → i ≤ n → n ≤ length list → blocksOf g ws list i (n - i) ≡ drop i (levelOf g ws list n)

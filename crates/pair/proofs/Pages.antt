@@ -1,17 +1,19 @@
 -- The whole merge out of level 0.
-use Prim.Native.Nat.{ℕ, zero, suc, _+_, _-_, _*_, _≤_}
-use mathlib.Core.Path.{_≡_, refl, sym, ap, _∙_}
+use Prim.Native.Nat.{ℕ, zero, suc, _+_, _-_, _*_, _≤_, _<_}
+use mathlib.Core.Path.{_≡_, refl, sym, ap, _∙_, subst}
 use mathlib.Core.Bool.{Bool, true, true≢false}
 use mathlib.Core.List.{List, [], _++_, map}
 use native.Mathlib.Nat.{zero-add}
 use native.Mathlib.Omega.{arith}
 use lib.Dec.{eqb}
-use lib.ListN.{length, take, drop, length-append}
+use lib.ListN.{length, getD, take, drop, length-append}
 use lib.Seq.{take-all, take-at, drop-at}
 use Rattle.geometry.specs.declared.Geometry.{Geometry}
 use Rattle.geometry.specs.Geometry.{Valid, windowOf, capacityOf, topCapacityOf, marksStart, keysStart, paysStart, storeLength}
 use Rattle.geometry.proofs.Laws.{window-low, level-high}
-use Rattle.levels.specs.Record.{Level, records, rising, pages}
+use Rattle.levels.specs.Record.{Block, Level, records, rising, new, pages}
+use Rattle.levels.specs.Rising.{Rising}
+use Rattle.levels.proofs.Rising.{test-rising}
 use Rattle.levels.specs.Choose.{choose}
 use Rattle.levels.specs.Choose as choosing
 use Rattle.levels.specs.Merge.{merge}
@@ -25,7 +27,7 @@ use Rattle.choice.specs.Fences.{Ordered, Fenced, fenceOf, fencesOf, fill, pageF
 use Rattle.choice.proofs.Keys.{level-fenced}
 use Rattle.levels.proofs.Levels.{Filled}
 use Rattle.choice.proofs.Levels.{level-ordered}
-use Rattle.words.proofs.Each.{length-each, each-take, each-drop}
+use Rattle.words.proofs.Each.{length-each, getD-each, each-take, each-drop}
 use Rattle.choice.proofs.Words.{page-fences}
 use Rattle.blocks.specs.Blocks.{Marks}
 use Rattle.merging.specs.declared.Cut.{Cut}
@@ -35,7 +37,7 @@ use Rattle.pair.specs.declared.Picked.{Picked}
 use Rattle.pair.specs.Contract.{levelOf, meetsAt, cutOf, lowerAfter, InUse, Chosen, Readables, Paged, PagesReady, PagesLeaves}
 use Rattle.pair.proofs.Chosen.{run-inside, ends-in-order, ends-inside, overlap-is}
 use Rattle.pair.proofs.Room.{count-few}
-use Rattle.pair.proofs.Merges.{lower-leaves}
+use Rattle.pair.proofs.Merges.{lower-leaves, block-rises, listed-rises}
 use Rattle.pair.proofs.Below.{met-merge}
 use Rattle.pair.proofs.Pair.{stored-ordered, stored-readable, stored-length}
 
@@ -100,10 +102,16 @@ module _ (g : Geometry) (ws : List ℕ) (used : List Bool) (lower : List ℕ) (n
   lu : length under ≡ n
   lu = stored-length g ws used lower n (k .under)
 
+  pages-rise : rising 0 (records (each (pageAt g ws) 0 (capacityOf g 0))) ≡ true
+  pages-rise = rw (each-records g ws 0 (capacityOf g 0), ← top-full g ws (k .full)) (k .rises)
+
+  page-rises : (i : ℕ) → i < capacityOf g 0 → Rising 0 (pageAt g ws i .recs)
+  page-rises i h =
+      let e : getD (each (pageAt g ws) 0 (capacityOf g 0)) i (new []) ≡ pageAt g ws i = getD-each (pageAt g ws) 0 (capacityOf g 0) i (new []) h ∙ ap (pageAt g ws) (zero-add i) in
+      subst (λ (b : Block). Rising 0 (b .recs)) e (block-rises 0 (each (pageAt g ws) 0 (capacityOf g 0)) i (test-rising 0 (records (each (pageAt g ws) 0 (capacityOf g 0))) pages-rise) (rw (length-each (pageAt g ws) 0 (capacityOf g 0)) h))
+
   oa : Ordered 0 (map fenceOf above)
-  oa =
-      let r : rising 0 (records (each (pageAt g ws) 0 (capacityOf g 0))) ≡ true = rw (each-records g ws 0 (capacityOf g 0), ← top-full g ws (k .full)) (k .rises) in
-      rw above-is (level-ordered 0 (each (pageAt g ws) 0 (capacityOf g 0)) (each-filled g ws 0 (capacityOf g 0) b-low) r)
+  oa = rw above-is (level-ordered 0 (each (pageAt g ws) 0 (capacityOf g 0)) (each-filled g ws 0 (capacityOf g 0) b-low) pages-rise)
 
   ou : Ordered 0 (map fenceOf under)
   ou = stored-ordered g ws used lower n (k .under)
@@ -161,6 +169,9 @@ module _ (g : Geometry) (ws : List ℕ) (used : List Bool) (lower : List ℕ) (n
               upper = λ t. absurd (true≢false t);
               paged = λ _ j b. record { low = omega arith; bits = k .bits j (omega arith) };
               lower = k .under .blocks;
+              upper-rises = λ t. absurd (true≢false t);
+              paged-rises = λ _ j b. page-rises j (omega arith);
+              lower-rises = listed-rises g ws lower n (let l = k .under .long in let h = k .under .high in omega arith) (k .under .rises);
               room = omega arith;
               free = omega arith;
             },

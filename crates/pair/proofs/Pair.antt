@@ -36,7 +36,7 @@ use Rattle.pair.proofs.Kept.{base-take, base-drop}
 use Rattle.pair.proofs.Chosen.{run-inside, ends-in-order, ends-inside, overlap-is}
 use Rattle.pair.proofs.Below.{met-merge}
 use Rattle.pair.proofs.Room.{count-few}
-use Rattle.pair.proofs.Merges.{lower-leaves, part-is, level-length}
+use Rattle.pair.proofs.Merges.{lower-leaves, part-is, level-length, listed-rises}
 use Rattle.pair.proofs.After.{listed-fresh, close-fit, close-one, after-long, after-cursor, after-in-use, after-count, after-block, after-level}
 
 stored-filled : (g : Geometry) (ws : List ℕ) (used : List Bool) (list : List ℕ) (n : ℕ) → ((k : ℕ) → k < n → ListedBlock g ws used (getD list k 0)) → Filled (levelOf g ws list n)
@@ -130,6 +130,7 @@ module _ (g : Geometry) (ws : List ℕ) (used : List Bool) (upper lower : List �
         run = inside;
         high = k .above .high;
         blocks = k .above .blocks;
+        rises = k .above .rises;
         in-use = k .in-use;
         free = (let f = k .free in omega arith);
       }
@@ -237,6 +238,9 @@ module _ (g : Geometry) (ws : List ℕ) (used : List Bool) (upper lower : List �
               upper = λ _ j b. kept-block (getD xs j 0) (xs-block j (omega arith));
               paged = λ t. absurd (true≢false (sym t));
               lower = λ j b. kept-block (getD lower j 0) (k .under .blocks j b);
+              upper-rises = λ _ j b. listed-rises g ws1 xs a (omega arith) (rw (kept-level xs a xs-block ∙ ap (map (blockAt g ws)) ex) (k .above .rises)) j (omega arith);
+              paged-rises = λ t. absurd (true≢false (sym t));
+              lower-rises = listed-rises g ws1 lower n (let l = k .under .long in let h = k .under .high in omega arith) (rw (kept-level lower n (k .under .blocks)) (k .under .rises));
               room = omega arith;
               free = omega arith;
             },

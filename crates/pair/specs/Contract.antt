@@ -121,6 +121,7 @@ pub record Closable (g : Geometry) (ws : List ℕ) (used : List Bool) (upper xs 
   pub run : first + w ≤ a
   pub high : a ≤ 2048
   pub blocks : (k : ℕ) → k < a → ListedBlock g ws used (getD upper k 0)
+  pub rises : rising 0 (records (levelOf g ws upper a)) ≡ true
   pub in-use : InUse used
   pub free : length (in-use .places) < g .p
 

@@ -66,7 +66,7 @@ pub enum Told {
 
 // The record that decides for a key: that of the first level from 0 down that has one.
 pub fn find_key(s: &[u32], g: Geometry, k: usize) -> Found
-    requires { ⌜ checkedOf (now s) ≡ Ready g ⌝ }
+    requires { ⌜ (checkedOf (now s) ≡ Ready g) × (k < 4294967296) ⌝ }
     ensures { λ r. ⌜ r ≡ foundOf (decides k (rows (storeAt g (now (s .entry))))) ⌝ }
 {
     let d0 = form::top_of(s, g);
@@ -130,7 +130,7 @@ pub fn list_stretch(
 
 // The words of the block of a level whose first to last key encloses k, of a store that passes: where they lie in it.
 pub fn show_block(s: &[u32], g: Geometry, level: usize, k: usize) -> Part
-    requires { ⌜ checkedOf (now s) ≡ Ready g ⌝ }
+    requires { ⌜ (checkedOf (now s) ≡ Ready g) × (k < 4294967296) ⌝ }
     ensures { λ r. ⌜ r ≡ showPartIn g (now (s .entry)) level k ⌝ }
 {
     let none = Part {

@@ -1,19 +1,24 @@
 -- Of the chunks of a level, only the one that a search finds can enclose the key.
 use Prim.Native.Nat.{ℕ, zero, suc, _+_, _-_, _/_, _≤_, _<_}
-use mathlib.Core.Path.{_≡_, ap, _∙_, refl}
-use mathlib.Core.Bool.{Bool, true, false, _&&_, and-false}
+use mathlib.Core.Path.{_≡_, refl, sym, ap, _∙_}
+use mathlib.Core.Bool.{Bool, true, false, _&&_, _||_, and-false}
 use mathlib.Core.List.{List, [], _∷_, _++_}
+use native.Mathlib.Nat.{add-zero}
 use native.Mathlib.Numerals.{add-one}
 use native.Mathlib.Omega.{arith}
 use borrow.Author.Tests.{lt-leb}
-use lib.Dec.{leb}
+use lib.Dec.{leb, ltb}
+use lib.ListN.{length, getD}
+use Rattle.slices.specs.declared.Rank.{Rank}
+use Rattle.slices.specs.Ranks.{countBelow, among, rankOf}
+use Rattle.slices.proofs.Ranks.{some-not-above, some-not-below}
 use Rattle.levels.specs.Basics.{if_then_else_}
 use Rattle.levels.specs.Record.{Rec, firstKey, lastKey}
 use Rattle.levels.specs.Rising.{Rising, Below}
 use Rattle.levels.proofs.Rising.{rising-right}
 use Rattle.words.specs.Layout.{word, slotsAt}
 use Rattle.chunks.specs.declared.Chunk.{Chunk}
-use Rattle.chunks.specs.Chunks.{chunkRecs}
+use Rattle.chunks.specs.Chunks.{Inside, chunkRecs}
 use Rattle.chunks.proofs.Slots.{slots-first}
 use Rattle.directory.specs.declared.Directory.{Directory}
 use Rattle.directory.specs.Directory.{Formed, recordsFrom, chunkAt}
@@ -21,7 +26,7 @@ use Rattle.search.specs.declared.Enclosed.{Enclosed}
 use Rattle.search.specs.declared.Enclosed.the-variants.{At, Nowhere}
 use Rattle.search.specs.Search.{Sought, encloses, enclosedFrom, enclosedOf}
 use Rattle.search.proofs.Between.{below-left, below-right}
-use Rattle.search.proofs.Laws.{chunk-first, firstOf, othersOf, span-before, span-after}
+use Rattle.search.proofs.Laws.{chunkKeys, keys-rising, keys-long, key-is, chunk-ready, chunk-first, firstOf, othersOf, span-before, span-after}
 
 -- the first and the last key of a chunk
 slots-last : (ws : List ℕ) (m k v n : ℕ) → lastKey (slotsAt ws m k v (suc n)) ≡ word ws (k + n)
@@ -36,6 +41,21 @@ chunk-last-key : (ws : List ℕ) (c : Chunk) → 1 ≤ c .count → lastKey (chu
 chunk-last-key ws c h =
     let e : c .count ≡ suc (c .count - 1) = omega arith in
     ap (λ (n : ℕ). lastKey (slotsAt ws (c .marks) (c .keys) (c .pays) n)) e ∙ slots-last ws (c .marks) (c .keys) (c .pays) (c .count - 1)
+
+-- a chunk encloses a key by its rank: the first key is not above it, and not all keys are below it
+module _ (ws : List ℕ) (c : Chunk) (n : Inside c ws) (h : Rising 0 (chunkRecs ws c)) (l : 1 ≤ c .count) (k : ℕ) where
+  abbrev keys : List ℕ
+  keys = chunkKeys ws c
+
+  long : length keys ≡ c .count
+  long = keys-long ws c n h
+
+  chunk-encloses : encloses k (chunkRecs ws c) ≡ ((among k keys || ltb 0 (countBelow k keys)) && ltb (countBelow k keys) (c .count))
+  chunk-encloses =
+      let r = keys-rising ws c n h in
+      let a : word ws (c .keys) ≡ getD keys 0 0 = rw add-zero at (sym (key-is ws c n h 0 l)) in
+      let z : word ws (c .keys + (c .count - 1)) ≡ getD keys (length keys - 1) 0 = rw long (sym (key-is ws c n h (c .count - 1) (omega arith))) in
+      rw (chunk-first-key ws c l, chunk-last-key ws c l, a, z, some-not-above k 0 keys r (rw long l), some-not-below k 0 keys r (rw long l), long)
 
 last-below : (k : ℕ) (r : Rec) (rs : List Rec) → Below k (r ∷ rs) → lastKey (r ∷ rs) < k
 last-below k r [] b = b .0
@@ -103,12 +123,11 @@ module _ (ws : List ℕ) (d : Directory) (k : ℕ) where
         ∙ enclosed-append 0 (r - 0) (suc (d .chunks - (r + 1)))
         ∙ rw (b, q, enclosed-first r (d .chunks - (r + 1)), a)
 
-    -- the same by the first and the last key of that chunk, as the code reads them
-    pub enclosed-read : (r : ℕ) → Sought ws d k r → (c : Chunk) → c ≡ chunkAt ws d r → (first last : ℕ) → first ≡ word ws (c .keys) → last ≡ word ws (c .keys + (c .count - 1)) → enclosedOf ws d k ≡ (if leb first k && leb k last then At r else Nowhere)
-    enclosed-read r s c e first last p q =
-        let n : 1 ≤ c .count = rw e (f .counts r (s .inside) .0) in
-        let t : encloses k (chunkRecs ws c) ≡ (leb first k && leb k last) = rw (chunk-first-key ws c n, chunk-last-key ws c n, p, q) in
-        sought-encloses r s ∙ rw (← e, t)
+    -- the same by the rank of the key in that chunk, as the code reads it
+    pub enclosed-read : (r : ℕ) → Sought ws d k r → (c : Chunk) → c ≡ chunkAt ws d r → (t : Rank) → t ≡ rankOf k (chunkKeys ws c) → enclosedOf ws d k ≡ (if (t .found || ltb 0 (t .below)) && ltb (t .below) (c .count) then At r else Nowhere)
+    enclosed-read r s c e t q =
+        let p = chunk-ready ws d f r (s .inside) c e in
+        sought-encloses r s ∙ rw (← e, chunk-encloses ws c (p .0) (p .1 .1 .1) (p .1 .0) k, q)
 
 -- a level of no chunks encloses nothing
 pub enclosed-empty : (ws : List ℕ) (d : Directory) (k : ℕ) → d .chunks < 1 → enclosedOf ws d k ≡ Nowhere

@@ -1,100 +1,78 @@
--- Where a search in a chunk and one in a level end: the only record, and the only chunk, that can have the key.
+-- What a search in a chunk finds, and where one in a level ends: at the only chunk that can have the key.
 use Prim.Native.Nat.{ℕ, zero, suc, _+_, _-_, _/_, _%_, _^_, _≤_, _<_}
-use mathlib.Core.Path.{_≡_, sym, ap, _∙_}
+use mathlib.Core.Path.{_≡_, refl, sym, ap, _∙_}
 use mathlib.Core.Logic.{dite}
 use mathlib.Core.Option.{none, some}
+use mathlib.Core.Bool.{true, false}
 use mathlib.Core.List.{List, [], _∷_, _++_, append-assoc}
 use native.Mathlib.Decide.{decLt}
-use native.Mathlib.Nat.{div-div-eq-div-mul}
+use native.Mathlib.Nat.{add-zero}
 use native.Mathlib.Numerals.{add-one}
 use native.Mathlib.Omega.{arith}
-use lib.Pow.{pow-add}
 use lib.Dec.{eqb}
+use lib.ListN.{length, getD, take, drop, length-drop}
+use lib.Seq.{take-all, length-take-le, getD-take, getD-drop}
+use Rattle.slices.specs.declared.Rank.{Rank}
+use Rattle.slices.specs.Ranks.{countBelow, among, rankOf}
+use Rattle.slices.specs.Ranks as numbers
 use Rattle.levels.specs.Record.{Rec}
 use Rattle.levels.specs.Map.{find}
 use Rattle.levels.specs.Rising.{Rising, Below}
-use Rattle.levels.proofs.Overlay.{find-here, find-past}
-use Rattle.levels.proofs.Rising.{rising-left, rising-right}
-use Rattle.words.specs.Layout.{word, slotsAt}
+use Rattle.slices.proofs.Ranks.{rank-from}
+use Rattle.levels.proofs.Rising.{rising-left, rising-right, below-append}
+use Rattle.words.specs.Layout.{word, slotsAt, keysOf}
 use Rattle.chunks.specs.declared.Chunk.{Chunk}
 use Rattle.chunks.specs.Chunks.{Inside, chunkRecs}
-use Rattle.words.proofs.Slots.{slots-split}
+use Rattle.words.proofs.Slots.{slots-length, slot-at}
+use Rattle.words.proofs.Ranks.{keys-rise, keys-slots, found-record, found-none, records-before}
 use Rattle.chunks.proofs.Slots.{slots-first}
 use Rattle.directory.specs.declared.Directory.{Directory}
 use Rattle.directory.specs.Directory.{Formed, recordsFrom, recordsOf, chunkAt}
 use Rattle.directory.proofs.Laws.{chunk-room}
-use Rattle.search.specs.Search.{firstAt, Sought}
+use Rattle.search.specs.Search.{firstAt, Sought, Stands}
 use Rattle.search.proofs.Between.{find-between, rising-before, rising-after}
 
 -- an interval of one: what was known of its end is known of what comes next
 pub interval-end : (n k : ℕ) (key : ℕ → ℕ) (lo hi : ℕ) → lo < hi → hi ≤ lo + 1 → (hi < n → k < key hi) → lo + 1 < n → k < key (lo + 1)
 interval-end n k key lo hi a b h = let e : hi ≡ lo + 1 = omega arith in rw e at h
 
--- records lo to hi of a chunk
-abbrev pub part : List ℕ → Chunk → ℕ → ℕ → List Rec
-part ws c lo hi = slotsAt ws (c .marks / 2 ^ lo) (c .keys + lo) (c .pays + lo) (hi - lo)
-
-part-split : (ws : List ℕ) (c : Chunk) (lo mid hi : ℕ) → lo ≤ mid → mid ≤ hi → part ws c lo hi ≡ part ws c lo mid ++ part ws c mid hi
-part-split ws c lo mid hi a b =
-    let n : hi - lo ≡ mid - lo + (hi - mid) = omega arith in
-    let k : c .keys + mid ≡ c .keys + lo + (mid - lo) = omega arith in
-    let v : c .pays + mid ≡ c .pays + lo + (mid - lo) = omega arith in
-    let q : mid ≡ lo + (mid - lo) = omega arith in
-    let m : c .marks / 2 ^ mid ≡ c .marks / 2 ^ lo / 2 ^ (mid - lo) = ap (λ (t : ℕ). c .marks / 2 ^ t) q ∙ ap (_/_ (c .marks)) (pow-add 2 lo (mid - lo)) ∙ sym (div-div-eq-div-mul (c .marks) (2 ^ lo) (2 ^ (mid - lo))) in
-    rw (n, k, v, m) (slots-split ws (c .marks / 2 ^ lo) (c .keys + lo) (c .pays + lo) (mid - lo) (hi - mid))
-
-part-all : (ws : List ℕ) (c : Chunk) → part ws c 0 (c .count) ≡ chunkRecs ws c
-part-all ws c =
-    let e : c .marks / 2 ^ 0 ≡ c .marks = omega arith in
-    let a : c .count - 0 ≡ c .count = omega arith in
-    let b : c .keys + 0 ≡ c .keys = omega arith in
-    let v : c .pays + 0 ≡ c .pays = omega arith in
-    rw (e, a, b, v)
-
 -- record i of a chunk
 abbrev pub slotOf : List ℕ → Chunk → ℕ → Rec
 slotOf ws c i = record { key = word ws (c .keys + i); tombstone = eqb (c .marks / 2 ^ i % 2) 1; pay = word ws (c .pays + i) }
 
-part-first : (ws : List ℕ) (c : Chunk) (lo hi : ℕ) → lo < hi → part ws c lo hi ≡ slotOf ws c lo ∷ slotsAt ws (c .marks / 2 ^ lo / 2) (c .keys + lo + 1) (c .pays + lo + 1) (hi - lo - 1)
-part-first ws c lo hi h = slots-first ws (c .marks / 2 ^ lo) (c .keys + lo) (c .pays + lo) (hi - lo) (omega arith)
+-- a chunk's keys, as the search in it reads them
+abbrev pub chunkKeys : List ℕ → Chunk → List ℕ
+chunkKeys ws c = take (c .count) (drop (c .keys) ws)
 
-part-empty : (ws : List ℕ) (c : Chunk) (lo hi : ℕ) → hi ≤ lo → part ws c lo hi ≡ []
-unfolding slotsAt
-part-empty ws c lo hi h = let p : hi - lo ≡ 0 = omega arith in rw p
+-- a key found in a chunk, and one that is not
+module _ (ws : List ℕ) (c : Chunk) (n : Inside c ws) (h : Rising 0 (chunkRecs ws c)) where
+  pub chunk-keys : keysOf (chunkRecs ws c) ≡ chunkKeys ws c
+  chunk-keys = keys-slots ws (c .marks) (c .keys) (c .pays) (c .count) (n .keys-end)
 
-part-one : (ws : List ℕ) (c : Chunk) (i : ℕ) → part ws c i (i + 1) ≡ slotOf ws c i ∷ []
-unfolding slotsAt
-part-one ws c i = let p : i + 1 - i ≡ 1 = omega arith in rw p
+  pub keys-rising : numbers.Rising 0 (chunkKeys ws c)
+  keys-rising = rw (← chunk-keys) (keys-rise 0 (chunkRecs ws c) h)
 
--- the search in a chunk ends with an interval of record i alone: the last one whose key is not above k, or the first
-module _ (ws : List ℕ) (c : Chunk) (k i hi : ℕ) (h : Rising 0 (chunkRecs ws c)) (a : i < hi) (b : hi ≤ i + 1) (l : hi ≤ c .count) (low : 1 ≤ i → word ws (c .keys + i) ≤ k) (high : hi < c .count → k < word ws (c .keys + hi)) where
-  chunk-cut : chunkRecs ws c ≡ part ws c 0 i ++ (part ws c i (i + 1) ++ part ws c (i + 1) (c .count))
-  chunk-cut =
-      sym (part-all ws c) ∙ part-split ws c 0 i (c .count) (omega arith) (omega arith)
-      ∙ ap (λ (rs : List Rec). part ws c 0 i ++ rs) (part-split ws c i (i + 1) (c .count) (omega arith) (omega arith))
+  pub keys-long : length (chunkKeys ws c) ≡ c .count
+  keys-long = length-take-le (c .count) (drop (c .keys) ws) (rw length-drop (let p = n .keys-end in omega arith))
 
-  part-before : Below k (part ws c 0 i)
-  part-before =
-      dite (decLt 0 i)
-      (λ y. rising-before k 0 (part ws c 0 i) (part ws c i (c .count)) (slotOf ws c i) _ (part-first ws c i (c .count) (omega arith)) (rw (← part-split ws c 0 i (c .count) (omega arith) (omega arith), part-all ws c) h) (low y))
-      (λ n. rw (part-empty ws c 0 i (omega arith)) tt)
+  pub key-is : (i : ℕ) → i < c .count → getD (chunkKeys ws c) i 0 ≡ word ws (c .keys + i)
+  key-is i m = getD-take (c .count) (drop (c .keys) ws) i 0 m ∙ getD-drop (c .keys) ws i 0
 
-  part-after : Rising (suc k) (part ws c (i + 1) (c .count))
-  part-after =
-      dite (decLt (i + 1) (c .count))
-      (λ y. rising-after k 0 (part ws c (i + 1) (c .count)) (slotOf ws c (i + 1)) _ (part-first ws c (i + 1) (c .count) y)
-      (rising-right 0 (part ws c 0 (i + 1)) (part ws c (i + 1) (c .count)) (rw (← part-split ws c 0 (i + 1) (c .count) (omega arith) (omega arith), part-all ws c) h)) (interval-end (c .count) k (λ j. word ws (c .keys + j)) i hi a b high y))
-      (λ n. rw (part-empty ws c (i + 1) (c .count) (omega arith)) tt)
+  module _ (k : ℕ) (r : Rank) (e : r ≡ rankOf k (chunkKeys ws c)) where
+    found-same : among k (keysOf (chunkRecs ws c)) ≡ r .found
+    found-same = rw chunk-keys (ap (λ (x : Rank). x .found) (sym e))
 
-  chunk-find : find k (chunkRecs ws c) ≡ find k (slotOf ws c i ∷ [])
-  chunk-find = rw (chunk-cut, ← part-one ws c i) (find-between k (part ws c 0 i) (part ws c i (i + 1)) (part ws c (i + 1) (c .count)) part-before part-after)
+    pub below-same : countBelow k (keysOf (chunkRecs ws c)) ≡ r .below
+    below-same = rw chunk-keys (ap (λ (x : Rank). x .below) (sym e))
 
-  pub seek-here : word ws (c .keys + i) ≡ k → find k (chunkRecs ws c) ≡ some (slotOf ws c i)
-  seek-here e = chunk-find ∙ find-here k (slotOf ws c i) [] e
+    pub chunk-here : r .found ≡ true → (r .below < c .count) × (find k (chunkRecs ws c) ≡ some (slotOf ws c (r .below)))
+    chunk-here f =
+        let p = found-record k 0 (chunkRecs ws c) h (found-same ∙ f) in
+        let q : r .below < c .count = rw (below-same, slots-length ws (c .marks) (c .keys) (c .pays) (c .count)) at (p .0) in
+        (q, p .1 ∙ rw (below-same, slot-at ws (c .marks) (c .keys) (c .pays) (c .count) (r .below) q))
 
-  pub seek-absent : (word ws (c .keys + i) ≡ k → ⊥) → find k (chunkRecs ws c) ≡ none
-  unfolding find
-  seek-absent e = chunk-find ∙ find-past k (slotOf ws c i) [] e
+    pub chunk-absent : r .found ≡ false → find k (chunkRecs ws c) ≡ none
+    chunk-absent f = found-none k (chunkRecs ws c) (found-same ∙ f)
 
 -- chunks lo to hi of a level
 abbrev pub span : List ℕ → Directory → ℕ → ℕ → List Rec
@@ -161,6 +139,9 @@ module _ (ws : List ℕ) (d : Directory) (f : Formed d ws) where
       let b = f .within .width-high in
       rw e (record { keys-end = omega arith; pays-end = omega arith }, (n .0, (omega arith, chunk-rising i h)))
 
+  pub rank-ready : (i : ℕ) → i < d .chunks → (c : Chunk) → c ≡ chunkAt ws d i → (c .keys + c .count ≤ length ws) × numbers.Rising 0 (chunkKeys ws c)
+  rank-ready i h c e = let p = chunk-ready i h c e in (p .0 .keys-end, keys-rising ws c (p .0) (p .1 .1 .1))
+
   -- the chunk that was sought: the chunks before it are below k, those after it above
   module _ (k r : ℕ) (s : Sought ws d k r) where
     pub level-cut : recordsOf ws d ≡ span ws d 0 r ++ (chunkRecs ws (chunkAt ws d r) ++ span ws d (r + 1) (d .chunks))
@@ -182,6 +163,57 @@ module _ (ws : List ℕ) (d : Directory) (f : Formed d ws) where
     -- what it has for the key is what the level has
     pub sought-find : find k (chunkRecs ws (chunkAt ws d r)) ≡ find k (recordsOf ws d)
     sought-find = rw level-cut (sym (find-between k (span ws d 0 r) (chunkRecs ws (chunkAt ws d r)) (span ws d (r + 1) (d .chunks)) span-before span-after))
+
+    -- and its rank there says where the level has it
+    module _ (c : Chunk) (e : c ≡ chunkAt ws d r) (t : Rank) (q : t ≡ rankOf k (chunkKeys ws c)) where
+      abbrev ready : Inside c ws × ((1 ≤ c .count) × ((c .count ≤ 16) × Rising 0 (chunkRecs ws c)))
+      ready = chunk-ready r (s .inside) c e
+
+      pub level-here : t .found ≡ true → (t .below < c .count) × (find k (recordsOf ws d) ≡ some (slotOf ws c (t .below)))
+      level-here f =
+          let p = chunk-here ws c (ready .0) (ready .1 .1 .1) k t q f in
+          (p .0, sym sought-find ∙ rw (← e) (p .1))
+
+      pub level-absent : t .found ≡ false → find k (recordsOf ws d) ≡ none
+      level-absent f = sym sought-find ∙ rw (← e) (chunk-absent ws c (ready .0) (ready .1 .1 .1) k t q f)
+
+      -- or where it would stand
+      records-below : Below k (take (t .below) (chunkRecs ws c))
+      records-below = rw (below-same ws c (ready .0) (ready .1 .1 .1) k t q) at (records-before k 0 (chunkRecs ws c) (ready .1 .1 .1))
+
+      pub stands-here : t .below < c .count → Stands ws d k (record { chunk = r; below = t .below })
+      stands-here l =
+          let i = s .inside in
+          let z : r - 0 ≡ r = omega arith in
+          record {
+            inside = omega arith;
+            ended = λ h. absurd (omega arith);
+            slot = λ _. rw (← e) l;
+            before = below-append k (recordsFrom ws d 0 r) _ (rw z at span-before) (rw (← e) records-below);
+            from = λ _. rw (← e, ← key-is ws c (ready .0) (ready .1 .1 .1) (t .below) l)
+                (rank-from k 0 (chunkKeys ws c) (t .below) (keys-rising ws c (ready .0) (ready .1 .1 .1)) (rw q (omega arith)) (rw (keys-long ws c (ready .0) (ready .1 .1 .1)) l));
+          }
+
+      pub stands-after : c .count ≤ t .below → Stands ws d k (record { chunk = r + 1; below = 0 })
+      unfolding recordsFrom firstAt
+      stands-after l =
+          let i = s .inside in
+          let z : r - 0 ≡ r = omega arith in
+          let o : 0 + r ≡ r = omega arith in
+          let y : take (t .below) (chunkRecs ws c) ≡ chunkRecs ws c = take-all (t .below) (chunkRecs ws c) (rw (slots-length ws (c .marks) (c .keys) (c .pays) (c .count)) l) in
+          let b : Below k (recordsFrom ws d 0 (r + 1)) = rw (records-split ws d 0 r 1, o) (below-append k (recordsFrom ws d 0 r) (chunkRecs ws (chunkAt ws d r) ++ []) (rw z at span-before) (below-append k (chunkRecs ws (chunkAt ws d r)) [] (rw (← e) (rw y at records-below)) tt)) in
+          record {
+            inside = omega arith;
+            ended = λ _. refl;
+            slot = λ h. f .counts (r + 1) h .0;
+            before = below-append k (recordsFrom ws d 0 (r + 1)) [] b tt;
+            from = λ h. let m = s .next-starts h in rw add-zero (omega (arith, m));
+          }
+
+-- in a level of no chunks every key stands at its end
+pub stands-none : (ws : List ℕ) (d : Directory) (k : ℕ) → d .chunks < 1 → Stands ws d k (record { chunk = 0; below = 0 })
+unfolding recordsFrom
+stands-none ws d k h = record { inside = omega arith; ended = λ _. refl; slot = λ l. absurd (omega arith); before = tt; from = λ l. absurd (omega arith) }
 
 -- a level of no chunks has no key
 pub empty-level : (ws : List ℕ) (d : Directory) (k : ℕ) → d .chunks < 1 → find k (recordsOf ws d) ≡ none

@@ -1,13 +1,11 @@
-// Binary searches in one level: the record with a key, and the chunk whose keys enclose a key.
+// Searches in one level: the only chunk that can have a key; the record with a key; the chunk whose keys enclose a key. Of the
+// chunks, whose first keys do not stand in a row, one is found by halving here; in a chunk `slices::rank_of` finds the key.
 
 ghost use mathlib.Core.Path.{_≡_};
 ghost use Prim.Native.Nat.{_+_, _-_, _≤_, _<_};
 ghost use Rattle.levels.specs.Map.{find};
-ghost use Rattle.levels.specs.Rising.{Rising};
-ghost use Rattle.chunks.specs.Chunks.{Inside, chunkRecs};
 ghost use Rattle.directory.specs.Directory.{Formed, recordsOf};
-ghost use Rattle.search.specs.Search.{Sought, foundOf, enclosedOf};
-use chunks::Chunk;
+ghost use Rattle.search.specs.Search.{Sought, Stands, foundOf, enclosedOf};
 use directory::Directory;
 
 // What a level has for a key: a tombstone (true) or not, with its payload.
@@ -20,6 +18,13 @@ pub enum Found {
 pub enum Enclosed {
     At(usize),
     Nowhere,
+}
+
+// Where a key stands in a level: record `below` of chunk `chunk` is the first whose key is not below it. The number of chunks
+// and 0 where there is none.
+pub struct Slot {
+    pub chunk: usize,
+    pub below: usize,
 }
 
 // The last chunk whose first key is not above k, or the first chunk: the only one that can have k.
@@ -43,36 +48,35 @@ pub fn seek_chunk(s: &[u32], dir: Directory, k: usize) -> usize
     lo
 }
 
-// The record with key k in a chunk.
-pub fn seek(s: &[u32], chunk: Chunk, k: usize) -> Found
-    requires { ⌜ Inside chunk (now s) × ((1 ≤ chunk .count) × ((chunk .count ≤ 16) × Rising 0 (chunkRecs (now s) chunk))) ⌝ }
-    ensures { λ f. ⌜ f ≡ foundOf (find k (chunkRecs (now (s .entry)) chunk)) ⌝ }
+// Where k stands in a level.
+pub fn slot_of(s: &[u32], dir: Directory, k: usize) -> Slot
+    requires { ⌜ Formed dir (now s) × (k ≤ 4294967296) ⌝ }
+    ensures { λ r. ⌜ Stands (now (s .entry)) dir k r ⌝ }
 {
-    let keys = chunk.keys;
-    let pays = chunk.pays;
-    let m = chunk.marks;
-    let mut lo: usize = 0;
-    let mut hi = chunk.count;
-    while lo + 1 < hi {
-        let mid = lo + (hi - lo) / 2;
-        let x = slices::word(s, keys + mid);
-        if x <= k {
-            lo = mid;
-        } else {
-            hi = mid;
-        }
+    let n = dir.chunks;
+    if n < 1 {
+        return Slot { chunk: 0, below: 0 };
     }
-    let x = slices::word(s, keys + lo);
-    if x == k {
-        let shift = lo as u32;
-        return Found::Here((m >> shift) % 2 == 1, s[pays + lo]);
+    let i = seek_chunk(s, dir, k);
+    let chunk = directory::chunk_at(s, dir, i);
+    let count = chunk.count;
+    let at = slices::rank_of(s, chunk.keys, count, k);
+    let below = at.below;
+    if count <= below {
+        return Slot {
+            chunk: i + 1,
+            below: 0,
+        };
     }
-    Found::Absent
+    Slot {
+        chunk: i,
+        below: below,
+    }
 }
 
 // The record with key k in a level.
 pub fn find_in(s: &[u32], dir: Directory, k: usize) -> Found
-    requires { ⌜ Formed dir (now s) ⌝ }
+    requires { ⌜ Formed dir (now s) × (k ≤ 4294967296) ⌝ }
     ensures { λ f. ⌜ f ≡ foundOf (find k (recordsOf (now (s .entry)) dir)) ⌝ }
 {
     let n = dir.chunks;
@@ -81,12 +85,20 @@ pub fn find_in(s: &[u32], dir: Directory, k: usize) -> Found
     }
     let i = seek_chunk(s, dir, k);
     let chunk = directory::chunk_at(s, dir, i);
-    seek(s, chunk, k)
+    let at = slices::rank_of(s, chunk.keys, chunk.count, k);
+    if at.found {
+        let j = at.below;
+        let pays = chunk.pays;
+        let m = chunk.marks;
+        let shift = j as u32;
+        return Found::Here((m >> shift) % 2 == 1, s[pays + j]);
+    }
+    Found::Absent
 }
 
 // The chunk of a level whose first to last key encloses k.
 pub fn enclosing(s: &[u32], dir: Directory, k: usize) -> Enclosed
-    requires { ⌜ Formed dir (now s) ⌝ }
+    requires { ⌜ Formed dir (now s) × (k ≤ 4294967296) ⌝ }
     ensures { λ r. ⌜ r ≡ enclosedOf (now (s .entry)) dir k ⌝ }
 {
     let n = dir.chunks;
@@ -95,11 +107,11 @@ pub fn enclosing(s: &[u32], dir: Directory, k: usize) -> Enclosed
     }
     let i = seek_chunk(s, dir, k);
     let chunk = directory::chunk_at(s, dir, i);
-    let keys = chunk.keys;
     let count = chunk.count;
-    let first = slices::word(s, keys);
-    let last = slices::word(s, keys + (count - 1));
-    let held = (first <= k) & (k <= last);
+    let at = slices::rank_of(s, chunk.keys, count, k);
+    let below = at.below;
+    // The first key is not above k, and the last one not below it.
+    let held = (at.found | (0 < below)) & (below < count);
     if held {
         return Enclosed::At(i);
     }

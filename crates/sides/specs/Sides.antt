@@ -4,7 +4,8 @@ use mathlib.Core.Path.{_≡_}
 use mathlib.Core.Bool.{Bool, true, false, not, _&&_, _||_}
 use mathlib.Core.List.{List}
 use lib.Dec.{ltb, leb, eqb}
-use lib.ListN.{getD}
+use lib.ListN.{length, getD, take, drop}
+use Rattle.slices.specs.Ranks.{Rising}
 use Rattle.levels.specs.Basics.{if_then_else_}
 use Rattle.blocks.specs.declared.Layout.{Layout}
 use Rattle.blocks.specs.Blocks.{Sized, startOf}
@@ -31,7 +32,11 @@ pub record Chunked (z : Layout) (pages : Bool) (xs list : List ℕ) (i : ℕ) : 
   pub place : pages ≡ false → getD list i 0 < z .p
   pub page : pages ≡ true → i < z .top
 
--- chunk i of a side can be read at record j
+-- the keys of a chunk
+abbrev pub keysIn : List ℕ → Chunk → List ℕ
+keysIn xs c = take (c .n) (drop (c .keys) xs)
+
+-- chunk i of a side can be read at record j, and its keys rise
 pub record Readable (z : Layout) (pages : Bool) (xs list : List ℕ) (i j end : ℕ) : Type 0 where
   pub sized : Sized z xs
   pub end-high : end ≤ listRoom
@@ -39,10 +44,11 @@ pub record Readable (z : Layout) (pages : Bool) (xs list : List ℕ) (i j end : 
   pub page : i < end → pages ≡ true → i < z .top
   pub inside : i < end → j < chunkOf z pages xs list i .n
   pub count : i < end → chunkOf z pages xs list i .n ≤ z .b
+  pub rises : i < end → Rising 0 (keysIn xs (chunkOf z pages xs list i))
 
 -- a side that is used up: "or that list is used up"
 abbrev pub noHead : Head
-noHead = record { some = false; whole = false; key = 0; tombstone = 0; pay = 0; last = 0; marks = 0; n = 0; place = 0 }
+noHead = record { some = false; whole = false; key = 0; tombstone = 0; pay = 0; marks = 0; keys = 0; pays = 0; n = 0; place = 0 }
 
 -- record j of a chunk
 abbrev pub headAt : List ℕ → Chunk → ℕ → Head
@@ -53,8 +59,9 @@ headAt xs c j =
       key = getD xs (c .keys + j) 0;
       tombstone = getD xs (c .marks) 0 / 2 ^ j % 2;
       pay = getD xs (c .pays + j) 0;
-      last = getD xs (c .keys + (c .n - 1)) 0;
       marks = getD xs (c .marks) 0;
+      keys = c .keys;
+      pays = c .pays;
       n = c .n;
       place = c .place;
     }
@@ -72,12 +79,23 @@ lastSize z xs out m = if eqb m 0 then z .b else getD xs (startOf z (getD out (m 
 abbrev pub first : Head → Head → Bool
 first a b = a .some && (not (b .some) || ltb (a .key) (b .key))
 
+-- the records of a head's block lie in the store, and its keys can be searched
+pub record Searchable (xs : List ℕ) (h : Head) : Type 0 where
+  pub filled : 1 ≤ h .n
+  pub inside : h .keys + h .n ≤ length xs
+  pub pays : h .pays + h .n ≤ length xs
+  pub rises : Rising 0 (take (h .n) (drop (h .keys) xs))
+
+-- a starts a listed block whose last key is below b's next key
+unfoldable pub wholeBelow : List ℕ → Head → Head → Bool
+wholeBelow xs a b = a .whole && (not (b .some) || ltb (getD xs (a .keys + (a .n - 1)) 0) (b .key))
+
 -- Step 3, "b is reused at its place if ..": a starts a listed block that ends below b's next key, it has no mark in level h, and the
 -- buffer of n records, the block and e of e records hold more than B together, pair by pair
-unfoldable pub follows : Layout → Bool → Head → Head → ℕ → ℕ → Bool
-follows z bottom a b n e =
-    if eqb n 0 then (a .whole && (not (b .some) || ltb (a .last) (b .key))) && (not (bottom && not (eqb (a .marks) 0)) && ltb (z .b) (e + a .n))
-    else (a .whole && (not (b .some) || ltb (a .last) (b .key))) && (not (bottom && not (eqb (a .marks) 0)) && (ltb (z .b) (n + a .n) && ltb (z .b) (e + n)))
+unfoldable pub follows : Layout → Bool → List ℕ → Head → Head → ℕ → ℕ → Bool
+follows z bottom xs a b n e =
+    if eqb n 0 then wholeBelow xs a b && (not (bottom && not (eqb (a .marks) 0)) && ltb (z .b) (e + a .n))
+    else wholeBelow xs a b && (not (bottom && not (eqb (a .marks) 0)) && (ltb (z .b) (n + a .n) && ltb (z .b) (e + n)))
 
 -- what is read at a record: a mark bit, a block's records, a place
 pub record HeadOk (h : Head) : Type 0 where

@@ -1,12 +1,12 @@
 // What a side of a merge reads next: a record of a block or of a page of level 0, and whether its block may be reused.
 
 ghost use mathlib.Core.Path.{_≡_};
-ghost use mathlib.Core.Bool.{false};
+ghost use mathlib.Core.Bool.{true, false};
 ghost use Prim.Native.Nat.{ℕ, _+_, _-_, _*_, _^_, _%_, _≤_, _<_};
 ghost use lib.ListN.{length, getD};
 ghost use Rattle.blocks.specs.Blocks.{Sized};
 ghost use Rattle.blocks.specs.Room.{listRoom};
-ghost use Rattle.sides.specs.Sides.{blockChunk, pageChunk, chunkOf, Chunked, headOf, headAt, Readable, lastSize, follows, first};
+ghost use Rattle.sides.specs.Sides.{blockChunk, pageChunk, chunkOf, Chunked, headOf, headAt, Readable, Searchable, lastSize, wholeBelow, follows, first};
 use blocks::Layout;
 
 // Where the records of a block or of a page of level 0 stand: the index of its mark word, of its
@@ -20,16 +20,17 @@ pub struct Chunk {
     pub listed: bool,
 }
 
-// What a side of the merge reads next: the next record, and the block that it stands in. `whole`
-// says that the record starts a listed block, which may then be reused.
+// What a side of the merge reads next: the next record, and the block that it stands in, by its mark word, the indices of its
+// first key and payload and its count. `whole` says that the record starts a listed block, which may then be reused.
 pub struct Head {
     pub some: bool,
     pub whole: bool,
     pub key: u32,
     pub tombstone: u32,
     pub pay: u32,
-    pub last: u32,
     pub marks: u32,
+    pub keys: usize,
+    pub pays: usize,
     pub n: usize,
     pub place: usize,
 }
@@ -100,15 +101,15 @@ pub fn head_at(s: &[u32], chunk: Chunk, j: usize) -> Head
     let m = s[ma];
     let k = s[ka + j];
     let v = s[va + j];
-    let l = s[ka + (n - 1)];
     Head {
         some: true,
         whole: chunk.listed & (j == 0),
         key: k,
         tombstone: (m >> j) % 2,
         pay: v,
-        last: l,
         marks: m,
+        keys: ka,
+        pays: va,
         n: n,
         place: chunk.place,
     }
@@ -134,8 +135,9 @@ pub fn peek(
             key: 0,
             tombstone: 0,
             pay: 0,
-            last: 0,
             marks: 0,
+            keys: 0,
+            pays: 0,
             n: 0,
             place: 0,
         };
@@ -164,17 +166,41 @@ pub fn before(a: Head, other: Head) -> bool
     a.some & (!other.some | (a.key < other.key))
 }
 
+// a starts a listed block that ends below the other's next key: all its keys are below it.
+fn whole_below(s: &[u32], a: Head, other: Head) -> bool
+    requires { ⌜ (a .whole ≡ true → Searchable (now s) a) ⌝ }
+    ensures { λ r. ⌜ r ≡ wholeBelow (now (s .entry)) a other ⌝ }
+{
+    if !a.whole {
+        return false;
+    }
+    if !other.some {
+        return true;
+    }
+    let n = a.n;
+    let at = slices::rank_of(s, a.keys, n, other.key as usize);
+    at.below == n
+}
+
 // a's block may follow as it stands: the buffer has n records, the last block e.
-pub fn reusable(z: Layout, bottom: bool, a: Head, other: Head, n: usize, e: usize) -> bool
-    requires { ⌜ (z .b ≤ 16) × (a .n ≤ 16) × (n ≤ 16) × (e < 2 ^ 32) ⌝ }
-    ensures { λ r. ⌜ r ≡ follows z bottom a other n e ⌝ }
+pub fn reusable(
+    s: &[u32],
+    z: Layout,
+    bottom: bool,
+    a: Head,
+    other: Head,
+    n: usize,
+    e: usize,
+) -> bool
+    requires { ⌜ (z .b ≤ 16) × (a .n ≤ 16) × (n ≤ 16) × (e < 2 ^ 32) × (a .whole ≡ true → Searchable (now s) a) ⌝ }
+    ensures { λ r. ⌜ r ≡ follows z bottom (now (s .entry)) a other n e ⌝ }
 {
     let cap = z.b;
     let size = a.n;
-    let ends = !other.some | (a.last < other.key);
+    let below = whole_below(s, a, other);
     let clean = !(bottom & !(a.marks == 0));
     if n == 0 {
-        return (a.whole & ends) & (clean & (cap < e + size));
+        return below & (clean & (cap < e + size));
     }
-    (a.whole & ends) & (clean & ((cap < n + size) & (cap < e + n)))
+    below & (clean & ((cap < n + size) & (cap < e + n)))
 }

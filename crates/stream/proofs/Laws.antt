@@ -1,8 +1,10 @@
 -- Laws of the machine's steps.
-use Prim.Native.Nat.{ℕ, zero, suc, _+_, _≤_, _<_}
-use mathlib.Core.Path.{_≡_, sym, ap, _∙_, refl}
+use Prim.Native.Nat.{ℕ, zero, suc, _+_, _-_, _≤_, _<_}
+use mathlib.Core.Path.{_≡_, sym, ap, _∙_, refl, subst}
 use mathlib.Core.Bool.{Bool, true, false, true≢false}
 use mathlib.Core.List.{List}
+use mathlib.Core.Logic.{dite}
+use native.Mathlib.Decide.{decLt}
 use native.Mathlib.Omega.{arith}
 use lib.Dec.{leb, eqb}
 use borrow.Author.Tests.{le-leb, leb-true, leb-false}
@@ -16,7 +18,7 @@ use Rattle.stream.specs.declared.Point.{Point}
 use Rattle.stream.specs.declared.Progress.{Progress}
 use Rattle.stream.specs.declared.Move.{Move}
 use Rattle.stream.specs.declared.Inputs.{Inputs}
-use Rattle.stream.specs.Machine.{Memory, Movable, pointAfter, movedTo, chosen, flushed, writtenAt, turn, turns, idle}
+use Rattle.stream.specs.Machine.{Memory, Movable, Ready, Turned, pointAfter, movedTo, chosen, flushed, writtenAt, turn, turns, idle}
 
 pub flushed-m : (z : Layout) (a : Memory) → flushed z a .st .m ≤ a .st .m + 1
 unfolding flushed
@@ -56,13 +58,6 @@ module _ (z : Layout) (t : Inputs) (xs ys : List ℕ) where
       (leb-true (t .x) (a .st .x .i) (and-left p q e), leb-true (t .y) (a .st .y .i) (and-right p q e))
 
   -- The turns are counted outside the machine's text: `rw` in a goal that holds an open turn took 2.3 GB.
-  pub turns-more : (i : ℕ) (a : Memory) → idle z t xs ys (turns z t xs ys i a) ≡ false → turn z t xs ys (turns z t xs ys i a) ≡ turns z t xs ys (i + 1) a
-  unfolding turns
-  turns-more i a e =
-      let b : Memory = turns z t xs ys i a in
-      let h : suc i ≡ i + 1 = omega arith in
-      sym (if-false (idle z t xs ys b) b (turn z t xs ys b) e) ∙ ap (λ (n : ℕ). turns z t xs ys n a) h
-
   pub turns-idle : (d i : ℕ) (a : Memory) → idle z t xs ys (turns z t xs ys i a) ≡ true → turns z t xs ys (i + d) a ≡ turns z t xs ys i a
   unfolding turns
   turns-idle zero i a e = let h : i + zero ≡ i = omega arith in ap (λ (n : ℕ). turns z t xs ys n a) h
@@ -71,6 +66,43 @@ module _ (z : Layout) (t : Inputs) (xs ys : List ℕ) where
       let b : Memory = turns z t xs ys (i + d) a in
       let s : b ≡ turns z t xs ys i a = turns-idle d i a e in
       ap (λ (n : ℕ). turns z t xs ys n a) h ∙ (if-true (idle z t xs ys b) b (turn z t xs ys b) (ap (idle z t xs ys) s ∙ e) ∙ s)
+
+  -- turns after turns
+  pub turns-add : (m i : ℕ) (a : Memory) → turns z t xs ys m (turns z t xs ys i a) ≡ turns z t xs ys (i + m) a
+  unfolding turns
+  turns-add zero i a = let h : i ≡ i + zero = omega arith in ap (λ (n : ℕ). turns z t xs ys n a) h
+  turns-add (suc m) i a =
+      let h : suc (i + m) ≡ i + suc m = omega arith in
+      ap (λ (b : Memory). if idle z t xs ys b then b else turn z t xs ys b) (turns-add m i a) ∙ ap (λ (n : ℕ). turns z t xs ys n a) h
+
+  -- once both sides are used up after so many turns, more turns change nothing
+  turns-past : (limit i : ℕ) (a : Memory) → idle z t xs ys (turns z t xs ys limit a) ≡ true → limit ≤ i → turns z t xs ys i a ≡ turns z t xs ys limit a
+  turns-past limit i a e l =
+      let h : i ≡ limit + (i - limit) = omega arith in
+      ap (λ (n : ℕ). turns z t xs ys n a) h ∙ turns-idle (i - limit) limit a e
+
+  pub turned-none : (a : Memory) → Turned z t xs ys 0 a a
+  unfolding turns
+  turned-none a = record { count = 0; enough = omega arith; same = refl }
+
+  pub turned-more : (k : ℕ) (a b c : Memory) → Turned z t xs ys k a b → Turned z t xs ys 1 b c → Turned z t xs ys (k + 1) a c
+  turned-more k a b c f g =
+      record { count = f .count + g .count; enough = (let h = f .enough in let l = g .enough in omega arith); same = g .same ∙ (ap (turns z t xs ys (g .count)) (f .same) ∙ turns-add (g .count) (f .count) a) }
+
+  -- a limit after which both sides are used up
+  module _ (limit : ℕ) (a : Memory) (over : idle z t xs ys (turns z t xs ys limit a) ≡ true) where
+    pub turned-all : (b : Memory) → Turned z t xs ys limit a b → b ≡ turns z t xs ys limit a
+    turned-all b f = f .same ∙ turns-past limit (f .count) a over (f .enough)
+
+    pub turned-over : (k : ℕ) (b : Memory) → Turned z t xs ys k a b → idle z t xs ys b ≡ true → b ≡ turns z t xs ys limit a
+    turned-over k b f e =
+        f .same ∙ dite (decLt limit (f .count)) (λ l. turns-past limit (f .count) a over (omega arith)) (λ l. sym (turns-past (f .count) limit a (ap (idle z t xs ys) (sym (f .same)) ∙ e) (omega arith)))
+
+    -- until then each turn can be made
+    pub turned-ready : (k : ℕ) (b : Memory) → ((i : ℕ) → i ≤ limit → Ready z t xs ys (turns z t xs ys i a)) → Turned z t xs ys k a b → idle z t xs ys b ≡ false → Ready z t xs ys b
+    turned-ready k b r f e =
+        subst (Ready z t xs ys) (sym (f .same))
+        (dite (decLt limit (f .count)) (λ l. absurd (true≢false (sym over ∙ (ap (idle z t xs ys) (sym (f .same ∙ turns-past limit (f .count) a over (omega arith))) ∙ e)))) (λ l. r (f .count) (omega arith)))
 
 -- the places, the buffer and the list are not touched by a move of the sides
 pub moved-movable : (z : Layout) (xs : List ℕ) (used : List Bool) (w : Progress) (x y : Point) → Movable z xs used w → Movable z xs used (movedTo w x y)
@@ -82,6 +114,6 @@ moved-movable z xs used w x y k =
       room = k .room;
     }
 
-pub chosen-ok : (z : Layout) (bottom : Bool) (p q : Point) (x y : Head) (n e : ℕ) → HeadOk x → HeadOk y → HeadOk (chosen z bottom p q x y n e .head)
+pub chosen-ok : (z : Layout) (bottom : Bool) (xs : List ℕ) (p q : Point) (x y : Head) (n e : ℕ) → HeadOk x → HeadOk y → HeadOk (chosen z bottom xs p q x y n e .head)
 unfolding chosen
-chosen-ok z bottom p q x y n e kx ky = if-either (λ (c : Move). HeadOk (c .head)) (first y x) _ _ ky (if-either (λ (c : Move). HeadOk (c .head)) (first x y) _ _ kx kx)
+chosen-ok z bottom xs p q x y n e kx ky = if-either (λ (c : Move). HeadOk (c .head)) (first y x) _ _ ky (if-either (λ (c : Move). HeadOk (c .head)) (first x y) _ _ kx kx)

@@ -1,9 +1,8 @@
 pub mod Lists
 pub mod Marks
 pub mod Words
-pub mod Spots
+pub mod Inserting
 pub mod Moves
 pub mod Pushing
-pub mod Locating
 pub mod Closing
 pub mod Laws

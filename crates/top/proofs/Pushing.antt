@@ -1,25 +1,27 @@
 -- A record goes in between others: the slots after n turns, and at the end.
 use Prim.Native.Nat.{ℕ, suc, _+_, _-_, _/_, _≤_, _<_}
-use mathlib.Core.Path.{_≡_, sym, ap, _∙_}
+use mathlib.Core.Path.{_≡_, sym, ap, _∙_, subst}
+use mathlib.Core.Bool.{Bool, true, false}
 use mathlib.Core.List.{List, _∷_, _++_, append-assoc}
 use native.Mathlib.Numerals.{add-one}
 use native.Mathlib.Omega.{arith}
 use lib.ListN.{length, take, drop, getD, set, replicate, take-append-drop, length-set}
 use lib.Seq.{take-at, take-append-le, drop-append-le, drop-append-add, set-append-left, set-getD}
+use Rattle.slices.specs.declared.Rank.{Rank}
+use Rattle.slices.specs.Ranks.{rankOf}
 use Rattle.geometry.specs.declared.Geometry.{Geometry}
 use Rattle.geometry.specs.Geometry.{topCapacityOf, marksStart}
 use Rattle.levels.specs.Record.{Rec}
 use Rattle.levels.specs.Put.{insert}
-use Rattle.words.specs.Layout.{word, topCountAt, topSlots, topRecs}
+use Rattle.levels.proofs.Rising.{test-rising}
+use Rattle.words.specs.Layout.{word, topCountAt, topSlots, topRecs, keysOf}
 use Rattle.words.proofs.Slots.{padRecs, blankRec}
 use Rattle.words.proofs.Top.{top-slots-length}
 use Rattle.top.specs.declared.Slot.{Slot}
-use Rattle.top.specs.declared.Spot.{Spot}
-use Rattle.top.specs.declared.Spot.the-variants.{Found, Gap}
-use Rattle.top.specs.Top.{TopInside, TopReady, Room, spotOf, recOf, slotAt, withSlot, withSlots, withTop, pushed}
+use Rattle.top.specs.Top.{TopInside, TopReady, Room, recOf, slotAt, withSlot, withSlots, withTop, pushed}
 use Rattle.top.proofs.Lists.{pushedIn, pushed-length, pushed-here, pushed-on, pushed-before, mixed-more, mixed-next, mixed-length}
 use Rattle.top.proofs.Words.{slot-low, slot-read, slot-set, slots-long, top-is, padded-is, header-word, ready-inside, ready-count, ready-slots, ready-is}
-use Rattle.top.proofs.Spots.{Entered, entered}
+use Rattle.top.proofs.Inserting.{Entered, entered}
 
 -- the words once slots i to n - 1 are done
 unfoldable pub pushing : Geometry → List ℕ → ℕ → Rec → ℕ → List ℕ
@@ -109,17 +111,22 @@ module _ (g : Geometry) (ws : List ℕ) (t : TopReady g ws) (r : Rec) where
       let d : drop (suc (length top)) (top ++ blanks) ≡ replicate (room - suc (length top)) blankRec = ap (λ (x : ℕ). drop x (top ++ blanks)) (sym (add-one (length top))) ∙ drop-append-add top blanks 1 ∙ ap (λ (x : ℕ). drop 1 (replicate x blankRec)) e in
       rw (ready-slots g ws t, take-append-le i top blanks h, drop-append-le i top blanks h, ← append-assoc (take i top) (r ∷ drop i top) blanks, take-at (pushedIn i r top) blanks (suc (length top)) n, d, n)
 
--- A slot at its spot.
-module _ (g : Geometry) (ws : List ℕ) (t : TopReady g ws) (slot : Slot) (at : Spot) (s : at ≡ spotOf (slot .key) (topRecs g ws)) (i : ℕ) where
+-- A slot where its key stands.
+module _ (g : Geometry) (ws : List ℕ) (t : TopReady g ws) (slot : Slot) (at : Rank) (s : at ≡ rankOf (slot .key) (keysOf (topRecs g ws))) where
   abbrev rs : List Rec
   rs = topRecs g ws
 
-  spot-entered : (x : Spot) → at ≡ x → Entered (recOf slot) rs x
-  spot-entered x e = rw (sym s ∙ e) at (entered (recOf slot) rs)
+  abbrev i : ℕ
+  i = at .below
 
-  module _ (e : at ≡ Found i) where
+  entered-at : (x : Bool) → at .found ≡ x → Entered (recOf slot) rs x i
+  entered-at x e =
+      subst (λ (b : Bool). Entered (recOf slot) rs b i) e
+      (subst (λ (k : Rank). Entered (recOf slot) rs (k .found) (k .below)) (sym s) (entered 0 (recOf slot) rs (test-rising 0 rs (t .rises))))
+
+  module _ (e : at .found ≡ true) where
     found-inside : i < length rs
-    found-inside = spot-entered (Found i) e .0
+    found-inside = entered-at true e .0
 
     found-room : i < topCapacityOf g
     found-room = omega (arith, found-inside, count-low g ws t (recOf slot))
@@ -138,24 +145,21 @@ module _ (g : Geometry) (ws : List ℕ) (t : TopReady g ws) (slot : Slot) (at : 
         let a : withSlot g ws i slot ≡ withSlots g ws (set rs i r) = ap (λ (us : List ℕ). withSlot g us i slot) (sym (ready-is g ws t)) ∙ slot-set g ws (k .ranged) (k .inside) (topSlots g ws) (top-slots-length g ws) i found-room slot ∙ ap (withSlots g ws) (found-slots g ws t r i found-inside) ∙ padded-is g ws (k .ranged) (k .inside) (set rs i r) (rw l (t .fits)) in
         a
         ∙ sym (set-getD (withSlots g ws (set rs i r)) 8 0)
-        ∙ rw (header-word g ws (k .ranged) (k .inside) (set rs i r) 8 (omega arith), ← l, spot-entered (Found i) e .1)
+        ∙ rw (header-word g ws (k .ranged) (k .inside) (set rs i r) 8 (omega arith), ← l, entered-at true e .1)
         (sym (top-is g ws (k .ranged) (k .inside) (set rs i r)))
 
-  module _ (e : at ≡ Gap i) (h : Room g ws at) where
-    gap-room : suc (topCountAt ws) ≤ topCapacityOf g
-    gap-room = rw e at h
-
+  module _ (e : at .found ≡ false) (h : Room g ws at) where
     -- there is a slot for it
     pub gap-ready : (i ≤ topCountAt ws) × (suc (topCountAt ws) ≤ topCapacityOf g)
-    gap-ready = (omega (arith, spot-entered (Gap i) e .0, ready-count g ws t), gap-room)
+    gap-ready = (omega (arith, entered-at false e .0, ready-count g ws t), h e)
 
     pub gap-entered : set (withSlots g ws (pushed i (topCountAt ws) (recOf slot) (topSlots g ws))) 8 (topCountAt ws + 1) ≡ withTop g ws (insert (recOf slot) rs)
     gap-entered =
         let k = ready-inside g ws t in
         let r = recOf slot in
         let n = ready-count g ws t in
-        let x = spot-entered (Gap i) e in
+        let x = entered-at false e in
         let l : length (pushedIn i r rs) ≡ topCountAt ws + 1 = pushed-length i r rs (x .0) ∙ rw (n, add-one (topCountAt ws)) in
-        let p : pushed i (topCountAt ws) r (topSlots g ws) ≡ padRecs (topCapacityOf g) (pushedIn i r rs) = rw n at (pushed-slots g ws t r i (x .0) (rw n gap-room)) in
-        rw (p, padded-is g ws (k .ranged) (k .inside) (pushedIn i r rs) (rw l (omega (arith, gap-room))), ← l, x .1)
+        let p : pushed i (topCountAt ws) r (topSlots g ws) ≡ padRecs (topCapacityOf g) (pushedIn i r rs) = rw n at (pushed-slots g ws t r i (x .0) (rw n (h e))) in
+        rw (p, padded-is g ws (k .ranged) (k .inside) (pushedIn i r rs) (rw l (omega (arith, h e))), ← l, x .1)
         (sym (top-is g ws (k .ranged) (k .inside) (pushedIn i r rs)))

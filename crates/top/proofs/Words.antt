@@ -1,24 +1,27 @@
 -- The words of a store around level 0: its three parts between the header and the lists.
 use Prim.Native.Nat.{ℕ, _+_, _-_, _*_, _/_, _%_, _^_, _≤_, _<_}
-use mathlib.Core.Path.{_≡_, sym, ap, _∙_}
+use mathlib.Core.Path.{_≡_, sym, ap, _∙_, subst}
 use mathlib.Core.List.{List, _++_, append-assoc, append-nil}
 use native.Mathlib.Nat.{div-add-mod', mod-lt, div-lt-iff-lt-mul}
 use native.Mathlib.Omega.{arith}
 use lib.Dec.{eqb}
 use lib.ListN.{length, take, drop, getD, set, length-append, length-drop, length-set, length-map, List·getD-append, take-append-drop}
 use lib.Pow.{pow-mono}
-use lib.Seq.{set-append-left, length-take-le, getD-take}
+use lib.Seq.{set-append-left, length-take-le, getD-take, take-take}
+use Rattle.slices.specs.Ranks.{Rising}
 use Rattle.geometry.specs.declared.Geometry.{Geometry}
 use Rattle.geometry.specs.Geometry.{Ranged, capacityOf, topCapacityOf, marksStart, keysStart, paysStart, listStart}
 use Rattle.geometry.proofs.Laws.{pays-end, store-length-high}
 use Rattle.levels.specs.Record.{Rec}
-use Rattle.levels.proofs.Lists.{getD-map-in, map-set}
-use Rattle.words.specs.Layout.{word, topCountAt, topSlots, topRecs, keysOf, paysOf, topWords, topLength}
-use Rattle.words.proofs.Parts.{part-rest}
+use Rattle.levels.proofs.Lists.{getD-map-in, map-set, map-take}
+use Rattle.levels.proofs.Rising.{test-rising}
+use Rattle.words.specs.Layout.{word, topCountAt, topSlots, topRecs, keysOf, paysOf, topWords, topLength, part}
+use Rattle.words.proofs.Parts.{part-rest, part-length}
 use Rattle.words.proofs.Slots.{padRecs, pad-recs-length, blankRec, unpad}
-use Rattle.words.proofs.Top.{marksOf, marks-length, top-words-pad, top-words-length, top-slots-length, top-length, top-written}
+use Rattle.words.proofs.Top.{marksOf, marks-length, page-keys, top-words-pad, top-words-length, top-slots-part, top-slots-length, top-length, top-written}
 use Rattle.words.proofs.State.{top-end, top-inside, lists-inside}
 use Rattle.words.proofs.Form.{top-unused, mark-words-low}
+use Rattle.words.proofs.Ranks.{keys-rise}
 use Rattle.top.specs.declared.Slot.{Slot}
 use Rattle.top.specs.Top.{TopInside, TopReady, withSlots, withTop, slotAt, setBit, withSlot, recOf}
 use Rattle.top.proofs.Lists.{set-right, getD-right}
@@ -128,7 +131,7 @@ module _ (g : Geometry) (ws : List ℕ) (k : Ranged g) (i : listStart g 1 ≤ le
         rw mark-word
         (omega (arith, marks-low (g .b) (capacityOf g 0) (j / g .b) S (page-of j h .0), pow-mono {i = g .b} {j = 16} (k .b-high)))
 
-    pub slot-key : word (withSlots g ws S) (keysStart g + j) ≡ getD S j blankRec .key
+    slot-key : word (withSlots g ws S) (keysStart g + j) ≡ getD S j blankRec .key
     slot-key =
         rw (slots-lay S e) (lay-key g H M (keysOf S) (paysOf S) R head-long (marks-length _ _ S) j (rw (length-map S, e) h)
         ∙ getD-map-in (λ (r : Rec). r .key) S j blankRec 0 (rw e h))
@@ -227,14 +230,22 @@ module _ (g : Geometry) (ws : List ℕ) (t : TopReady g ws) where
   ready-is =
       ap (withSlots g ws) ready-slots ∙ padded-is g ws (t .valid .ranged) (ready-inside .inside) (topRecs g ws) (rw ready-count (t .fits)) ∙ ready-recs
 
-  -- the key of record i
-  pub ready-key : (i : ℕ) → i < topCountAt ws → getD (topRecs g ws) i blankRec .key ≡ word ws (keysStart g + i)
-  unfolding topRecs
-  ready-key i h =
-      let l : i < topCapacityOf g = omega (arith, t .fits) in
-      ap (λ (r : Rec). r .key) (getD-take (topCountAt ws) (topSlots g ws) i blankRec h)
-      ∙ sym (slot-key g ws (t .valid .ranged) (ready-inside .inside) (topSlots g ws) (top-slots-length g ws) i l)
-      ∙ ap (λ (us : List ℕ). word us (keysStart g + i)) ready-is
+  -- their keys stand in a row
+  pub ready-keys : keysOf (topRecs g ws) ≡ take (topCountAt ws) (drop (keysStart g) ws)
+  unfolding topRecs topCapacityOf keysStart paysStart part
+  ready-keys =
+      let c = topCountAt ws in
+      let K = capacityOf g 0 in
+      let T = topCapacityOf g in
+      let i = top-inside g ws (t .words) in
+      let m = part-length ws (marksStart g) K (omega arith) in
+      map-take (λ (r : Rec). r .key) c (topSlots g ws)
+      ∙ ap (λ (rs : List Rec). take c (keysOf rs)) (top-slots-part g ws i)
+      ∙ ap (take c) (page-keys (g .b) (part ws (marksStart g) K) (part ws (keysStart g) T) (part ws (paysStart g) T) (part-length ws (keysStart g) T (omega arith) ∙ rw m) (part-length ws (paysStart g) T (omega arith) ∙ rw m))
+      ∙ take-take c T (drop (keysStart g) ws) (t .fits)
+
+  pub ready-rise : Rising 0 (take (topCountAt ws) (drop (keysStart g) ws))
+  ready-rise = subst (Rising 0) ready-keys (keys-rise 0 (topRecs g ws) (test-rising 0 (topRecs g ws) (t .rises)))
 
   -- the words that a search reads are there
   pub ready-bounds : (keysStart g + topCountAt ws ≤ length ws) × ((length ws ≤ 288524) × (8 < length ws))

@@ -1,18 +1,17 @@
--- Level 0 in the words of a store: its slots, where a key stands or would stand, and the words with other records in it.
+-- Level 0 in the words of a store: its slots, whether there is room for one more, and the words with other records in it.
 use Prim.Native.Nat.{ℕ, zero, suc, _+_, _-_, _*_, _/_, _%_, _^_, _≤_}
 use mathlib.Core.Path.{_≡_}
 use mathlib.Core.Bool.{Bool, true, false}
-use mathlib.Core.List.{List, [], _∷_, _++_}
-use lib.Dec.{ltb, eqb}
+use mathlib.Core.List.{List, _∷_, _++_}
+use lib.Dec.{eqb}
 use lib.ListN.{length, take, drop, set, replicate}
+use Rattle.slices.specs.declared.Rank.{Rank}
 use Rattle.geometry.specs.declared.Geometry.{Geometry}
 use Rattle.geometry.specs.Geometry.{Ranged, Valid, headerLength, topCapacityOf, marksStart, keysStart, paysStart, listStart, storeLength}
 use Rattle.levels.specs.Record.{Rec, rising}
 use Rattle.words.specs.Layout.{word, topCountAt, topRecs, bit, topWords}
 use Rattle.words.specs.Form.{topUnusedZero}
 use Rattle.top.specs.declared.Slot.{Slot}
-use Rattle.top.specs.declared.Spot.{Spot}
-use Rattle.top.specs.declared.Spot.the-variants.{Found, Gap}
 
 -- the words with these records in level 0's three parts, and the same count c
 unfoldable pub withSlots : Geometry → List ℕ → List Rec → List ℕ
@@ -36,23 +35,9 @@ pub record TopReady (g : Geometry) (ws : List ℕ) : Type 0 where
   pub unused : topUnusedZero g ws ≡ true
   pub rises : rising 0 (topRecs g ws) ≡ true
 
--- one record further on
-abbrev pub later : Spot → Spot
-later (Found i) = Found (suc i)
-later (Gap i) = Gap (suc i)
-
--- where key k stands among records whose keys rise: at the record that has it, or after the keys below it
-unfoldable pub spotOf : ℕ → List Rec → Spot
-spotOf k [] = Gap 0
-spotOf k (r ∷ rs) = elim (ltb k (r .key)) [
-  | true ↦ Gap 0
-  | false ↦ elim (eqb k (r .key)) [ true ↦ Found 0 | false ↦ later (spotOf k rs) ]
-]
-
 -- there is room for the record: one is overwritten, or level 0 is not full
-abbrev pub Room : Geometry → List ℕ → Spot → Type 0
-Room g ws (Found i) = Unit {0}
-Room g ws (Gap i) = suc (topCountAt ws) ≤ topCapacityOf g
+abbrev pub Room : Geometry → List ℕ → Rank → Type 0
+Room g ws at = at .found ≡ false → suc (topCountAt ws) ≤ topCapacityOf g
 
 -- the record of a slot
 abbrev pub recOf : Slot → Rec

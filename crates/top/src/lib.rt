@@ -5,11 +5,13 @@ ghost use mathlib.Core.Path.{_≡_};
 ghost use mathlib.Core.List.{_++_};
 ghost use Prim.Native.Nat.{suc, _+_, _*_, _/_, _≤_, _<_};
 ghost use lib.ListN.{length, take, drop};
+ghost use Rattle.slices.specs.Ranks.{rankOf};
 ghost use Rattle.geometry.specs.Geometry.{capacityOf, topCapacityOf, marksStart};
 ghost use Rattle.levels.specs.Put.{insert};
-ghost use Rattle.words.specs.Layout.{word, topCountAt, topSlots, topRecs};
-ghost use Rattle.top.specs.Top.{TopInside, TopReady, Room, spotOf, recOf, slotAt, setBit, withSlot, withSlots, withTop, pushed, closed};
+ghost use Rattle.words.specs.Layout.{word, topCountAt, topSlots, topRecs, keysOf};
+ghost use Rattle.top.specs.Top.{TopInside, TopReady, Room, recOf, slotAt, setBit, withSlot, withSlots, withTop, pushed, closed};
 use geometry::Geometry;
+use slices::Rank;
 
 // What a slot of level 0 holds: mark is true for a tombstone.
 pub struct Slot {
@@ -18,35 +20,12 @@ pub struct Slot {
     pub pay: u32,
 }
 
-// Where a key stands in level 0: the record that has it, or the number of keys below it.
-pub enum Spot {
-    Found(usize),
-    Gap(usize),
-}
-
-// Where k stands in level 0. Between lo and hi lie the records that may be the first not below k.
-pub fn locate(s: &[u32], g: Geometry, k: u32) -> Spot
+// Where k stands in level 0.
+pub fn locate(s: &[u32], g: Geometry, k: u32) -> Rank
     requires { ⌜ TopReady g (now s) ⌝ }
-    ensures { λ r. ⌜ r ≡ spotOf k (topRecs g (now (s .entry))) ⌝ }
+    ensures { λ r. ⌜ r ≡ rankOf k (keysOf (topRecs g (now (s .entry)))) ⌝ }
 {
-    let keys = g.keys_start();
-    let c = s[8] as usize;
-    let mut lo: usize = 0;
-    let mut hi = c;
-    while lo < hi {
-        let mid = lo + (hi - lo) / 2;
-        if s[keys + mid] < k {
-            lo = mid + 1;
-        } else {
-            hi = mid;
-        }
-    }
-    if lo < c {
-        if s[keys + lo] == k {
-            return Spot::Found(lo);
-        }
-    }
-    Spot::Gap(lo)
+    slices::rank_of(s, g.keys_start(), s[8] as usize, k as usize)
 }
 
 // m with `on` for bit j, all other bits kept. A mark word has a bit for each record of a page, which has 16 at most.
@@ -121,8 +100,8 @@ fn push_in(s: &mut [u32], g: Geometry, i: usize, c: usize, slot: Slot)
 }
 
 // A record into level 0: over the one that has its key, or between its neighbours.
-pub fn enter(s: &mut [u32], g: Geometry, at: Spot, k: u32, mark: bool, v: u32)
-    requires { ⌜ TopReady g (now s) × ((at ≡ spotOf k (topRecs g (now s))) × Room g (now s) at) ⌝ }
+pub fn enter(s: &mut [u32], g: Geometry, at: Rank, k: u32, mark: bool, v: u32)
+    requires { ⌜ TopReady g (now s) × ((at ≡ rankOf k (keysOf (topRecs g (now s)))) × Room g (now s) at) ⌝ }
     ensures { λ _. ⌜ now (s .exit) ≡ withTop g (now (s .entry)) (insert (record { key = k; tombstone = mark; pay = v }) (topRecs g (now (s .entry)))) ⌝ }
 {
     let slot = Slot {
@@ -130,15 +109,12 @@ pub fn enter(s: &mut [u32], g: Geometry, at: Spot, k: u32, mark: bool, v: u32)
         mark: mark,
         pay: v,
     };
-    match at {
-        Spot::Found(i) => {
-            write_slot(s, g, i, slot);
-        }
-        Spot::Gap(i) => {
-            let c = s[8];
-            push_in(s, g, i, c as usize, slot);
-            s[8] = c + 1;
-        }
+    if at.found {
+        write_slot(s, g, at.below, slot);
+    } else {
+        let c = s[8];
+        push_in(s, g, at.below, c as usize, slot);
+        s[8] = c + 1;
     }
 }
 

@@ -1,26 +1,33 @@
 -- The walk from a key on: of each level, what stands before the key may be passed over.
-use Prim.Native.Nat.{ℕ, suc, _-_, _+_, _≤_, _<_}
+use Prim.Native.Nat.{ℕ, suc, _+_, _-_, _/_, _^_, _≤_, _<_}
 use mathlib.Core.Path.{_≡_, refl, sym, _∙_, ap}
-use mathlib.Core.Logic.{dite, inl, inr}
+use mathlib.Core.Logic.{dite}
 use mathlib.Core.List.{List, [], _∷_, _++_, append-assoc}
 use native.Mathlib.Decide.{decLt}
+use native.Mathlib.Numerals.{add-one}
 use native.Mathlib.Omega.{arith}
-use lib.ListN.{length, length-append}
+use lib.ListN.{length, take, drop, length-append, take-append-drop}
+use lib.Seq.{drop-nil, take-append-le, drop-append-le}
 use Rattle.levels.specs.Record.{Rec}
 use Rattle.levels.specs.Map.{into, overlay}
-use Rattle.levels.proofs.Rising.{rising-from, rising-right, below-append}
+use Rattle.levels.proofs.Rising.{rising-from, rising-right}
 use Rattle.levels.proofs.Overlay.{into-below, into-same, into-above, overlay-rising, Way, way}
 use Rattle.levels.proofs.Overlay.Way.{less, same, more}
 use Rattle.levels.specs.Rising.{Rising, Below}
+use Rattle.words.specs.Layout.{word}
+use Rattle.words.proofs.Slots.{slots-length, slots-drop}
+use Rattle.chunks.specs.declared.Chunk.{Chunk}
+use Rattle.chunks.specs.Chunks.{chunkRecs}
 use Rattle.chunks.proofs.Overlay.{Least}
 use Rattle.directory.specs.declared.Directory.{Directory}
-use Rattle.directory.specs.Directory.{Formed, recordsFrom, recordsOf}
-use Rattle.search.specs.Search.{Sought}
-use Rattle.search.proofs.Laws.{span, span-split, span-before, span-after}
+use Rattle.directory.specs.Directory.{Formed, recordsFrom, recordsOf, chunkAt}
+use Rattle.search.specs.declared.Slot.{Slot}
+use Rattle.search.specs.Search.{Stands, beforeSlot}
+use Rattle.search.proofs.Laws.{span-split, chunk-ready}
 use Rattle.walk.specs.declared.Cursor.{Cursor}
 use Rattle.walk.specs.declared.Front.{Front}
 use Rattle.walk.specs.declared.Levels.{Levels}
-use Rattle.walk.specs.Walk.{rest, Good, FromKey, Skims, SkimStops, four, layered, AllFormed, rests, Ahead, Entered}
+use Rattle.walk.specs.Walk.{rest, Good, fromSlot, AtSlot, FromKey, four, layered, AllFormed, rests, Ahead, Entered}
 use Rattle.walk.proofs.Rest.{headOf, more as others, rest-alive, least-of}
 use Rattle.walk.proofs.Between.{overlay-before}
 use Rattle.walk.proofs.Four.{layered-few}
@@ -95,36 +102,86 @@ key-from ws d q c g h r =
     (λ y. let k : Rising q (headOf ws (c .chunk) ∷ others ws d c) = rw (rest-alive ws d c g y) at r in let e = g .alive y .0 in omega (arith, k .0))
     (λ n. omega (arith, g .ended (omega arith) .0))
 
--- a cursor at the chunk that was sought, past the records below q
-pub from-sought : (ws : List ℕ) (d : Directory) (q r : ℕ) (c after : Cursor) (live : ℕ) → Formed d ws → q ≤ 4294967296 → Sought ws d q r → rest ws d c ≡ recordsFrom ws d r (d .chunks - r) → (r < d .chunks → c .next ≡ r + 1)
-    → Skims ws d c q after live → SkimStops ws d c q after → FromKey ws d q after
-from-sought ws d q r c after live f h s e n k stops =
-    record {
-      good = k .good;
-      passed = span ws d 0 r ++ k .between;
-      cut =
-          span-split ws d r (let l = s .inside in omega arith)
-          ∙ ap (λ (rs : List Rec). span ws d 0 r ++ rs) (sym e ∙ k .joined)
-          ∙ sym (append-assoc (span ws d 0 r) (k .between) (rest ws d after));
-      below = below-append q (span ws d 0 r) (k .between) (span-before ws d f q r s) (k .below);
-      ahead = go stops;
-    }
-  where
-    go : SkimStops ws d c q after → q ≤ after .key
-    go (inl y) = y
-    go (inr y) =
-        let m : c .next ≡ r + 1 = n (s .inside) in
-        let z : Rising (suc q) (rest ws d after) = rw (y, m) (span-after ws d f q r s) in
-        key-from ws d q after (k .good) h (rising-from q (suc q) (rest ws d after) (omega arith) z)
+-- a level from a slot on
+module _ (ws : List ℕ) (d : Directory) (at : Slot) (f : Formed d ws) where
+  -- the records from the slot on: those of its chunk, then those of the chunks after it
+  slot-left : at .chunk < d .chunks → at .below < chunkAt ws d (at .chunk) .count → fromSlot ws d at ≡ drop (at .below) (chunkRecs ws (chunkAt ws d (at .chunk))) ++ recordsFrom ws d (at .chunk + 1) (d .chunks - (at .chunk + 1))
+  unfolding recordsFrom
+  slot-left i l =
+      let c = chunkAt ws d (at .chunk) in
+      let n : d .chunks - at .chunk ≡ suc (d .chunks - (at .chunk + 1)) = omega arith in
+      rw (n, add-one (at .chunk)) (drop-append-le (at .below) (chunkRecs ws c) _ (rw (slots-length ws (c .marks) (c .keys) (c .pays) (c .count)) (omega arith)))
 
--- a cursor into a level of no chunks
-pub from-none : (ws : List ℕ) (d : Directory) (q : ℕ) (c : Cursor) → d .chunks < 1 → q ≤ 4294967296 → Good ws d c → rest ws d c ≡ recordsFrom ws d 0 (d .chunks - 0) → FromKey ws d q c
-unfolding recordsFrom
-from-none ws d q c l h g e =
-    let z : d .chunks ≡ 0 = omega arith in
-    let y : d .chunks - 0 ≡ 0 = omega arith in
-    let r : rest ws d c ≡ [] = rw y at e in
-    record { good = g; passed = []; cut = rw (r, z); below = tt; ahead = key-from ws d q c g h (rw r tt) }
+  pub slot-room : (c : Chunk) → c ≡ chunkAt ws d (at .chunk) → at .chunk < d .chunks → at .below < chunkAt ws d (at .chunk) .count → (c .keys + at .below < length ws) × ((c .pays + at .below < length ws) × ((at .below < 16) × (at .below < c .count)))
+  slot-room c e i l =
+      let n = chunk-ready ws d f (at .chunk) i c e in
+      let m : at .below < c .count = rw e l in
+      (omega (arith, n .0 .keys-end), (omega (arith, n .0 .pays-end), (omega (arith, n .1 .1 .0), m)))
+
+  -- the cursor there
+  pub slot-cursor : (c : Chunk) (key : ℕ) → c ≡ chunkAt ws d (at .chunk) → at .chunk < d .chunks → at .below < chunkAt ws d (at .chunk) .count → key ≡ word ws (c .keys + at .below) → key < 4294967296
+      → AtSlot ws d at (record { next = at .chunk + 1; chunk = record { marks = c .marks / 2 ^ at .below; keys = c .keys + at .below; pays = c .pays + at .below; count = c .count - at .below }; key = key })
+  unfolding rest
+  slot-cursor c key e i l y b =
+      let n = chunk-ready ws d f (at .chunk) i c e .0 in
+      let m : at .below < c .count = rw e l in
+      record {
+        good =
+            record {
+              formed = f;
+              low = omega arith;
+              keys-in = let p = n .keys-end in omega arith;
+              pays-in = let p = n .pays-end in omega arith;
+              alive = λ z. (y, b);
+              ended = λ z. absurd (omega arith);
+            };
+        left = rw (← slots-drop ws (c .marks) (c .keys) (c .pays) (at .below) (c .count) (omega arith)) (rw e (sym (slot-left i l)));
+        key = λ _. rw (← e) y;
+      }
+
+  slot-none : d .chunks ≤ at .chunk → fromSlot ws d at ≡ []
+  unfolding recordsFrom
+  slot-none h = let y : d .chunks - at .chunk ≡ 0 = omega arith in rw (y, drop-nil {A = Rec} (at .below))
+
+  pub slot-end : (c : Cursor) → d .chunks ≤ at .chunk → Good ws d c → rest ws d c ≡ recordsFrom ws d (d .chunks) (d .chunks - d .chunks) → AtSlot ws d at c
+  unfolding recordsFrom
+  slot-end c h g e =
+      let z : d .chunks - d .chunks ≡ 0 = omega arith in
+      record { good = g; left = rw (slot-none h) (rw z at e); key = λ i. absurd (omega arith) }
+
+  -- what stands before the slot, and what from it on
+  slot-cut : (q : ℕ) → Stands ws d q at → recordsOf ws d ≡ beforeSlot ws d at ++ fromSlot ws d at
+  unfolding recordsFrom
+  slot-cut q s =
+      whole ∙ ap (λ (rs : List Rec). recordsFrom ws d 0 (at .chunk) ++ rs) (sym (take-append-drop (at .below) from)) ∙ sym (append-assoc (recordsFrom ws d 0 (at .chunk)) (take (at .below) from) (drop (at .below) from))
+      ∙ ap (λ (rs : List Rec). (recordsFrom ws d 0 (at .chunk) ++ rs) ++ fromSlot ws d at) (dite (decLt (at .chunk) (d .chunks)) here end)
+    where
+      from : List Rec
+      from = recordsFrom ws d (at .chunk) (d .chunks - at .chunk)
+
+      whole : recordsOf ws d ≡ recordsFrom ws d 0 (at .chunk) ++ from
+      whole = let z : at .chunk - 0 ≡ at .chunk = omega arith in rw z at (span-split ws d (at .chunk) (s .inside))
+
+      here : at .chunk < d .chunks → take (at .below) from ≡ take (at .below) (chunkRecs ws (chunkAt ws d (at .chunk)))
+      here i =
+          let c = chunkAt ws d (at .chunk) in
+          let l = s .slot i in
+          let n : d .chunks - at .chunk ≡ suc (d .chunks - (at .chunk + 1)) = omega arith in
+          rw n (take-append-le (at .below) (chunkRecs ws c) _ (rw (slots-length ws (c .marks) (c .keys) (c .pays) (c .count)) (omega arith)))
+
+      end : (at .chunk < d .chunks → ⊥) → take (at .below) from ≡ take (at .below) (chunkRecs ws (chunkAt ws d (at .chunk)))
+      end n = rw (s .ended (omega arith))
+
+  -- a key that stands there: a cursor from the slot on is one from the key on
+  pub from-slot : (q : ℕ) (c : Cursor) → q ≤ 4294967296 → Stands ws d q at → AtSlot ws d at c → FromKey ws d q c
+  from-slot q c h s k =
+      record {
+        good = k .good;
+        passed = beforeSlot ws d at;
+        cut = rw (k .left) (slot-cut q s);
+        below = s .before;
+        ahead = dite (decLt (at .chunk) (d .chunks)) (λ i. rw (k .key i) (s .from i)) (λ n. key-from ws d q c (k .good) h (rw (k .left ∙ slot-none (omega arith)) tt));
+      }
 
 split-level : (ws : List ℕ) (d : Directory) (q : ℕ) (c : Cursor) → Formed d ws → (k : FromKey ws d q c) → Split q (recordsOf ws d) (k .passed) (rest ws d c)
 split-level ws d q c f k =

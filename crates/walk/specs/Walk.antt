@@ -4,9 +4,8 @@ use mathlib.Core.Path.{_≡_}
 use mathlib.Core.Bool.{Bool, true, false}
 use mathlib.Core.List.{List, [], _++_}
 use mathlib.Core.Option.{Option, none, some}
-use mathlib.Core.Logic.{_⊎_}
 use lib.Dec.{eqb, ltb}
-use lib.ListN.{length, take, set}
+use lib.ListN.{length, take, drop, set}
 use Rattle.levels.specs.Basics.{if_then_else_}
 use Rattle.levels.specs.Record.{Rec}
 use Rattle.levels.specs.Map.{overlay, unmarked}
@@ -16,7 +15,8 @@ use Rattle.words.specs.Calls.{over}
 use Rattle.chunks.specs.declared.Chunk.{Chunk}
 use Rattle.chunks.specs.Chunks.{chunkRecs}
 use Rattle.directory.specs.declared.Directory.{Directory}
-use Rattle.directory.specs.Directory.{Formed, recordsFrom, recordsOf}
+use Rattle.directory.specs.Directory.{Formed, recordsFrom, recordsOf, chunkAt}
+use Rattle.search.specs.declared.Slot.{Slot}
 use Rattle.walk.specs.declared.Cursor.{Cursor}
 use Rattle.walk.specs.declared.Front.{Front}
 use Rattle.walk.specs.declared.Levels.{Levels}
@@ -36,6 +36,16 @@ pub record Good (ws : List ℕ) (d : Directory) (c : Cursor) : Type 0 where
   pub alive : 1 ≤ c .chunk .count → (c .key ≡ word ws (c .chunk .keys)) × (c .key < 4294967296)
   pub ended : c .chunk .count ≡ 0 → (c .key ≡ 4294967296) × (c .next ≡ d .chunks)
 
+-- the records of a level from a slot on
+abbrev pub fromSlot : List ℕ → Directory → Slot → List Rec
+fromSlot ws d at = drop (at .below) (recordsFrom ws d (at .chunk) (d .chunks - at .chunk))
+
+-- a cursor into a level from a slot on
+pub record AtSlot (ws : List ℕ) (d : Directory) (at : Slot) (c : Cursor) : Type 0 where
+  pub good : Good ws d c
+  pub left : rest ws d c ≡ fromSlot ws d at
+  pub key : at .chunk < d .chunks → c .key ≡ word ws (chunkAt ws d (at .chunk) .keys + at .below)
+
 -- A cursor into a level for the walk from key q on: the records that it passes over are below q, those that are left are not.
 pub record FromKey (ws : List ℕ) (d : Directory) (q : ℕ) (c : Cursor) : Type 0 where
   pub good : Good ws d c
@@ -51,10 +61,6 @@ pub record Skims (ws : List ℕ) (d : Directory) (c : Cursor) (bound : ℕ) (aft
   pub joined : rest ws d c ≡ between ++ rest ws d after
   pub below : Below bound between
   pub counted : live ≡ length (unmarked between)
-
--- Where it stops: at the bound, or behind the cursor's chunk.
-abbrev pub SkimStops : List ℕ → Directory → Cursor → ℕ → Cursor → Type 0
-SkimStops ws d c bound after = (bound ≤ after .key) ⊎ (rest ws d after ≡ recordsFrom ws d (c .next) (d .chunks - c .next))
 
 -- four lists of records laid over each other, the upper ones first
 abbrev pub four : List Rec → List Rec → List Rec → List Rec → List Rec

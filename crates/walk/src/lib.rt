@@ -1,6 +1,6 @@
 // A walk over four levels side by side: the least key leaves every level that has it, and the uppermost
 // record with it decides. It counts the live keys, or lists a stretch of them, of which the next live key is the first;
-// for that each level is entered at the only chunk that can have the first key.
+// for that each level is entered at the slot of the first key, so that no key below it is looked at.
 
 ghost use mathlib.Core.Path.{_≡_};
 ghost use mathlib.Core.Bool.{Bool};
@@ -11,10 +11,11 @@ ghost use Rattle.levels.specs.Map.{unmarked, firstFrom, stretch};
 ghost use Rattle.words.specs.Layout.{word};
 ghost use Rattle.words.specs.Calls.{StretchAnswer, StretchOutcome, filled};
 ghost use Rattle.chunks.specs.Peel.{past, liveBit};
-ghost use Rattle.directory.specs.Directory.{Formed, recordsFrom};
-ghost use Rattle.walk.specs.Walk.{Good, rest, FromKey, upperOf, Smaller, Skims, SkimStops, Copies, AllFormed, SameLevels, layered, Entered, Ahead, Walked, keptOf, entered, followingOf, KeyFits};
+ghost use Rattle.directory.specs.Directory.{Formed, recordsFrom, chunkAt};
+ghost use Rattle.walk.specs.Walk.{Good, rest, AtSlot, upperOf, Smaller, Skims, Copies, AllFormed, SameLevels, layered, Entered, Ahead, Walked, keptOf, entered, followingOf, KeyFits};
 use chunks::Chunk;
 use directory::Directory;
+use search::Slot;
 
 // Above every key: the next key of a level that is used up.
 const END: usize = 4294967296;
@@ -63,7 +64,7 @@ pub struct Listed {
 // A level from chunk `next` on.
 fn refill(s: &[u32], dir: Directory, next: usize) -> Cursor
     requires { ⌜ Formed dir (now s) × (next ≤ dir .chunks) ⌝ }
-    ensures { λ r. ⌜ Good (now (s .entry)) dir r × (rest (now (s .entry)) dir r ≡ recordsFrom (now (s .entry)) dir next (dir .chunks - next)) × (next < dir .chunks → r .next ≡ next + 1) ⌝ }
+    ensures { λ r. ⌜ Good (now (s .entry)) dir r × (rest (now (s .entry)) dir r ≡ recordsFrom (now (s .entry)) dir next (dir .chunks - next)) ⌝ }
 {
     let n = dir.chunks;
     if next < n {
@@ -170,7 +171,7 @@ fn cursor_at(next: usize, marks: u32, keys: usize, pays: usize, count: usize, ke
 // records of a store, and so works on numbers and builds no cursor.
 fn skim(s: &[u32], dir: Directory, cur: Cursor, bound: usize) -> Passed
     requires { ⌜ Good (now s) dir cur × (bound ≤ 4294967296) ⌝ }
-    ensures { λ r. ⌜ Skims (now (s .entry)) dir cur bound (r .cursor) (r .live) × SkimStops (now (s .entry)) dir cur bound (r .cursor) ⌝ }
+    ensures { λ r. ⌜ Skims (now (s .entry)) dir cur bound (r .cursor) (r .live) ⌝ }
 {
     let next = cur.next;
     let chunk = cur.chunk;
@@ -202,19 +203,29 @@ fn skim(s: &[u32], dir: Directory, cur: Cursor, bound: usize) -> Passed
     }
 }
 
-// A level from key q on: from the chunk on that can have it, past the records of that chunk that are below it.
-fn cursor_from(s: &[u32], dir: Directory, q: usize) -> Cursor
-    requires { ⌜ Formed dir (now s) × (q ≤ 4294967296) ⌝ }
-    ensures { λ r. ⌜ FromKey (now (s .entry)) dir q r ⌝ }
+// A level from a slot on.
+fn cursor_from(s: &[u32], dir: Directory, at: Slot) -> Cursor
+    requires { ⌜ Formed dir (now s) × ((at .chunk ≤ dir .chunks) × (at .chunk < dir .chunks → at .below < chunkAt (now s) dir (at .chunk) .count)) ⌝ }
+    ensures { λ r. ⌜ AtSlot (now (s .entry)) dir at r ⌝ }
 {
+    let i = at.chunk;
     let n = dir.chunks;
-    if n < 1 {
-        return refill(s, dir, 0);
+    if n <= i {
+        return refill(s, dir, n);
     }
-    let start = search::seek_chunk(s, dir, q);
-    let cursor = refill(s, dir, start);
-    let passed = skim(s, dir, cursor, q);
-    passed.cursor
+    let slot = at.below;
+    let chunk = directory::chunk_at(s, dir, i);
+    let marks = chunk.marks;
+    let keys = chunk.keys + slot;
+    let key = s[keys] as usize;
+    cursor_at(
+        i + 1,
+        marks >> slot as u32,
+        keys,
+        chunk.pays + slot,
+        chunk.count - slot,
+        key,
+    )
 }
 
 // The old value for a tombstone, else the new one.
@@ -377,10 +388,10 @@ fn enter(s: &[u32], l: Levels, q: usize) -> Front
     requires { ⌜ AllFormed (now s) l × (q ≤ 4294967296) ⌝ }
     ensures { λ r. ⌜ Entered (now (s .entry)) l q r ⌝ }
 {
-    let c0 = cursor_from(s, l.d0, q);
-    let c1 = cursor_from(s, l.d1, q);
-    let c2 = cursor_from(s, l.d2, q);
-    let c3 = cursor_from(s, l.d3, q);
+    let c0 = cursor_from(s, l.d0, search::slot_of(s, l.d0, q));
+    let c1 = cursor_from(s, l.d1, search::slot_of(s, l.d1, q));
+    let c2 = cursor_from(s, l.d2, search::slot_of(s, l.d2, q));
+    let c3 = cursor_from(s, l.d3, search::slot_of(s, l.d3, q));
     Front {
         c0: c0,
         c1: c1,
@@ -432,16 +443,16 @@ pub fn live(s: &[u32], levels: Levels) -> usize
     count_live(s, l.d0, l.d1, l.d2, l.d3)
 }
 
-// The smallest live key of four levels at or above q, with its payload: a walk that lists one record.
+// The smallest live key of four levels at or above q, with its payload: a walk that lists one record. For so few it does not
+// pay to put the deepest level last.
 pub fn next_from(s: &[u32], levels: Levels, q: usize) -> Following
     requires { ⌜ AllFormed (now s) levels × (q ≤ 4294967296) ⌝ }
     ensures { λ r. ⌜ (r ≡ followingOf (firstFrom q (unmarked (layered (now (s .entry)) levels)))) × KeyFits r ⌝ }
 {
-    let l = deepest_last(levels);
-    let from = enter(s, l, q);
+    let from = enter(s, levels, q);
     let mut keys = [0u32; 1];
     let mut pays = [0u32; 1];
-    let n = walk_on(s, l, from, END, 0, &mut keys, &mut pays);
+    let n = walk_on(s, levels, from, END, 0, &mut keys, &mut pays);
     if n < 1 {
         return Following::Nothing;
     }

@@ -1,6 +1,7 @@
 pub mod Each
 pub mod Parts
 pub mod Slots
+pub mod Ranks
 pub mod Blocks
 pub mod Laid
 pub mod Top

@@ -8,6 +8,8 @@ use native.Mathlib.Omega.{arith}
 use lib.Dec.{ltb}
 use lib.ListN.{length, set}
 use borrow.Author.Tests.{lt-ltb, ltb-true}
+use Rattle.slices.specs.declared.Rank.{Rank}
+use Rattle.slices.specs.Ranks.{rankOf}
 use Rattle.geometry.specs.declared.Geometry.{Geometry}
 use Rattle.geometry.specs.Geometry.{Ranged, topCapacityOf, blockWidth}
 use Rattle.geometry.proofs.Laws.{store-length-low, key-limit-high}
@@ -18,29 +20,27 @@ use Rattle.levels.specs.Store.{Store, rows}
 use Rattle.levels.specs.Call.{Merge, mergesFrom, afterMerges}
 use Rattle.levels.specs.Put.{insert, mergesFor, withRecord, deleteRec}
 use Rattle.levels.specs.Sound.{Fits}
-use Rattle.levels.proofs.Rising.{rising-test, test-rising}
+use Rattle.levels.proofs.Rising.{rising-test}
 use Rattle.levels.proofs.InCall.{ListFacts}
 use Rattle.levels.proofs.Entry.{inside-fit}
 use Rattle.levels.proofs.CallMerges.{for-none, for-full, full-top, call-facts, call-within, call-top}
 use Rattle.levels.proofs.PutDelete.{enter-is, delete-live, delete-count}
-use Rattle.words.specs.Layout.{liveAt, topCountAt, topRecs, storeAt, areaOf, writeBlocks, storeWords}
+use Rattle.words.specs.Layout.{liveAt, topCountAt, topRecs, keysOf, storeAt, areaOf, writeBlocks, storeWords}
 use Rattle.words.specs.Calls.{writtenBlocks, leftWords}
 use Rattle.words.specs.Passed.{Passed}
+use Rattle.words.proofs.Ranks.{found-is}
 use Rattle.words.proofs.Reason.{reason-passed}
 use Rattle.words.proofs.Steps.{laid-merges}
 use Rattle.entry.specs.declared.Opened.the-variants.{Ready}
 use Rattle.form.specs.Checked.{checkedOf}
 use Rattle.form.proofs.Ready.{checked-ready}
-use Rattle.top.specs.declared.Spot.{Spot}
-use Rattle.top.specs.declared.Spot.the-variants.{Found, Gap}
-use Rattle.top.specs.Top.{TopReady, Room, spotOf, withTop}
-use Rattle.top.proofs.Spots.{spot-is}
+use Rattle.top.specs.Top.{TopReady, Room, withTop}
 use Rattle.top.proofs.Laws.{with-top-words, top-count-back, top-back, words-ready, top-rises, set-live}
 use Rattle.steps.specs.declared.Tally.{Tally}
 use Rattle.cascade.specs.Cascade.{FullStore, MergedAll}
 use Rattle.writer.specs.Change.{roomAt, withEntered, Counted, Entered}
 
--- level 0 need not be merged, by the key instead of its spot
+-- level 0 need not be merged, by the key instead of where it stands
 unfoldable pub hasRoom : Geometry → List ℕ → ℕ → Bool
 hasRoom g ws k = isSome (find k (topRecs g ws)) || ltb (topCountAt ws) (topCapacityOf g)
 
@@ -48,35 +48,15 @@ hasRoom g ws k = isSome (find k (topRecs g ws)) || ltb (topCountAt ws) (topCapac
 pub holds : (ws : List ℕ) (g : Geometry) → checkedOf ws ≡ Ready g → Passed g ws
 holds ws g e = let k = checked-ready ws g e in subst (λ (t : Geometry). Passed t ws) (sym (k .0)) (reason-passed ws (k .1))
 
--- Where the key stands says if there is room.
-room-found : (g : Geometry) (ws : List ℕ) (k i : ℕ) → TopReady g ws → spotOf k (topRecs g ws) ≡ Found i → true ≡ hasRoom g ws k
-unfolding hasRoom
-room-found g ws k i t e = rw (spot-is k 0 (topRecs g ws) (test-rising 0 (topRecs g ws) (t .rises)), e)
-
-room-gap : (g : Geometry) (ws : List ℕ) (k i : ℕ) → TopReady g ws → spotOf k (topRecs g ws) ≡ Gap i → ltb (topCountAt ws) (topCapacityOf g) ≡ hasRoom g ws k
-unfolding hasRoom
-room-gap g ws k i t e = rw (spot-is k 0 (topRecs g ws) (test-rising 0 (topRecs g ws) (t .rises)), e)
-
--- and so of the spot where the key stands
-pub room-at : (g : Geometry) (ws : List ℕ) (k : ℕ) (at : Spot) → TopReady g ws → at ≡ spotOf k (topRecs g ws) → roomAt g ws at ≡ hasRoom g ws k
-unfolding roomAt
-room-at g ws k (Found i) t e = room-found g ws k i t (sym e)
-room-at g ws k (Gap i) t e = room-gap g ws k i t (sym e)
+-- where the key stands says if there is room
+pub room-at : (g : Geometry) (ws : List ℕ) (k : ℕ) (at : Rank) → at ≡ rankOf k (keysOf (topRecs g ws)) → roomAt g ws at ≡ hasRoom g ws k
+unfolding roomAt hasRoom
+room-at g ws k at e = ap (λ (b : Bool). b || ltb (topCountAt ws) (topCapacityOf g)) (ap (λ (r : Rank). r .found) e ∙ found-is k (topRecs g ws))
 
 -- where there is room, level 0 takes the record
-pub room-is : (g : Geometry) (ws : List ℕ) (at : Spot) → roomAt g ws at ≡ true → Room g ws at
+pub room-is : (g : Geometry) (ws : List ℕ) (at : Rank) → roomAt g ws at ≡ true → Room g ws at
 unfolding roomAt
-room-is g ws (Found i) h = tt
-room-is g ws (Gap i) h = ltb-true (topCountAt ws) (topCapacityOf g) h
-
--- the clauses of roomAt, as laws
-pub at-found : (g : Geometry) (ws : List ℕ) (at : Spot) (i : ℕ) → at ≡ Found i → true ≡ roomAt g ws at
-unfolding roomAt
-at-found g ws at i e = rw e
-
-pub at-gap : (g : Geometry) (ws : List ℕ) (at : Spot) (i : ℕ) → at ≡ Gap i → ltb (topCountAt ws) (topCapacityOf g) ≡ roomAt g ws at
-unfolding roomAt
-at-gap g ws at i e = rw e
+room-is g ws at h n = ltb-true (topCountAt ws) (topCapacityOf g) (subst (λ (b : Bool). (b || ltb (topCountAt ws) (topCapacityOf g)) ≡ true) n h)
 
 -- What the merges of a put or delete of k leave: the store, the words of all places, and all words.
 abbrev storeBy : Geometry → List ℕ → ℕ → Store

@@ -1,10 +1,11 @@
 -- Put and delete: what their parts do.
 use Prim.Native.Nat.{ℕ}
 use mathlib.Core.Path.{_≡_}
-use mathlib.Core.Bool.{Bool, true, false, not}
+use mathlib.Core.Bool.{Bool, false, not, _||_}
 use mathlib.Core.List.{List}
 use lib.Dec.{ltb}
 use lib.ListN.{set}
+use Rattle.slices.specs.declared.Rank.{Rank}
 use Rattle.geometry.specs.declared.Geometry.{Geometry}
 use Rattle.geometry.specs.Geometry.{topCapacityOf}
 use Rattle.levels.specs.Record.{Rec}
@@ -15,8 +16,6 @@ use Rattle.words.specs.Layout.{topCountAt, topRecs, storeAt}
 use Rattle.words.specs.Calls.{leftWords}
 use Rattle.search.specs.declared.Found.{Found}
 use Rattle.search.specs.declared.Found.the-variants as found
-use Rattle.top.specs.declared.Spot.{Spot}
-use Rattle.top.specs.declared.Spot.the-variants as spot
 use Rattle.top.specs.Top.{withTop}
 use Rattle.steps.specs.declared.Tally.{Tally}
 use Rattle.steps.specs.Running.{numbersOf}
@@ -26,11 +25,10 @@ abbrev pub liveFound : Found → Bool
 liveFound found.Absent = false
 liveFound (found.Here m v) = not m
 
--- "a key found in level 0 is overwritten there; otherwise, if c = K(0)×B, level 0 is merged first": it need not be, where
--- its key stands at this spot of level 0
-unfoldable pub roomAt : Geometry → List ℕ → Spot → Bool
-roomAt g ws (spot.Found i) = true
-roomAt g ws (spot.Gap i) = ltb (topCountAt ws) (topCapacityOf g)
+-- "a key found in level 0 is overwritten there; otherwise, if c = K(0)×B, level 0 is merged first": it need not be, by
+-- where the key stands
+unfoldable pub roomAt : Geometry → List ℕ → Rank → Bool
+roomAt g ws at = at .found || ltb (topCountAt ws) (topCapacityOf g)
 
 -- the words with a record entered in level 0 and live as it is then
 unfoldable pub withEntered : Geometry → List ℕ → Rec → ℕ → List ℕ

@@ -3,19 +3,20 @@
 ghost use mathlib.Core.Path.{_≡_};
 ghost use mathlib.Core.Bool.{true};
 ghost use mathlib.Core.List.{[]};
+ghost use Rattle.slices.specs.Ranks.{rankOf};
 ghost use Rattle.levels.specs.Put.{put, delete};
-ghost use Rattle.words.specs.Layout.{topRecs, storeAt};
+ghost use Rattle.words.specs.Layout.{topRecs, keysOf, storeAt};
 ghost use Rattle.words.specs.Calls.{Outcome, ChangeAnswer, changeOutcome};
 ghost use Rattle.entry.specs.declared.Opened.the-variants.{Ready};
 ghost use Rattle.form.specs.Checked.{checkedOf};
-ghost use Rattle.top.specs.Top.{TopReady, spotOf};
+ghost use Rattle.top.specs.Top.{TopReady};
 ghost use Rattle.writer.specs.Answers.{changedAnswer};
 ghost use Rattle.writer.specs.Change.{liveFound, roomAt, withEntered, Counted, Entered};
 use geometry::Geometry;
 use search::Found;
+use slices::Rank;
 use steps::Counts;
 use steps::Tally;
-use top::Spot;
 
 // What a put or delete did: live says if the key was live, the tally what was merged and written for it.
 pub struct Change {
@@ -118,20 +119,20 @@ fn enter_record(s: &mut [u32], g: Geometry, k: u32, mark: bool, v: u32, live: u3
 }
 
 // A record is overwritten in level 0, or there is room for one more.
-fn has_room(s: &[u32], g: Geometry, at: Spot) -> bool
+fn has_room(s: &[u32], g: Geometry, at: Rank) -> bool
     requires { ⌜ TopReady g (now s) ⌝ }
     ensures { λ r. ⌜ r ≡ roomAt g (now (s .entry)) at ⌝ }
 {
-    let Spot::Found(_) = at else {
-        let room = g.top_capacity();
-        return (s[8] as usize) < room;
-    };
-    true
+    if at.found {
+        return true;
+    }
+    let room = g.top_capacity();
+    (s[8] as usize) < room
 }
 
-// A record into level 0, at the spot where its key stands and which has room for it, and live as it is then.
-fn place_record(s: &mut [u32], g: Geometry, at: Spot, k: u32, mark: bool, v: u32, live: u32)
-    requires { ⌜ TopReady g (now s) × ((at ≡ spotOf k (topRecs g (now s))) × (roomAt g (now s) at ≡ true)) ⌝ }
+// A record into level 0, where its key stands and there is room for it, and live as it is then.
+fn place_record(s: &mut [u32], g: Geometry, at: Rank, k: u32, mark: bool, v: u32, live: u32)
+    requires { ⌜ TopReady g (now s) × ((at ≡ rankOf k (keysOf (topRecs g (now s)))) × (roomAt g (now s) at ≡ true)) ⌝ }
     ensures { λ _. ⌜ now (s .exit) ≡ withEntered g (now (s .entry)) (record { key = k; tombstone = mark; pay = v }) live ⌝ }
 {
     top::enter(s, g, at, k, mark, v);

@@ -1,4 +1,4 @@
-use Rattle.merging.proofs.Merge.{ready, closing, leaves-in}
+use Rattle.merging.proofs.Merge.{ready, ended, closing, leaves-in}
 use Prim.Native.Nat.{_-_}
 use native.Mathlib.Omega.{arith}
 use mathlib.Core.Path.{_≡_, _∙_}
@@ -33,8 +33,10 @@ copy-entries-requires c κs = search needs
 stream-requires : tie.Need-stream-requires
 stream-requires c κs =
     let e : c .before .before .before .before .before .before .before .before .before .before .args .parts .y - 0 ≡ c .before .before .before .before .before .before .before .before .before .before .args .parts .y = omega arith in
-    rw (c .before .before .before .before .before .before .before .before .of .ensures, c .before .before .before .before .before .before .before .inputs .ensures, c .before .before .before .before .before .before .begin .ensures, c .before .before .before .before .before .limit .ensures, c .before .before .before .copy-entries .ensures, e)
-    (ready (c .before .before .before .before .before .before .before .before .before .before .args .g) (c .before .before .before .before .before .before .before .before .before .before .args .s .now) (c .before .before .before .before .before .before .before .before .before .before .args .used .now) (c .before .before .before .before .before .before .before .before .before .before .args .out .now) (c .before .before .before .before .before .before .before .before .before .before .args .xs .now) (c .before .before .before .before .before .before .before .before .before .before .args .ys .now) (c .before .before .before .before .before .before .before .before .before .before .args .parts) (c .before .before .before .before .before .before .before .before .before .before .args .cursor) (c .before .before .before .before .before .before .before .before .before .before .pre))
+    rw (c .before .before .before .before .before .before .before .before .of .ensures, c .before .before .before .before .before .before .before .inputs .ensures, c .before .before .before .before .before .before .begin .ensures, c .before .before .before .before .before .limit .ensures, c .before .before .before .copy-entries .ensures, e) (
+      (ready (c .before .before .before .before .before .before .before .before .before .before .args .g) (c .before .before .before .before .before .before .before .before .before .before .args .s .now) (c .before .before .before .before .before .before .before .before .before .before .args .used .now) (c .before .before .before .before .before .before .before .before .before .before .args .out .now) (c .before .before .before .before .before .before .before .before .before .before .args .xs .now) (c .before .before .before .before .before .before .before .before .before .before .args .ys .now) (c .before .before .before .before .before .before .before .before .before .before .args .parts) (c .before .before .before .before .before .before .before .before .before .before .args .cursor) (c .before .before .before .before .before .before .before .before .before .before .pre)),
+      (ended (c .before .before .before .before .before .before .before .before .before .before .args .g) (c .before .before .before .before .before .before .before .before .before .before .args .s .now) (c .before .before .before .before .before .before .before .before .before .before .args .used .now) (c .before .before .before .before .before .before .before .before .before .before .args .out .now) (c .before .before .before .before .before .before .before .before .before .before .args .xs .now) (c .before .before .before .before .before .before .before .before .before .before .args .ys .now) (c .before .before .before .before .before .before .before .before .before .before .args .parts) (c .before .before .before .before .before .before .before .before .before .before .args .cursor) (c .before .before .before .before .before .before .before .before .before .before .pre)),
+    )
 
 close-requires : tie.Need-close-requires
 close-requires c κs =

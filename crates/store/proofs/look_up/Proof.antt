@@ -1,3 +1,4 @@
+use native.Mathlib.Omega.{arith}
 use mathlib.Core.Path.{sym, _∙_}
 use Rattle.store.proofs.Answering.{look-refused, look-ready}
 use borrow.Author.Needs.{needs}
@@ -19,7 +20,7 @@ enum-known-g : tie.Need-enum-known-g
 enum-known-g c = search needs
 
 find-key-requires : tie.Need-find-key-requires
-find-key-requires c κs = sym (c .before .before .before .check .ensures) ∙ c .before .g .given .1
+find-key-requires c κs = (sym (c .before .before .before .check .ensures) ∙ c .before .g .given .1, omega arith)
 
 look-answer-requires : tie.Need-look-answer-requires
 look-answer-requires c κs = search needs

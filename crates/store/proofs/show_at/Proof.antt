@@ -1,3 +1,4 @@
+use native.Mathlib.Omega.{arith}
 use mathlib.Core.Path.{sym, _∙_}
 use Rattle.store.proofs.Answering.{show-refused, show-ready}
 use borrow.Author.Needs.{needs}
@@ -21,7 +22,7 @@ returns : tie.Need-returns
 returns c = show-refused _ (c .enum-told .given .0 .0) (sym (c .before .before .check .ensures) ∙ c .enum-told .given .1) _ _
 
 show-block-requires : tie.Need-show-block-requires
-show-block-requires c κs = sym (c .before .before .before .check .ensures) ∙ c .before .g .given .1
+show-block-requires c κs = (sym (c .before .before .before .check .ensures) ∙ c .before .g .given .1, omega arith)
 
 returns-2 : tie.Need-returns-2
 returns-2 c = c .show-block .ensures ∙ show-ready _ _ (sym (c .before .before .before .before .check .ensures) ∙ c .before .before .g .given .1) _ _

@@ -1,10 +1,11 @@
+use native.Mathlib.Omega.{arith}
 use mathlib.Core.Path.{_≡_, _∙_}
 use mathlib.Core.Bool.{false, not, _&&_}
-use Prim.Native.Nat.{_<_, _^_}
+use Prim.Native.Nat.{suc, _<_, _^_}
 use Rattle.sides.specs.Sides.{HeadOk}
-use Rattle.stream.specs.Machine.{turn}
-use Rattle.sides.proofs.Laws.{head-ok, head-some, head-none, last-low}
-use Rattle.stream.proofs.Laws.{chosen-ok}
+use Rattle.stream.specs.Machine.{Memory}
+use Rattle.sides.proofs.Laws.{head-ok, head-some, head-row, head-none, last-low}
+use Rattle.stream.proofs.Runs.{Grown, grows-turns, grows-head, grows-runnable, standing}
 use borrow.Author.Needs.{needs}
 use Rattle.stream.proofs.step.Statement.{statement}
 use Rattle.stream.proofs.step.Tie as tie
@@ -14,6 +15,7 @@ use Rattle.sides.proofs.last_size.Reads as last-size-reads
 use Rattle.sides.proofs.peek.Reads as peek-reads
 use Rattle.stream.proofs.choose.Reads as choose-reads
 use Rattle.stream.proofs.emit.Reads as emit-reads
+use Rattle.stream.proofs.run_on.Reads as run-on-reads
 
 peek-requires : tie.Need-peek-requires
 peek-requires c κs = search needs
@@ -52,18 +54,40 @@ choose-requires c κs =
       lower = low-y (c .before);
       in-x = λ e. head-some _ _ _ _ _ _ _ (k .upper) (rw (← c .before .before .before .before .before .before .peek .ensures) e);
       in-y = λ e. head-some _ _ _ _ _ _ _ (k .lower) (rw (← c .before .before .before .before .peek2 .ensures) e);
+      row-x = λ e. rw (c .before .before .before .before .before .before .peek .ensures) (head-row _ _ _ _ _ _ _ (k .upper) (rw (← c .before .before .before .before .before .before .peek .ensures) e));
+      row-y = λ e. rw (c .before .before .before .before .peek2 .ensures) (head-row _ _ _ _ _ _ _ (k .lower) (rw (← c .before .before .before .before .peek2 .ensures) e));
       either = either (c .before);
     }
 
+-- what the code makes of the next move
+taken : (c : tie.After-run-on) → let a = c .before .before .before .before .before .before .before .before .before .before .before .before .before .before .args in Grown (a .z) (a .t) (a .xs .now) (a .ys .now) (record { words = a .s .now; used = a .used .now; out = a .out .now; st = a .st }) (c .run-on .result)
+taken c = rw (c .before .before .choose .ensures, c .before .before .before .before .before .before .before .before .before .peek .ensures, c .before .before .before .before .before .before .before .peek2 .ensures, c .before .before .before .before .last-size .ensures) at (c .run-on .ensures)
+
+run-on-requires : tie.Need-run-on-requires
+run-on-requires c κs =
+    let a = c .before .before .before .before .before .before .before .before .before .before .before .before .before .args in
+    let k = c .before .before .before .before .before .before .before .before .before .before .before .before .before .pre .0 in
+    (k .movable .flushable .sized .b-high, k .movable .gatherable .few, λ e. rw (c .before .before .before .before .before .before .before .before .peek .ensures) (standing (a .z) (a .t .pages) (a .s .now) (a .xs .now) (a .st .x) (a .t .x) (k .upper) (rw (← c .before .before .before .before .before .before .before .before .peek .ensures) e)), λ e. rw (c .before .before .before .before .before .before .peek2 .ensures) (standing (a .z) false (a .s .now) (a .ys .now) (a .st .y) (a .t .y) (k .lower) (rw (← c .before .before .before .before .before .before .peek2 .ensures) e)))
+
 emit-requires : tie.Need-emit-requires
-emit-requires c κs = (c .before .before .before .before .before .before .before .before .before .before .before .before .before .before .before .pre .0 .movable, rw (c .before .before .before .choose .ensures) (chosen-ok _ _ _ _ _ _ _ _ (low-x (c .before .before .before .before .before)) (low-y (c .before .before .before .before .before))))
+emit-requires c κs =
+    let a = c .before .before .before .before .before .before .before .before .before .before .before .before .before .before .before .before .before .args in
+    let k = c .before .before .before .before .before .before .before .before .before .before .before .before .before .before .before .before .before .pre .0 in
+    let m : Memory = record { words = a .s .now; used = a .used .now; out = a .out .now; st = a .st } in (
+      k .movable,
+      grows-head (a .z) (a .t) (a .xs .now) (a .ys .now) m _ (taken (c .before .before .before)) (head-ok _ _ _ _ _ _ _ (k .upper)) (head-ok _ _ _ _ _ _ _ (k .lower)),
+      grows-runnable (a .z) (a .t) (a .xs .now) (a .ys .now) m _ (taken (c .before .before .before)) (k .movable .gatherable) (c .before .before .before .before .before .before .before .before .before .before .before .before .before .before .before .before .before .pre .1) (standing _ _ _ _ (a .st .x) _ (k .upper)) (standing _ _ _ _ (a .st .y) _ (k .lower)),
+    )
 
 same-length : tie.Need-same-length
 same-length c = search needs
 
 returns : tie.Need-returns
-unfolding turn
-returns c = c .before .before .emit .ensures ∙ rw (c .before .before .before .before .before .before .choose .ensures, c .before .before .before .before .before .before .before .before .before .before .before .before .before .peek .ensures, c .before .before .before .before .before .before .before .before .before .before .before .peek2 .ensures, c .before .before .before .before .before .before .before .before .last-size .ensures)
+returns c =
+    let a = c .before .before .before .before .before .before .before .before .before .before .before .before .before .before .before .before .before .before .before .before .args in
+    let m : Memory = record { words = a .s .now; used = a .used .now; out = a .out .now; st = a .st } in
+    let r = c .before .before .before .before .before .before .run-on .result in
+    record { count = suc (r .more); enough = omega arith; same = c .before .before .emit .ensures ∙ grows-turns (a .z) (a .t) (a .xs .now) (a .ys .now) m r (taken (c .before .before .before .before .before .before)) (c .before .before .before .before .before .before .before .before .before .before .before .before .before .before .before .before .before .before .before .before .pre .0 .movable .gatherable .few) (c .before .before .before .before .before .before .before .before .before .before .before .before .before .before .before .before .before .before .before .before .pre .1) }
 
 pub step-spec : {M : Type 1} → statement M
 step-spec =
@@ -73,6 +97,7 @@ step-spec =
     peek-requires-2
     last-size-requires
     choose-requires
+    run-on-requires
     emit-requires
     same-length
     returns)

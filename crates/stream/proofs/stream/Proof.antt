@@ -1,11 +1,10 @@
 use borrow.Author.Needs.{needs}
 use native.Mathlib.Omega.{arith}
-use Prim.Native.Nat.{ℕ, _≤_, _+_, _-_}
-use mathlib.Core.Path.{_≡_, refl, sym, _∙_, ap, subst}
-use mathlib.Core.Bool.{true, false}
+use Prim.Native.Nat.{_≤_, _-_}
+use mathlib.Core.Path.{_≡_, refl, _∙_}
 use lib.ListN.{length}
-use Rattle.stream.specs.Machine.{Memory, turns, turn, idle, Ready}
-use Rattle.stream.proofs.Laws.{turns-more, turns-idle}
+use Rattle.stream.specs.Machine.{Turned}
+use Rattle.stream.proofs.Laws.{turned-none, turned-more, turned-ready, turned-over, turned-all}
 use Rattle.stream.proofs.stream.Statement.{statement}
 use Rattle.stream.proofs.stream.Tie as tie
 use Rattle.stream.proofs.stream.Reads as reads
@@ -13,14 +12,13 @@ use Rattle.stream.proofs.stream.Lts as lts
 use Rattle.stream.proofs.step.Reads as step-reads
 
 abbrev Inv-loop : tie.InvT-loop
-Inv-loop s₀ used₀ out₀ xs ys z t limit v₀ xe ye k₀ s used out v k = (k ≤ limit) × ((length s ≡ length s₀) × (_≡_ {A = Memory} (record { words = s; used = used; out = out; st = v }) (turns z t xs ys k (record { words = s₀; used = used₀; out = out₀; st = v₀ }))))
+Inv-loop s₀ used₀ out₀ xs ys z t limit v₀ xe ye k₀ s used out v k = (k ≤ limit) × ((length s ≡ length s₀) × Turned z t xs ys k (record { words = s₀; used = used₀; out = out₀; st = v₀ }) (record { words = s; used = used; out = out; st = v }))
 
 abbrev μ-loop : tie.MeasureT-loop
 μ-loop s₀ used₀ out₀ xs ys z t limit v₀ xe ye k₀ s used out v k = limit - k
 
 loop-holds : tie.Need-loop-holds Inv-loop μ-loop
-unfolding turns
-loop-holds c = (search needs, (refl, refl))
+loop-holds c = (search needs, (refl, turned-none _ _ _ _ _))
 
 same-length : tie.Need-same-length Inv-loop μ-loop
 same-length c = omega arith
@@ -29,17 +27,13 @@ returns : tie.Need-returns Inv-loop μ-loop
 returns c =
     let l = c .before .before .before .before .before .before .loop in
     let a = c .before .before .before .before .before .before .before .before .args in
-    let e = l .inv .1 .1 in
-    let w : Memory = record { words = a .s .now; used = a .used .now; out = a .out .now; st = a .st } in
-    let n : a .limit ≡ l .k + (a .limit - l .k) = omega arith in
-    let i : idle (a .z) (a .t) (a .xs .now) (a .ys .now) (turns (a .z) (a .t) (a .xs .now) (a .ys .now) (l .k) w) ≡ true = ap (idle (a .z) (a .t) (a .xs .now) (a .ys .now)) (sym e) ∙ c .if1 .taken in
-    e ∙ (sym (turns-idle (a .z) (a .t) (a .xs .now) (a .ys .now) (a .limit - l .k) (l .k) w i) ∙ ap (λ (m : ℕ). turns (a .z) (a .t) (a .xs .now) (a .ys .now) m w) (sym n))
+    turned-over (a .z) (a .t) (a .xs .now) (a .ys .now) (a .limit) (record { words = a .s .now; used = a .used .now; out = a .out .now; st = a .st }) (c .before .before .before .before .before .before .before .before .pre .1) (l .k) _ (l .inv .1 .1) (c .if1 .taken)
 
 step-requires : tie.Need-step-requires Inv-loop μ-loop
 step-requires c κs =
-    let e = c .before .before .before .before .before .before .before .before .before .loop .inv .1 .1 in
+    let l = c .before .before .before .before .before .before .before .before .before .loop in
     let a = c .before .before .before .before .before .before .before .before .before .before .before .args in
-    (subst (Ready (a .z) (a .t) (a .xs .now) (a .ys .now)) (sym e) (c .before .before .before .before .before .before .before .before .before .before .before .pre (c .before .before .before .before .before .before .before .before .before .loop .k) (omega arith)), c .before .before .before .if1 .left)
+    (turned-ready (a .z) (a .t) (a .xs .now) (a .ys .now) (a .limit) (record { words = a .s .now; used = a .used .now; out = a .out .now; st = a .st }) (c .before .before .before .before .before .before .before .before .before .before .before .pre .1) (l .k) _ (c .before .before .before .before .before .before .before .before .before .before .before .pre .0) (l .inv .1 .1) (c .before .before .before .if1 .left), c .before .before .before .if1 .left)
 
 add-k : tie.Need-add-k Inv-loop μ-loop
 add-k c = omega arith
@@ -51,18 +45,17 @@ loop-again : tie.Need-loop-again Inv-loop μ-loop
 loop-again c =
     let l = c .before .before .before .before .before .before .before .before .before .before .before .before .loop in
     let a = c .before .before .before .before .before .before .before .before .before .before .before .before .before .before .args in
-    let e = l .inv .1 .1 in
-    let w : Memory = record { words = a .s .now; used = a .used .now; out = a .out .now; st = a .st } in
-    let i : idle (a .z) (a .t) (a .xs .now) (a .ys .now) (turns (a .z) (a .t) (a .xs .now) (a .ys .now) (l .k) w) ≡ false = ap (idle (a .z) (a .t) (a .xs .now) (a .ys .now)) (sym e) ∙ c .before .before .before .before .before .before .if1 .left in
-    (omega arith, (c .before .before .step .kept .0 ∙ l .inv .1 .0, c .before .before .step .ensures ∙ (ap (turn (a .z) (a .t) (a .xs .now) (a .ys .now)) e ∙ turns-more (a .z) (a .t) (a .xs .now) (a .ys .now) (l .k) w i)))
+    (omega arith, (c .before .before .step .kept .0 ∙ l .inv .1 .0, turned-more (a .z) (a .t) (a .xs .now) (a .ys .now) (l .k) (record { words = a .s .now; used = a .used .now; out = a .out .now; st = a .st }) _ _ (l .inv .1 .1) (c .before .before .step .ensures)))
 
 same-length-2 : tie.Need-same-length-2 Inv-loop μ-loop
 same-length-2 c = omega arith
 
 returns-2 : tie.Need-returns-2 Inv-loop μ-loop
 returns-2 c =
-    let n : c .before .loop .k ≡ c .before .before .before .args .limit = omega arith in
-    rw n at (c .before .loop .inv .1 .1)
+    let l = c .before .loop in
+    let a = c .before .before .before .args in
+    let n : l .k ≡ a .limit = omega arith in
+    turned-all (a .z) (a .t) (a .xs .now) (a .ys .now) (a .limit) (record { words = a .s .now; used = a .used .now; out = a .out .now; st = a .st }) (c .before .before .before .pre .1) _ (rw n at (l .inv .1 .1))
 
 pub stream-spec : {M : Type 1} → statement M
 stream-spec =

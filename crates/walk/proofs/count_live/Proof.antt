@@ -27,7 +27,7 @@ at-least : (c : tie.After-smaller3 Inv-loop μ-loop)
     let l = c .before .before .before .before .before .before .loop in
     Skimmed (a .s .now) (record { d0 = a .d0; d1 = a .d1; d2 = a .d2; d3 = a .d3 }) (record { c0 = l .c0; c1 = l .c1; c2 = l .c2; c3 = l .c3 }) (p .cursor) (l .n + p .live) (c .smaller3 .result)
 at-least c =
-    skimmed _ _ _ _ (c .before .before .before .before .before .before .loop .inv) _ _ (c .before .before .before .before .before .smaller .ensures) (c .before .before .before .before .smaller2 .ensures) _ _ (c .before .before .before .skim .ensures .0) _ (c .smaller3 .ensures)
+    skimmed _ _ _ _ (c .before .before .before .before .before .before .loop .inv) _ _ (c .before .before .before .before .before .smaller .ensures) (c .before .before .before .before .smaller2 .ensures) _ _ (c .before .before .before .skim .ensures) _ (c .smaller3 .ensures)
 
 refill-requires : tie.Need-refill-requires Inv-loop μ-loop
 refill-requires c κs = (c .before .pre .formed0, omega arith)
@@ -63,7 +63,7 @@ skim-requires c κs =
 add-n : tie.Need-add-n Inv-loop μ-loop
 add-n c =
     let k = c .before .before .before .before .before in
-    omega (arith, counting-few _ _ _ _ (k .before .before .before .before .before .before .pre) (counting-skim _ _ _ _ (k .loop .inv) _ _ (c .before .before .before .before .smaller .ensures) (c .before .before .before .smaller2 .ensures) _ _ (c .before .before .skim .ensures .0)))
+    omega (arith, counting-few _ _ _ _ (k .before .before .before .before .before .before .pre) (counting-skim _ _ _ _ (k .loop .inv) _ _ (c .before .before .before .before .smaller .ensures) (c .before .before .before .smaller2 .ensures) _ _ (c .before .before .skim .ensures)))
 
 smaller-requires-3 : tie.Need-smaller-requires-3 Inv-loop μ-loop
 smaller-requires-3 c κs = tt

@@ -26,14 +26,12 @@ add-t10 c = search needs
 returns : tie.Need-returns
 returns c =
     let a = c .before .before .before .before in
-    let p = refill-chunk _ _ (a .pre .0) _ (c .before .before .if1 .taken) _ _ (c .before .chunk-at .ensures) refl (c .shared-slice-known2 .given (c .before .chunk-at .result .keys) .fits) in
-    (p .0, p .1, λ h. refl)
+    refill-chunk _ _ (a .pre .0) _ (c .before .before .if1 .taken) _ _ (c .before .chunk-at .ensures) refl (c .shared-slice-known2 .given (c .before .chunk-at .result .keys) .fits)
 
 returns-2 : tie.Need-returns-2
 returns-2 c =
     let a = c .before .before in
-    let p = refill-none _ _ (a .pre .0) _ (c .if1 .left) (a .pre .1) in
-    (p .0, p .1, λ h. absurd (omega (arith, c .if1 .left)))
+    refill-none _ _ (a .pre .0) _ (c .if1 .left) (a .pre .1)
 
 pub refill-spec : {M : Type 1} → statement M
 refill-spec =

@@ -1,6 +1,5 @@
 use native.Mathlib.Omega.{arith}
 use Prim.Native.Nat.{_+_, _≤_}
-use mathlib.Core.Logic.{inl, inr}
 use mathlib.Core.Path.{refl}
 use borrow.Author.Needs.{needs}
 use Rattle.walk.specs.Walk.{Skims}
@@ -42,7 +41,7 @@ returns c =
     let k = c .before .before in
     let i = k .before .before .loop .inv in
     let a = k .before .before .before .before .before in
-    (rw (k .live-bit .ensures) (skims-last _ _ _ _ _ _ (i .0) (k .before .loop-test .taken) (a .pre .1) _ (c .before .if1 .taken) (c .refill .ensures .0) (c .refill .ensures .1)), inr (c .refill .ensures .1))
+    rw (k .live-bit .ensures) (skims-last _ _ _ _ _ _ (i .0) (k .before .loop-test .taken) (a .pre .1) _ (c .before .if1 .taken) (c .refill .ensures .0) (c .refill .ensures .1))
 
 add-keys : tie.Need-add-keys Inv-loop μ-loop
 add-keys c = search needs
@@ -77,7 +76,7 @@ cursor-at-requires : tie.Need-cursor-at-requires Inv-loop μ-loop
 cursor-at-requires c κs = tt
 
 returns-2 : tie.Need-returns-2 Inv-loop μ-loop
-returns-2 c = (rw (c .cursor-at .ensures) (c .before .before .loop .inv .0), inl (rw (c .cursor-at .ensures) (c .before .loop-test .left)))
+returns-2 c = rw (c .cursor-at .ensures) (c .before .before .loop .inv .0)
 
 pub skim-spec : {M : Type 1} → statement M
 skim-spec =

@@ -27,24 +27,24 @@ same-length : tie.Need-same-length
 same-length c = search needs
 
 returns : tie.Need-returns
-returns c = none-entered _ _ (c .before .before .before .before .before .before .before .before .before .before .before .pre) _ _ _ _ (sym (room-at _ _ _ _ (holds-ready _ _ (c .before .before .before .before .before .before .before .before .before .before .before .pre)) (c .before .before .before .before .before .before .before .before .locate .ensures)) ∙ sym (c .before .before .before .before .before .before .has-room .ensures) ∙ c .before .before .before .before .before .if1 .taken) (c .no-tally .ensures) (c .before .before .before .place-record .ensures)
+returns c = none-entered _ _ (c .before .before .before .before .before .before .before .before .before .before .before .pre) _ _ _ _ (sym (room-at _ _ _ _ (c .before .before .before .before .before .before .before .before .locate .ensures)) ∙ sym (c .before .before .before .before .before .before .has-room .ensures) ∙ c .before .before .before .before .before .if1 .taken) (c .no-tally .ensures) (c .before .before .before .place-record .ensures)
 
 merge-all-requires : tie.Need-merge-all-requires
-merge-all-requires c κs = full-store _ _ (c .before .before .before .before .before .before .before .pre) _ (sym (room-at _ _ _ _ (holds-ready _ _ (c .before .before .before .before .before .before .before .pre)) (c .before .before .before .before .locate .ensures)) ∙ sym (c .before .before .has-room .ensures) ∙ c .before .if1 .left)
+merge-all-requires c κs = full-store _ _ (c .before .before .before .before .before .before .before .pre) _ (sym (room-at _ _ _ _ (c .before .before .before .before .locate .ensures)) ∙ sym (c .before .before .has-room .ensures) ∙ c .before .if1 .left)
 
 locate-requires-2 : tie.Need-locate-requires-2
-locate-requires-2 c κs = all-ready _ _ (c .before .before .before .before .before .before .before .before .before .before .before .pre) _ _ _ (sym (room-at _ _ _ _ (holds-ready _ _ (c .before .before .before .before .before .before .before .before .before .before .before .pre)) (c .before .before .before .before .before .before .before .before .locate .ensures)) ∙ sym (c .before .before .before .before .before .before .has-room .ensures) ∙ c .before .before .before .before .before .if1 .left) (c .before .before .before .merge-all .ensures) .0
+locate-requires-2 c κs = all-ready _ _ (c .before .before .before .before .before .before .before .before .before .before .before .pre) _ _ _ (sym (room-at _ _ _ _ (c .before .before .before .before .before .before .before .before .locate .ensures)) ∙ sym (c .before .before .before .before .before .before .has-room .ensures) ∙ c .before .before .before .before .before .if1 .left) (c .before .before .before .merge-all .ensures) .0
 
 place-record-requires-2 : tie.Need-place-record-requires-2
 place-record-requires-2 c κs =
-    let a = all-ready _ _ (c .before .before .before .before .before .before .before .before .before .before .before .before .before .pre) _ _ _ (sym (room-at _ _ _ _ (holds-ready _ _ (c .before .before .before .before .before .before .before .before .before .before .before .before .before .pre)) (c .before .before .before .before .before .before .before .before .before .before .locate .ensures)) ∙ sym (c .before .before .before .before .before .before .before .before .has-room .ensures) ∙ c .before .before .before .before .before .before .before .if1 .left) (c .before .before .before .before .before .merge-all .ensures) in
-    (a .0, (c .before .locate2 .ensures, room-at _ _ _ _ (a .0) (c .before .locate2 .ensures) ∙ a .1))
+    let a = all-ready _ _ (c .before .before .before .before .before .before .before .before .before .before .before .before .before .pre) _ _ _ (sym (room-at _ _ _ _ (c .before .before .before .before .before .before .before .before .before .before .locate .ensures)) ∙ sym (c .before .before .before .before .before .before .before .before .has-room .ensures) ∙ c .before .before .before .before .before .before .before .if1 .left) (c .before .before .before .before .before .merge-all .ensures) in
+    (a .0, (c .before .locate2 .ensures, room-at _ _ _ _ (c .before .locate2 .ensures) ∙ a .1))
 
 same-length-2 : tie.Need-same-length-2
 same-length-2 c = search needs
 
 returns-2 : tie.Need-returns-2
-returns-2 c = all-entered _ _ (c .before .before .before .before .before .before .before .before .before .before .before .before .before .before .before .before .pre) _ _ _ _ _ (sym (room-at _ _ _ _ (holds-ready _ _ (c .before .before .before .before .before .before .before .before .before .before .before .before .before .before .before .before .pre)) (c .before .before .before .before .before .before .before .before .before .before .before .before .before .locate .ensures)) ∙ sym (c .before .before .before .before .before .before .before .before .before .before .before .has-room .ensures) ∙ c .before .before .before .before .before .before .before .before .before .before .if1 .left) (c .before .before .before .before .before .before .before .before .merge-all .ensures) (c .before .before .place-record2 .ensures)
+returns-2 c = all-entered _ _ (c .before .before .before .before .before .before .before .before .before .before .before .before .before .before .before .before .pre) _ _ _ _ _ (sym (room-at _ _ _ _ (c .before .before .before .before .before .before .before .before .before .before .before .before .before .locate .ensures)) ∙ sym (c .before .before .before .before .before .before .before .before .before .before .before .has-room .ensures) ∙ c .before .before .before .before .before .before .before .before .before .before .if1 .left) (c .before .before .before .before .before .before .before .before .merge-all .ensures) (c .before .before .place-record2 .ensures)
 
 pub enter-record-spec : {M : Type 1} → statement M
 enter-record-spec =
