@@ -1,12 +1,11 @@
 -- What a search in a chunk finds, and where one in a level ends: at the only chunk that can have the key.
 use Prim.Native.Nat.{ℕ, zero, suc, _+_, _-_, _/_, _%_, _^_, _≤_, _<_}
-use mathlib.Core.Path.{_≡_, refl, sym, ap, _∙_}
+use mathlib.Core.Path.{_≡_, sym, ap, _∙_}
 use mathlib.Core.Logic.{dite}
 use mathlib.Core.Option.{none, some}
 use mathlib.Core.Bool.{true, false}
 use mathlib.Core.List.{List, [], _∷_, _++_, append-assoc}
 use native.Mathlib.Decide.{decLt}
-use native.Mathlib.Nat.{add-zero}
 use native.Mathlib.Numerals.{add-one}
 use native.Mathlib.Omega.{arith}
 use lib.Dec.{eqb}
@@ -29,7 +28,7 @@ use Rattle.chunks.proofs.Slots.{slots-first}
 use Rattle.directory.specs.declared.Directory.{Directory}
 use Rattle.directory.specs.Directory.{Formed, recordsFrom, recordsOf, chunkAt}
 use Rattle.directory.proofs.Laws.{chunk-room}
-use Rattle.search.specs.Search.{firstAt, Sought, Stands}
+use Rattle.search.specs.Search.{firstAt, Sought}
 use Rattle.search.proofs.Between.{find-between, rising-before, rising-after}
 
 -- an interval of one: what was known of its end is known of what comes next
@@ -181,39 +180,18 @@ module _ (ws : List ℕ) (d : Directory) (f : Formed d ws) where
       records-below : Below k (take (t .below) (chunkRecs ws c))
       records-below = rw (below-same ws c (ready .0) (ready .1 .1 .1) k t q) at (records-before k 0 (chunkRecs ws c) (ready .1 .1 .1))
 
-      pub stands-here : t .below < c .count → Stands ws d k (record { chunk = r; below = t .below })
-      stands-here l =
-          let i = s .inside in
-          let z : r - 0 ≡ r = omega arith in
-          record {
-            inside = omega arith;
-            ended = λ h. absurd (omega arith);
-            slot = λ _. rw (← e) l;
-            before = below-append k (recordsFrom ws d 0 r) _ (rw z at span-before) (rw (← e) records-below);
-            from = λ _. rw (← e, ← key-is ws c (ready .0) (ready .1 .1 .1) (t .below) l)
-                (rank-from k 0 (chunkKeys ws c) (t .below) (keys-rising ws c (ready .0) (ready .1 .1 .1)) (rw q (omega arith)) (rw (keys-long ws c (ready .0) (ready .1 .1 .1)) l));
-          }
+      -- what stands before its rank is below it, and the record at its rank is not
+      pub before-rank : Below k (span ws d 0 r ++ take (t .below) (chunkRecs ws c))
+      before-rank = below-append k (span ws d 0 r) (take (t .below) (chunkRecs ws c)) span-before records-below
 
-      pub stands-after : c .count ≤ t .below → Stands ws d k (record { chunk = r + 1; below = 0 })
-      unfolding recordsFrom firstAt
-      stands-after l =
-          let i = s .inside in
-          let z : r - 0 ≡ r = omega arith in
-          let o : 0 + r ≡ r = omega arith in
-          let y : take (t .below) (chunkRecs ws c) ≡ chunkRecs ws c = take-all (t .below) (chunkRecs ws c) (rw (slots-length ws (c .marks) (c .keys) (c .pays) (c .count)) l) in
-          let b : Below k (recordsFrom ws d 0 (r + 1)) = rw (records-split ws d 0 r 1, o) (below-append k (recordsFrom ws d 0 r) (chunkRecs ws (chunkAt ws d r) ++ []) (rw z at span-before) (below-append k (chunkRecs ws (chunkAt ws d r)) [] (rw (← e) (rw y at records-below)) tt)) in
-          record {
-            inside = omega arith;
-            ended = λ _. refl;
-            slot = λ h. f .counts (r + 1) h .0;
-            before = below-append k (recordsFrom ws d 0 (r + 1)) [] b tt;
-            from = λ h. let m = s .next-starts h in rw add-zero (omega (arith, m));
-          }
+      pub at-rank : t .below < c .count → k ≤ word ws (c .keys + t .below)
+      at-rank l =
+          rw (← key-is ws c (ready .0) (ready .1 .1 .1) (t .below) l)
+          (rank-from k 0 (chunkKeys ws c) (t .below) (keys-rising ws c (ready .0) (ready .1 .1 .1)) (rw q (omega arith)) (rw (keys-long ws c (ready .0) (ready .1 .1 .1)) l))
 
--- in a level of no chunks every key stands at its end
-pub stands-none : (ws : List ℕ) (d : Directory) (k : ℕ) → d .chunks < 1 → Stands ws d k (record { chunk = 0; below = 0 })
-unfolding recordsFrom
-stands-none ws d k h = record { inside = omega arith; ended = λ _. refl; slot = λ l. absurd (omega arith); before = tt; from = λ l. absurd (omega arith) }
+      -- a rank that is the number of records: all are below it
+      pub before-end : c .count ≤ t .below → Below k (span ws d 0 r ++ chunkRecs ws c)
+      before-end l = rw (take-all (t .below) (chunkRecs ws c) (rw (slots-length ws (c .marks) (c .keys) (c .pays) (c .count)) l)) at before-rank
 
 -- a level of no chunks has no key
 pub empty-level : (ws : List ℕ) (d : Directory) (k : ℕ) → d .chunks < 1 → find k (recordsOf ws d) ≡ none

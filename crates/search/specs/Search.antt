@@ -1,19 +1,15 @@
 -- The answers of the searches in a level.
 use Prim.Native.Nat.{ℕ, zero, suc, _+_, _≤_, _<_}
 use mathlib.Core.Bool.{Bool}
-use mathlib.Core.Path.{_≡_}
-use mathlib.Core.List.{List, _++_}
+use mathlib.Core.List.{List}
 use mathlib.Core.Option.{Option, none, some}
-use lib.ListN.{take}
 use Rattle.levels.specs.Basics.{if_then_else_}
 use Rattle.geometry.specs.Geometry.{within}
 use Rattle.levels.specs.Record.{Rec, firstKey, lastKey}
-use Rattle.levels.specs.Rising.{Below}
 use Rattle.words.specs.Layout.{word}
 use Rattle.chunks.specs.Chunks.{chunkRecs}
 use Rattle.directory.specs.declared.Directory.{Directory}
-use Rattle.directory.specs.Directory.{recordsFrom, chunkAt}
-use Rattle.search.specs.declared.Slot.{Slot}
+use Rattle.directory.specs.Directory.{chunkAt}
 use Rattle.search.specs.declared.Found.{Found}
 use Rattle.search.specs.declared.Found.the-variants.{Here, Absent}
 use Rattle.search.specs.declared.Enclosed.{Enclosed}
@@ -33,18 +29,6 @@ pub record Sought (ws : List ℕ) (d : Directory) (k r : ℕ) : Type 0 where
   pub inside : r < d .chunks
   pub starts : 1 ≤ r → firstAt ws d r ≤ k
   pub next-starts : r + 1 < d .chunks → k < firstAt ws d (r + 1)
-
--- the records of a level before a slot
-abbrev pub beforeSlot : List ℕ → Directory → Slot → List Rec
-beforeSlot ws d r = recordsFrom ws d 0 (r .chunk) ++ take (r .below) (chunkRecs ws (chunkAt ws d (r .chunk)))
-
--- r is the slot of the first record whose key is not below k, or the end of the level
-pub record Stands (ws : List ℕ) (d : Directory) (k : ℕ) (r : Slot) : Type 0 where
-  pub inside : r .chunk ≤ d .chunks
-  pub ended : d .chunks ≤ r .chunk → r .below ≡ 0
-  pub slot : r .chunk < d .chunks → r .below < chunkAt ws d (r .chunk) .count
-  pub before : Below k (beforeSlot ws d r)
-  pub from : r .chunk < d .chunks → k ≤ word ws (chunkAt ws d (r .chunk) .keys + r .below)
 
 -- "whose first to last key encloses k"
 abbrev pub encloses : ℕ → List Rec → Bool

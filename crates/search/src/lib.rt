@@ -2,10 +2,10 @@
 // chunks, whose first keys do not stand in a row, one is found by halving here; in a chunk `slices::rank_of` finds the key.
 
 ghost use mathlib.Core.Path.{_≡_};
-ghost use Prim.Native.Nat.{_+_, _-_, _≤_, _<_};
+ghost use Prim.Native.Nat.{_≤_};
 ghost use Rattle.levels.specs.Map.{find};
 ghost use Rattle.directory.specs.Directory.{Formed, recordsOf};
-ghost use Rattle.search.specs.Search.{Sought, Stands, foundOf, enclosedOf};
+ghost use Rattle.search.specs.Search.{Sought, foundOf, enclosedOf};
 use directory::Directory;
 
 // What a level has for a key: a tombstone (true) or not, with its payload.
@@ -18,13 +18,6 @@ pub enum Found {
 pub enum Enclosed {
     At(usize),
     Nowhere,
-}
-
-// Where a key stands in a level: record `below` of chunk `chunk` is the first whose key is not below it. The number of chunks
-// and 0 where there is none.
-pub struct Slot {
-    pub chunk: usize,
-    pub below: usize,
 }
 
 // The last chunk whose first key is not above k, or the first chunk: the only one that can have k.
@@ -46,32 +39,6 @@ pub fn seek_chunk(s: &[u32], dir: Directory, k: usize) -> usize
         }
     }
     lo
-}
-
-// Where k stands in a level.
-pub fn slot_of(s: &[u32], dir: Directory, k: usize) -> Slot
-    requires { ⌜ Formed dir (now s) × (k ≤ 4294967296) ⌝ }
-    ensures { λ r. ⌜ Stands (now (s .entry)) dir k r ⌝ }
-{
-    let n = dir.chunks;
-    if n < 1 {
-        return Slot { chunk: 0, below: 0 };
-    }
-    let i = seek_chunk(s, dir, k);
-    let chunk = directory::chunk_at(s, dir, i);
-    let count = chunk.count;
-    let at = slices::rank_of(s, chunk.keys, count, k);
-    let below = at.below;
-    if count <= below {
-        return Slot {
-            chunk: i + 1,
-            below: 0,
-        };
-    }
-    Slot {
-        chunk: i,
-        below: below,
-    }
 }
 
 // The record with key k in a level.

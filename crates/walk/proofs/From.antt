@@ -4,10 +4,10 @@ use mathlib.Core.Path.{_≡_, refl, sym, _∙_, ap}
 use mathlib.Core.Logic.{dite}
 use mathlib.Core.List.{List, [], _∷_, _++_, append-assoc}
 use native.Mathlib.Decide.{decLt}
-use native.Mathlib.Numerals.{add-one}
 use native.Mathlib.Omega.{arith}
 use lib.ListN.{length, take, drop, length-append, take-append-drop}
-use lib.Seq.{drop-nil, take-append-le, drop-append-le}
+use Rattle.slices.specs.declared.Rank.{Rank}
+use Rattle.slices.specs.Ranks.{rankOf}
 use Rattle.levels.specs.Record.{Rec}
 use Rattle.levels.specs.Map.{into, overlay}
 use Rattle.levels.proofs.Rising.{rising-from, rising-right}
@@ -15,19 +15,18 @@ use Rattle.levels.proofs.Overlay.{into-below, into-same, into-above, overlay-ri
 use Rattle.levels.proofs.Overlay.Way.{less, same, more}
 use Rattle.levels.specs.Rising.{Rising, Below}
 use Rattle.words.specs.Layout.{word}
-use Rattle.words.proofs.Slots.{slots-length, slots-drop}
+use Rattle.words.proofs.Slots.{slots-drop}
 use Rattle.chunks.specs.declared.Chunk.{Chunk}
 use Rattle.chunks.specs.Chunks.{chunkRecs}
 use Rattle.chunks.proofs.Overlay.{Least}
 use Rattle.directory.specs.declared.Directory.{Directory}
 use Rattle.directory.specs.Directory.{Formed, recordsFrom, recordsOf, chunkAt}
-use Rattle.search.specs.declared.Slot.{Slot}
-use Rattle.search.specs.Search.{Stands, beforeSlot}
-use Rattle.search.proofs.Laws.{span-split, chunk-ready}
+use Rattle.search.specs.Search.{Sought}
+use Rattle.search.proofs.Laws.{chunkKeys, span, chunk-ready, level-cut, span-after, before-rank, at-rank, before-end}
 use Rattle.walk.specs.declared.Cursor.{Cursor}
 use Rattle.walk.specs.declared.Front.{Front}
 use Rattle.walk.specs.declared.Levels.{Levels}
-use Rattle.walk.specs.Walk.{rest, Good, fromSlot, AtSlot, FromKey, four, layered, AllFormed, rests, Ahead, Entered}
+use Rattle.walk.specs.Walk.{rest, Good, FromKey, four, layered, AllFormed, rests, Ahead, Entered}
 use Rattle.walk.proofs.Rest.{headOf, more as others, rest-alive, least-of}
 use Rattle.walk.proofs.Between.{overlay-before}
 use Rattle.walk.proofs.Four.{layered-few}
@@ -102,86 +101,71 @@ key-from ws d q c g h r =
     (λ y. let k : Rising q (headOf ws (c .chunk) ∷ others ws d c) = rw (rest-alive ws d c g y) at r in let e = g .alive y .0 in omega (arith, k .0))
     (λ n. omega (arith, g .ended (omega arith) .0))
 
--- a level from a slot on
-module _ (ws : List ℕ) (d : Directory) (at : Slot) (f : Formed d ws) where
-  -- the records from the slot on: those of its chunk, then those of the chunks after it
-  slot-left : at .chunk < d .chunks → at .below < chunkAt ws d (at .chunk) .count → fromSlot ws d at ≡ drop (at .below) (chunkRecs ws (chunkAt ws d (at .chunk))) ++ recordsFrom ws d (at .chunk + 1) (d .chunks - (at .chunk + 1))
-  unfolding recordsFrom
-  slot-left i l =
-      let c = chunkAt ws d (at .chunk) in
-      let n : d .chunks - at .chunk ≡ suc (d .chunks - (at .chunk + 1)) = omega arith in
-      rw (n, add-one (at .chunk)) (drop-append-le (at .below) (chunkRecs ws c) _ (rw (slots-length ws (c .marks) (c .keys) (c .pays) (c .count)) (omega arith)))
+-- a slot of a chunk that has a record, in words that can be counted
+pub record SlotRoom (ws : List ℕ) (c : Chunk) (at : ℕ) : Type 0 where
+  pub key-in : c .keys + at < length ws
+  pub pay-in : c .pays + at < length ws
+  pub low : at < 16
+  pub short : length ws ≤ 288524
 
-  pub slot-room : (c : Chunk) → c ≡ chunkAt ws d (at .chunk) → at .chunk < d .chunks → at .below < chunkAt ws d (at .chunk) .count → (c .keys + at .below < length ws) × ((c .pays + at .below < length ws) × ((at .below < 16) × (at .below < c .count)))
-  slot-room c e i l =
-      let n = chunk-ready ws d f (at .chunk) i c e in
-      let m : at .below < c .count = rw e l in
-      (omega (arith, n .0 .keys-end), (omega (arith, n .0 .pays-end), (omega (arith, n .1 .1 .0), m)))
+-- a level at the rank of q in the chunk that was sought
+module _ (ws : List ℕ) (d : Directory) (f : Formed d ws) (q r : ℕ) (s : Sought ws d q r) (c : Chunk) (e : c ≡ chunkAt ws d r) (t : Rank) (y : t ≡ rankOf q (chunkKeys ws c)) where
+  pub slot-room : t .below < c .count → SlotRoom ws c (t .below)
+  slot-room l =
+      let n = chunk-ready ws d f r (s .inside) c e in
+      record { key-in = omega (arith, n .0 .keys-end); pay-in = omega (arith, n .0 .pays-end); low = omega (arith, n .1 .1 .0); short = f .within .short }
 
-  -- the cursor there
-  pub slot-cursor : (c : Chunk) (key : ℕ) → c ≡ chunkAt ws d (at .chunk) → at .chunk < d .chunks → at .below < chunkAt ws d (at .chunk) .count → key ≡ word ws (c .keys + at .below) → key < 4294967296
-      → AtSlot ws d at (record { next = at .chunk + 1; chunk = record { marks = c .marks / 2 ^ at .below; keys = c .keys + at .below; pays = c .pays + at .below; count = c .count - at .below }; key = key })
+  -- the records before it, those from it on, and the chunks after
+  slot-cut : recordsOf ws d ≡ (span ws d 0 r ++ take (t .below) (chunkRecs ws c)) ++ (drop (t .below) (chunkRecs ws c) ++ span ws d (r + 1) (d .chunks))
+  slot-cut =
+      let u = span ws d 0 r in
+      let v = take (t .below) (chunkRecs ws c) in
+      let w = drop (t .below) (chunkRecs ws c) in
+      let z = span ws d (r + 1) (d .chunks) in
+      let a : recordsOf ws d ≡ u ++ (chunkRecs ws c ++ z) = rw e (level-cut ws d f q r s) in
+      a ∙ ap (λ (rs : List Rec). u ++ (rs ++ z)) (sym (take-append-drop (t .below) (chunkRecs ws c))) ∙ ap (λ (rs : List Rec). u ++ rs) (append-assoc v w z) ∙ sym (append-assoc u v (w ++ z))
+
+  -- a cursor there
+  pub from-slot : (key : ℕ) → t .below < c .count → key ≡ word ws (c .keys + t .below) → key < 4294967296
+      → FromKey ws d q (record { next = r + 1; chunk = record { marks = c .marks / 2 ^ t .below; keys = c .keys + t .below; pays = c .pays + t .below; count = c .count - t .below }; key = key })
   unfolding rest
-  slot-cursor c key e i l y b =
-      let n = chunk-ready ws d f (at .chunk) i c e .0 in
-      let m : at .below < c .count = rw e l in
+  from-slot key l k b =
+      let n = chunk-ready ws d f r (s .inside) c e .0 in
       record {
         good =
             record {
               formed = f;
-              low = omega arith;
+              low = let i = s .inside in omega arith;
               keys-in = let p = n .keys-end in omega arith;
               pays-in = let p = n .pays-end in omega arith;
-              alive = λ z. (y, b);
+              alive = λ z. (k, b);
               ended = λ z. absurd (omega arith);
             };
-        left = rw (← slots-drop ws (c .marks) (c .keys) (c .pays) (at .below) (c .count) (omega arith)) (rw e (sym (slot-left i l)));
-        key = λ _. rw (← e) y;
+        passed = span ws d 0 r ++ take (t .below) (chunkRecs ws c);
+        cut = rw (← slots-drop ws (c .marks) (c .keys) (c .pays) (t .below) (c .count) (omega arith)) slot-cut;
+        below = before-rank ws d f q r s c e t y;
+        ahead = rw k (at-rank ws d f q r s c e t y l);
       }
 
-  slot-none : d .chunks ≤ at .chunk → fromSlot ws d at ≡ []
-  unfolding recordsFrom
-  slot-none h = let y : d .chunks - at .chunk ≡ 0 = omega arith in rw (y, drop-nil {A = Rec} (at .below))
-
-  pub slot-end : (c : Cursor) → d .chunks ≤ at .chunk → Good ws d c → rest ws d c ≡ recordsFrom ws d (d .chunks) (d .chunks - d .chunks) → AtSlot ws d at c
-  unfolding recordsFrom
-  slot-end c h g e =
-      let z : d .chunks - d .chunks ≡ 0 = omega arith in
-      record { good = g; left = rw (slot-none h) (rw z at e); key = λ i. absurd (omega arith) }
-
-  -- what stands before the slot, and what from it on
-  slot-cut : (q : ℕ) → Stands ws d q at → recordsOf ws d ≡ beforeSlot ws d at ++ fromSlot ws d at
-  unfolding recordsFrom
-  slot-cut q s =
-      whole ∙ ap (λ (rs : List Rec). recordsFrom ws d 0 (at .chunk) ++ rs) (sym (take-append-drop (at .below) from)) ∙ sym (append-assoc (recordsFrom ws d 0 (at .chunk)) (take (at .below) from) (drop (at .below) from))
-      ∙ ap (λ (rs : List Rec). (recordsFrom ws d 0 (at .chunk) ++ rs) ++ fromSlot ws d at) (dite (decLt (at .chunk) (d .chunks)) here end)
-    where
-      from : List Rec
-      from = recordsFrom ws d (at .chunk) (d .chunks - at .chunk)
-
-      whole : recordsOf ws d ≡ recordsFrom ws d 0 (at .chunk) ++ from
-      whole = let z : at .chunk - 0 ≡ at .chunk = omega arith in rw z at (span-split ws d (at .chunk) (s .inside))
-
-      here : at .chunk < d .chunks → take (at .below) from ≡ take (at .below) (chunkRecs ws (chunkAt ws d (at .chunk)))
-      here i =
-          let c = chunkAt ws d (at .chunk) in
-          let l = s .slot i in
-          let n : d .chunks - at .chunk ≡ suc (d .chunks - (at .chunk + 1)) = omega arith in
-          rw n (take-append-le (at .below) (chunkRecs ws c) _ (rw (slots-length ws (c .marks) (c .keys) (c .pays) (c .count)) (omega arith)))
-
-      end : (at .chunk < d .chunks → ⊥) → take (at .below) from ≡ take (at .below) (chunkRecs ws (chunkAt ws d (at .chunk)))
-      end n = rw (s .ended (omega arith))
-
-  -- a key that stands there: a cursor from the slot on is one from the key on
-  pub from-slot : (q : ℕ) (c : Cursor) → q ≤ 4294967296 → Stands ws d q at → AtSlot ws d at c → FromKey ws d q c
-  from-slot q c h s k =
+  -- or, if all the records of that chunk are below q, one at the chunk after it
+  pub from-after : (a : Cursor) → c .count ≤ t .below → q ≤ 4294967296 → Good ws d a → rest ws d a ≡ recordsFrom ws d (r + 1) (d .chunks - (r + 1)) → FromKey ws d q a
+  from-after a l h g o =
       record {
-        good = k .good;
-        passed = beforeSlot ws d at;
-        cut = rw (k .left) (slot-cut q s);
-        below = s .before;
-        ahead = dite (decLt (at .chunk) (d .chunks)) (λ i. rw (k .key i) (s .from i)) (λ n. key-from ws d q c (k .good) h (rw (k .left ∙ slot-none (omega arith)) tt));
+        good = g;
+        passed = span ws d 0 r ++ chunkRecs ws c;
+        cut = rw (o, e) (level-cut ws d f q r s ∙ sym (append-assoc (span ws d 0 r) (chunkRecs ws (chunkAt ws d r)) (span ws d (r + 1) (d .chunks))));
+        below = before-end ws d f q r s c e t y l;
+        ahead = key-from ws d q a g h (rising-from q (suc q) (rest ws d a) (omega arith) (rw o (span-after ws d f q r s)));
       }
+
+-- a cursor into a level of no chunks
+pub from-none : (ws : List ℕ) (d : Directory) (q : ℕ) (c : Cursor) → d .chunks < 1 → q ≤ 4294967296 → Good ws d c → rest ws d c ≡ recordsFrom ws d 0 (d .chunks - 0) → FromKey ws d q c
+unfolding recordsFrom
+from-none ws d q c l h g e =
+    let z : d .chunks ≡ 0 = omega arith in
+    let y : d .chunks - 0 ≡ 0 = omega arith in
+    let r : rest ws d c ≡ [] = rw y at e in
+    record { good = g; passed = []; cut = rw (r, z); below = tt; ahead = key-from ws d q c g h (rw r tt) }
 
 split-level : (ws : List ℕ) (d : Directory) (q : ℕ) (c : Cursor) → Formed d ws → (k : FromKey ws d q c) → Split q (recordsOf ws d) (k .passed) (rest ws d c)
 split-level ws d q c f k =

@@ -5,7 +5,7 @@ use mathlib.Core.Bool.{Bool, true, false}
 use mathlib.Core.List.{List, [], _++_}
 use mathlib.Core.Option.{Option, none, some}
 use lib.Dec.{eqb, ltb}
-use lib.ListN.{length, take, drop, set}
+use lib.ListN.{length, take, set}
 use Rattle.levels.specs.Basics.{if_then_else_}
 use Rattle.levels.specs.Record.{Rec}
 use Rattle.levels.specs.Map.{overlay, unmarked}
@@ -15,8 +15,7 @@ use Rattle.words.specs.Calls.{over}
 use Rattle.chunks.specs.declared.Chunk.{Chunk}
 use Rattle.chunks.specs.Chunks.{chunkRecs}
 use Rattle.directory.specs.declared.Directory.{Directory}
-use Rattle.directory.specs.Directory.{Formed, recordsFrom, recordsOf, chunkAt}
-use Rattle.search.specs.declared.Slot.{Slot}
+use Rattle.directory.specs.Directory.{Formed, recordsFrom, recordsOf}
 use Rattle.walk.specs.declared.Cursor.{Cursor}
 use Rattle.walk.specs.declared.Front.{Front}
 use Rattle.walk.specs.declared.Levels.{Levels}
@@ -35,16 +34,6 @@ pub record Good (ws : List ℕ) (d : Directory) (c : Cursor) : Type 0 where
   pub pays-in : c .chunk .pays + c .chunk .count ≤ length ws
   pub alive : 1 ≤ c .chunk .count → (c .key ≡ word ws (c .chunk .keys)) × (c .key < 4294967296)
   pub ended : c .chunk .count ≡ 0 → (c .key ≡ 4294967296) × (c .next ≡ d .chunks)
-
--- the records of a level from a slot on
-abbrev pub fromSlot : List ℕ → Directory → Slot → List Rec
-fromSlot ws d at = drop (at .below) (recordsFrom ws d (at .chunk) (d .chunks - at .chunk))
-
--- a cursor into a level from a slot on
-pub record AtSlot (ws : List ℕ) (d : Directory) (at : Slot) (c : Cursor) : Type 0 where
-  pub good : Good ws d c
-  pub left : rest ws d c ≡ fromSlot ws d at
-  pub key : at .chunk < d .chunks → c .key ≡ word ws (chunkAt ws d (at .chunk) .keys + at .below)
 
 -- A cursor into a level for the walk from key q on: the records that it passes over are below q, those that are left are not.
 pub record FromKey (ws : List ℕ) (d : Directory) (q : ℕ) (c : Cursor) : Type 0 where

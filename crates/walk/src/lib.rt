@@ -11,11 +11,10 @@ ghost use Rattle.levels.specs.Map.{unmarked, firstFrom, stretch};
 ghost use Rattle.words.specs.Layout.{word};
 ghost use Rattle.words.specs.Calls.{StretchAnswer, StretchOutcome, filled};
 ghost use Rattle.chunks.specs.Peel.{past, liveBit};
-ghost use Rattle.directory.specs.Directory.{Formed, recordsFrom, chunkAt};
-ghost use Rattle.walk.specs.Walk.{Good, rest, AtSlot, upperOf, Smaller, Skims, Copies, AllFormed, SameLevels, layered, Entered, Ahead, Walked, keptOf, entered, followingOf, KeyFits};
+ghost use Rattle.directory.specs.Directory.{Formed, recordsFrom};
+ghost use Rattle.walk.specs.Walk.{Good, rest, FromKey, upperOf, Smaller, Skims, Copies, AllFormed, SameLevels, layered, Entered, Ahead, Walked, keptOf, entered, followingOf, KeyFits};
 use chunks::Chunk;
 use directory::Directory;
-use search::Slot;
 
 // Above every key: the next key of a level that is used up.
 const END: usize = 4294967296;
@@ -203,18 +202,23 @@ fn skim(s: &[u32], dir: Directory, cur: Cursor, bound: usize) -> Passed
     }
 }
 
-// A level from a slot on.
-fn cursor_from(s: &[u32], dir: Directory, at: Slot) -> Cursor
-    requires { ⌜ Formed dir (now s) × ((at .chunk ≤ dir .chunks) × (at .chunk < dir .chunks → at .below < chunkAt (now s) dir (at .chunk) .count)) ⌝ }
-    ensures { λ r. ⌜ AtSlot (now (s .entry)) dir at r ⌝ }
+// A level from key q on: from its slot in the chunk that can have it, or from the chunk after that.
+fn cursor_from(s: &[u32], dir: Directory, q: usize) -> Cursor
+    requires { ⌜ Formed dir (now s) × (q ≤ 4294967296) ⌝ }
+    ensures { λ r. ⌜ FromKey (now (s .entry)) dir q r ⌝ }
 {
-    let i = at.chunk;
     let n = dir.chunks;
-    if n <= i {
-        return refill(s, dir, n);
+    if n < 1 {
+        return refill(s, dir, 0);
     }
-    let slot = at.below;
+    let i = search::seek_chunk(s, dir, q);
     let chunk = directory::chunk_at(s, dir, i);
+    let count = chunk.count;
+    let at = slices::rank_of(s, chunk.keys, count, q);
+    let slot = at.below;
+    if count <= slot {
+        return refill(s, dir, i + 1);
+    }
     let marks = chunk.marks;
     let keys = chunk.keys + slot;
     let key = s[keys] as usize;
@@ -223,7 +227,7 @@ fn cursor_from(s: &[u32], dir: Directory, at: Slot) -> Cursor
         marks >> slot as u32,
         keys,
         chunk.pays + slot,
-        chunk.count - slot,
+        count - slot,
         key,
     )
 }
@@ -388,10 +392,10 @@ fn enter(s: &[u32], l: Levels, q: usize) -> Front
     requires { ⌜ AllFormed (now s) l × (q ≤ 4294967296) ⌝ }
     ensures { λ r. ⌜ Entered (now (s .entry)) l q r ⌝ }
 {
-    let c0 = cursor_from(s, l.d0, search::slot_of(s, l.d0, q));
-    let c1 = cursor_from(s, l.d1, search::slot_of(s, l.d1, q));
-    let c2 = cursor_from(s, l.d2, search::slot_of(s, l.d2, q));
-    let c3 = cursor_from(s, l.d3, search::slot_of(s, l.d3, q));
+    let c0 = cursor_from(s, l.d0, q);
+    let c1 = cursor_from(s, l.d1, q);
+    let c2 = cursor_from(s, l.d2, q);
+    let c3 = cursor_from(s, l.d3, q);
     Front {
         c0: c0,
         c1: c1,
@@ -443,16 +447,16 @@ pub fn live(s: &[u32], levels: Levels) -> usize
     count_live(s, l.d0, l.d1, l.d2, l.d3)
 }
 
-// The smallest live key of four levels at or above q, with its payload: a walk that lists one record. For so few it does not
-// pay to put the deepest level last.
+// The smallest live key of four levels at or above q, with its payload: a walk that lists one record.
 pub fn next_from(s: &[u32], levels: Levels, q: usize) -> Following
     requires { ⌜ AllFormed (now s) levels × (q ≤ 4294967296) ⌝ }
     ensures { λ r. ⌜ (r ≡ followingOf (firstFrom q (unmarked (layered (now (s .entry)) levels)))) × KeyFits r ⌝ }
 {
-    let from = enter(s, levels, q);
+    let l = deepest_last(levels);
+    let from = enter(s, l, q);
     let mut keys = [0u32; 1];
     let mut pays = [0u32; 1];
-    let n = walk_on(s, levels, from, END, 0, &mut keys, &mut pays);
+    let n = walk_on(s, l, from, END, 0, &mut keys, &mut pays);
     if n < 1 {
         return Following::Nothing;
     }
