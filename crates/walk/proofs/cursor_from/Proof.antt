@@ -75,7 +75,7 @@ shr-cursor-at : tie.Need-shr-cursor-at
 shr-cursor-at c = omega (arith, room (c .before) .low)
 
 add-cursor-at-2 : tie.Need-add-cursor-at-2
-add-cursor-at-2 c = omega (arith, room (c .before .before) .pay-in, room (c .before .before) .short)
+add-cursor-at-2 c = let p = room (c .before .before) in omega (arith, p .key-in, p .pay-in, p .short)
 
 sub-cursor-at : tie.Need-sub-cursor-at
 sub-cursor-at c = search needs
