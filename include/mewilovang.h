@@ -119,21 +119,21 @@
  * form checks, over full stores; measured, docs/SPEED.md:
  *
  *     check            1
- *     look_up, next    0.8 to 1.0, next in a store of 40 places 1.1 (why some are below 1 was not looked into)
+ *     look_up, next    1.0 to 1.1, next in a store of 40 places 1.2 to 1.3
  *     stretch          1 and one walk from `first` on, as far as the arrays have room. All tests of a store at once took
- *                      2.4 to 4.3, in one of 40 places 1.5 to 1.7. So ask it for many tests at once, and not next for
+ *                      3.3 to 5.9, in one of 40 places 1.8 to 2.0. So ask it for many tests at once, and not next for
  *                      one after the other
  *     show, about      1.0 to 1.1; timed once, at three geometries, not in that file
- *     put              1 and its merges. On average 1.0 to 1.1 in stores of 1160 places and more, 1.2 to 1.4 in those of
- *                      264 and 136, 2.1 to 2.5 in one of 40. The slowest put of a run took 1.8 to 8.4; one that the
+ *     put              1 and its merges. On average 1.0 to 1.2 in stores of 1160 places and more, 1.4 to 1.5 in those of
+ *                      264 and 136, 2.5 to 3.1 in one of 40. The slowest put of a run took 2.0 to 11.0; one that the
  *                      operating system interrupts takes longer
  *     delete           as put; not timed
  *     format           no form check: it writes every word once
  *     words            a few multiplications
  *
- * One form check of a full store of geometry 16 1 2 8 3 8192, with 10771 tests in 279774 words, took 22
- * to 30 microseconds where the same store had just been checked, and 62 to 74 after other work (the middle of 15 calls
- * over five runs; single calls 50 to 135). That was on a virtual machine with two cores; your times differ, the ratios less so.
+ * One form check of a full store of geometry 16 1 2 8 3 8192, with 10771 tests in 279774 words, took 19
+ * to 30 microseconds where the same store had just been checked, and 43 to 46 after other work (the middle of 15 calls
+ * over five runs; single calls 35 to 74). That was on a virtual machine with two cores; your times differ, the ratios less so.
  *
  *
  * THREADS
@@ -192,8 +192,8 @@ extern "C" {
  */
 #define MEWILOVANG_VERSION_MAJOR 1
 #define MEWILOVANG_VERSION_MINOR 2
-#define MEWILOVANG_VERSION_PATCH 2
-#define MEWILOVANG_VERSION "1.2.2"
+#define MEWILOVANG_VERSION_PATCH 3
+#define MEWILOVANG_VERSION "1.2.3"
 
 /*
  * The bytes of stack to have free for each call, from its return address down; the arguments and the answer stand in your
@@ -204,12 +204,12 @@ extern "C" {
  */
 #define MEWILOVANG_STACK_WORDS (2 * 1024)
 #define MEWILOVANG_STACK_FORMAT (2 * 1024)
-#define MEWILOVANG_STACK_CHECK (11 * 1024)
-#define MEWILOVANG_STACK_LOOK_UP (11 * 1024)
-#define MEWILOVANG_STACK_NEXT (12 * 1024)
-#define MEWILOVANG_STACK_STRETCH (12 * 1024)
-#define MEWILOVANG_STACK_SHOW (11 * 1024)
-#define MEWILOVANG_STACK_ABOUT (11 * 1024)
+#define MEWILOVANG_STACK_CHECK (24 * 1024)
+#define MEWILOVANG_STACK_LOOK_UP (25 * 1024)
+#define MEWILOVANG_STACK_NEXT (25 * 1024)
+#define MEWILOVANG_STACK_STRETCH (25 * 1024)
+#define MEWILOVANG_STACK_SHOW (25 * 1024)
+#define MEWILOVANG_STACK_ABOUT (25 * 1024)
 #define MEWILOVANG_STACK_PUT (126 * 1024)
 #define MEWILOVANG_STACK_DELETE (126 * 1024)
 

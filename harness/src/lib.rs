@@ -8,6 +8,7 @@ pub mod calls;
 pub mod cold;
 pub mod compare;
 pub mod harm;
+pub mod log;
 pub mod maker;
 pub mod measure;
 pub mod planted;

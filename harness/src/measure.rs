@@ -7,6 +7,7 @@
 
 use crate::calls::{Answer, Call, Held, Library, Oracle, Store};
 use crate::cold::{Cold, Work};
+use crate::log::Log;
 use reference::fast as baseline;
 use reference::geometry::Geometry;
 use reference::layout::COUNTS;
@@ -60,7 +61,7 @@ pub fn full_store(geometry: Geometry) -> (Vec<u32>, Vec<u32>) {
 
 /// The plain pass: the sum of the words that check must read, which are the size
 /// words, level 0, the lists and the listed blocks.
-fn plain_pass(geometry: Geometry, store: &[u32]) -> u32 {
+pub fn plain_pass(geometry: Geometry, store: &[u32]) -> u32 {
     let sum = |from: u32, words: &[u32]| words.iter().fold(from, |sum, &w| sum.wrapping_add(w));
     let (base, width) = (geometry.slots_at(), geometry.slot_words());
     let mut total = sum(0, &store[..base]);
@@ -108,7 +109,7 @@ pub struct Times {
 
 impl Times {
     /// One more time of a place.
-    fn add(&mut self, place: usize, time: f64) {
+    pub fn add(&mut self, place: usize, time: f64) {
         if self.places.len() <= place {
             self.places.resize(place + 1, Vec::new());
         }
@@ -183,12 +184,13 @@ pub struct Block {
     pub fast: Subject,
 }
 
-/// The blocks of rounds of one geometry, and its cold calls.
+/// The blocks of rounds of one geometry, its cold calls, and its log.
 pub struct Rounds {
     pub geometry: Geometry,
     pub store: Vec<u32>,
     pub blocks: Vec<Block>,
     pub cold: Cold,
+    pub log: Option<Log>,
     /// What the measured puts are, and keys to be asked for.
     puts: Vec<Turn>,
     asked: Vec<u32>,
@@ -212,6 +214,7 @@ impl Rounds {
         Rounds {
             geometry,
             cold: Cold::new(store.clone()),
+            log: Log::new(geometry),
             store,
             blocks: Vec::new(),
             puts,
@@ -220,8 +223,8 @@ impl Rounds {
         }
     }
 
-    /// A block of rounds for about this time, then some cold calls. Both
-    /// implementations must leave the same words.
+    /// A block of rounds for about this time, then some cold calls, then a block of the
+    /// log. Both implementations must leave the same words.
     pub fn block(&mut self, time: Duration, work: &mut Work) {
         let start = Instant::now();
         let mut block = Block::default();
@@ -233,6 +236,9 @@ impl Rounds {
         }
         self.blocks.push(block);
         self.cold.calls(work, &self.clock, &self.puts);
+        if let Some(log) = &mut self.log {
+            log.block(&self.clock);
+        }
     }
 
     /// One round of one implementation: the list of puts with the reading calls

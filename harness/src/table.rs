@@ -70,10 +70,20 @@ const PARTS: std::ops::Range<usize> = 12..16;
 const STRETCHES: [usize; 6] = [1, 16, 6, 19, 17, 18];
 
 /// The aims, at most so much.
-const AIMS: [(usize, f64); 5] = [(2, 10.0), (3, 1.2), (4, 1.1), (5, 2.0), (6, 2.5)];
+const AIMS: [(usize, f64); 4] = [(3, 1.2), (4, 1.1), (5, 2.0), (6, 2.5)];
+
+/// The aim of check in plain passes, at growth 8 and where levels grow more slowly.
+const PASSES: (usize, f64, f64) = (2, 6.0, 11.0);
 
 /// The cold calls, in microseconds.
 const COLD: [&str; 3] = ["cold check", "cold fast check", "cold put"];
+
+/// The figures of a block of a log.
+const LOG: [&str; 3] = [
+    "log check",
+    "log check / plain pass",
+    "log check / fast check",
+];
 
 /// The figures of one block.
 fn figures(block: &Block) -> [f64; NAMES.len()] {
@@ -115,6 +125,23 @@ fn figures(block: &Block) -> [f64; NAMES.len()] {
     ]
 }
 
+/// The figures of one block of a log.
+fn log_figures(block: &Block) -> [f64; LOG.len()] {
+    let (library, fast) = (&block.library, &block.fast);
+    let check = library.check.mean();
+    [
+        check / 1000.0,
+        check / library.pass.mean(),
+        check / fast.check.mean(),
+    ]
+}
+
+/// The range of each figure over the blocks.
+fn ranges<const N: usize>(blocks: &[Block], figures: impl Fn(&Block) -> [f64; N]) -> [Range; N] {
+    let blocks: Vec<_> = blocks.iter().map(figures).collect();
+    std::array::from_fn(|i| Range::of(blocks.iter().map(|b| b[i]).collect()))
+}
+
 /// What was measured of one geometry.
 pub struct Row {
     geometry: Geometry,
@@ -124,6 +151,7 @@ pub struct Row {
     cold: [Range; COLD.len()],
     /// Cold calls of each kind.
     calls: usize,
+    log: Option<[Range; LOG.len()]>,
     /// Puts with merges, and merges in all.
     merging: usize,
     merges: u32,
@@ -132,17 +160,17 @@ pub struct Row {
 impl Row {
     /// The figures of these rounds.
     pub fn new(rounds: &Rounds) -> Row {
-        let blocks: Vec<_> = rounds.blocks.iter().map(figures).collect();
         let merges = &rounds.blocks[0].library.merges;
-        let cold = &rounds.cold;
+        let (cold, log) = (&rounds.cold, rounds.log.as_ref());
         let thousandth = |times: &Vec<f64>| Range::of(times.iter().map(|t| t / 1000.0).collect());
         Row {
             geometry: rounds.geometry,
             words: words_read(rounds.geometry, &rounds.store),
             rounds: rounds.blocks.iter().map(|block| block.rounds).sum(),
-            figures: std::array::from_fn(|i| Range::of(blocks.iter().map(|b| b[i]).collect())),
+            figures: ranges(&rounds.blocks, figures),
             cold: [&cold.check, &cold.fast_check, &cold.put].map(thousandth),
             calls: cold.check.len(),
+            log: log.map(|log| ranges(&log.blocks, log_figures)),
             merging: merges.iter().filter(|&&merges| merges > 0).count(),
             merges: merges.iter().sum(),
         }
@@ -174,6 +202,14 @@ impl Row {
         ));
         cells
     }
+
+    /// The cells of the log.
+    fn log_cells(&self) -> Vec<String> {
+        match self.log {
+            Some(log) => log.map(Range::text).into(),
+            None => vec!["left out".to_string(); LOG.len()],
+        }
+    }
 }
 
 /// One line of a table: a geometry, and cells of one width.
@@ -204,6 +240,7 @@ pub fn print(rows: &[Row]) {
         |row| row.cells(FIRST),
     );
     let mut aims = [const { String::new() }; FIRST.end];
+    aims[PASSES.0] = format!("{}, {}", PASSES.1, PASSES.2);
     AIMS.iter()
         .for_each(|&(at, most)| aims[at] = format!("{most:.2}"));
     line("aim at most", &aims);
@@ -249,6 +286,9 @@ pub fn print(rows: &[Row]) {
     );
     let head = "check,middle,fast check,middle,put,middle,check/warm";
     table(&above, head, rows, Row::cold_cells);
+    let above = "A full store as a log leaves it: keys rise, and the oldest goes for each new one, so the levels do not interleave.\n\
+        Left out where level h has no block in such a store.";
+    table(above, "check,check/pass,check/fast", rows, Row::log_cells);
     rows.iter()
         .filter(|row| row.geometry.slots() == 8192)
         .for_each(print_aims);
@@ -257,7 +297,12 @@ pub fn print(rows: &[Row]) {
 /// The aims of one geometry.
 fn print_aims(row: &Row) {
     println!("\nAims at {}:", row.name());
-    for (figure, most) in AIMS {
+    let passes = if row.geometry.growth() < 8 {
+        PASSES.2
+    } else {
+        PASSES.1
+    };
+    for (figure, most) in [(PASSES.0, passes)].into_iter().chain(AIMS) {
         let (name, range) = (NAMES[figure], row.figures[figure]);
         println!(
             "  {name:<20} {:>6.2} to {:>5.2}, aim {most:>5.2}: {}",
@@ -269,11 +314,13 @@ fn print_aims(row: &Row) {
 }
 
 /// All figures, a line for each: geometry, name, lowest, middle, highest, parted by tabs.
+/// Those of a log that was left out are missing.
 pub fn lines(rows: &[Row]) -> String {
     let mut text = String::new();
     for row in rows {
-        let names = NAMES.iter().chain(&COLD);
-        for (name, range) in names.zip(row.figures.iter().chain(&row.cold)) {
+        let names = NAMES.iter().chain(&COLD).chain(&LOG);
+        let ranges = row.figures.iter().chain(&row.cold);
+        for (name, range) in names.zip(ranges.chain(row.log.iter().flatten())) {
             let Range { low, middle, high } = range;
             writeln!(
                 text,

@@ -1,11 +1,15 @@
 //! The search and the histories are able to fail, and find nothing in the library.
-//! What the benchmark says of an aim.
+//! What the benchmark says of an aim, and its logs.
 
 use crate::calls::{Library, Package};
+use crate::log::Log;
 use crate::planted::{Fault, Planted};
 use crate::search::Search;
 use crate::table::Range;
 use crate::walks::{same, Walks};
+use reference::geometry::Geometry;
+use reference::layout::LIVE;
+use reference::{calls, unreachable};
 
 /// Each planted fault is reported, and the report's group shows it again.
 #[test]
@@ -100,6 +104,24 @@ fn other_records_than_the_map() {
     assert!(shown.ends_with(
         "gave 2 records, more true, and the map has 3, more false; record 1 is Some((30, 3)) and not Some((20, 2))"
     ));
+}
+
+/// A log has the last N keys, and is left out where level h has no block.
+#[test]
+fn logs() {
+    let log = |numbers| Log::new(Geometry::new(numbers).expect("a legal geometry"));
+    for (numbers, limit) in [
+        ([4, 1, 2, 4, 1, 40], 17),
+        ([8, 2, 4, 4, 1, 136], 140),
+        ([16, 1, 4, 8, 2, 1160], 2700),
+    ] {
+        let store = log(numbers).expect("a block in level h").store;
+        assert_eq!((calls::check(&store), store[LIVE]), (0, limit));
+        let keys: Vec<u32> = unreachable::map(&store).into_keys().collect();
+        let rising = (keys[0]..).zip(&keys).all(|(right, &key)| key == right);
+        assert!(rising && keys[0] > limit, "{numbers:?}");
+    }
+    assert!(log([4, 2, 8, 2, 2, 392]).is_none());
 }
 
 /// An aim is met or missed by all repetitions, or else within their noise.

@@ -235,5 +235,5 @@ pub fn passes(s: &[u32], g: Geometry) -> bool
         d2: d2,
         d3: d3,
     };
-    live == walk::live(s, levels)
+    live == shares::live(s, levels)
 }

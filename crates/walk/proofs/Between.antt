@@ -2,9 +2,7 @@
 use Prim.Native.Nat.{ℕ, _+_, _-_, _/_, _%_, _≤_, _<_, min}
 use mathlib.Core.Path.{_≡_, refl, sym, ap, _∙_}
 use mathlib.Core.Bool.{Bool, true, false}
-use mathlib.Core.Logic.{dite}
 use mathlib.Core.List.{List, [], _∷_, _++_, append-nil, append-assoc}
-use native.Mathlib.Decide.{decLt}
 use native.Mathlib.Omega.{arith}
 use lib.Dec.{eqb}
 use lib.ListN.{length, length-append}
@@ -87,15 +85,6 @@ module _ (ws : List ℕ) (d : Directory) (c : Cursor) (bound : ℕ) (after : Cur
           counted = let w = k .counted in omega arith;
         }
 
-    -- within its chunk
-    pub skims-step : (key : ℕ) → 1 < after .chunk .count → key ≡ word ws (after .chunk .keys + 1) → key < 4294967296
-        → Skims ws d c bound (record { next = after .next; chunk = record { marks = after .chunk .marks / 2; keys = after .chunk .keys + 1; pays = after .chunk .pays + 1; count = after .chunk .count - 1 }; key = key }) (live + liveBit (eqb (after .chunk .marks % 2) 1))
-    skims-step key n e l = skims-on _ (step-chunk ws d after key (k .good) n e l) (more-chunk ws d after key)
-
-    -- or as the last of its chunk
-    pub skims-last : (e : Cursor) → after .chunk .count ≤ 1 → Good ws d e → rest ws d e ≡ recordsFrom ws d (after .next) (d .chunks - after .next) → Skims ws d c bound e (live + liveBit (eqb (after .chunk .marks % 2) 1))
-    skims-last e n g q = skims-on e g (q ∙ sym (more-last ws d after n))
-
   -- no more records are left than before
   pub skims-length : length (rest ws d after) ≤ length (rest ws d c)
   skims-length = rw (k .joined) (let e = length-append (k .between) (rest ws d after) in omega arith)
@@ -155,10 +144,6 @@ copies-in ws d c bound n keys pays after total keys′ pays′ k h b =
     let g = k .skims .good in
     let a = alive-of ws d after g {k = after .key} refl (omega arith) in
     (omega arith, (omega (arith, g .pays-in), g .formed .within .short))
-
--- a cursor's key is a key, or the first number above
-pub key-high : (ws : List ℕ) (d : Directory) (c : Cursor) → Good ws d c → c .key ≤ 4294967296
-key-high ws d c g = dite (decLt 0 (c .chunk .count)) (λ y. omega (arith, g .alive y .1)) (λ n. omega (arith, g .ended (omega arith) .0))
 
 -- an empty list changes nothing, first or last
 four-around : (a b c d : List Rec) → d ≡ [] → four a b c d ≡ four d a b c

@@ -6,7 +6,7 @@ use mathlib.Core.Logic.{dite}
 use mathlib.Core.List.{List, [], _∷_}
 use native.Mathlib.Decide.{ℕ-discrete}
 use native.Mathlib.Omega.{arith}
-use native.Mathlib.Nat.{sub-zero, le-trans, mul-le-mul}
+use native.Mathlib.Nat.{le-trans, mul-le-mul}
 use borrow.Author.Tests.{eq-eqb, ne-eqb}
 use lib.Dec.{eqb}
 use lib.ListN.{length, length-append}
@@ -146,9 +146,3 @@ skims-few ws d c bound after live g k =
 pub layered-few : (ws : List ℕ) (l : Levels) → AllFormed ws l → length (layered ws l) ≤ 65536
 layered-few ws l a =
     omega (arith, four-length (recordsOf ws (l .d0)) (recordsOf ws (l .d1)) (recordsOf ws (l .d2)) (recordsOf ws (l .d3)), level-length ws (l .d0) (a .formed0), level-length ws (l .d1) (a .formed1), level-length ws (l .d2) (a .formed2), level-length ws (l .d3) (a .formed3))
-
--- cursors at the starts have the whole levels before them
-pub rests-start : (ws : List ℕ) (l : Levels) (f : Front)
-    → rest ws (l .d0) (f .c0) ≡ recordsFrom ws (l .d0) 0 (l .d0 .chunks - 0) → rest ws (l .d1) (f .c1) ≡ recordsFrom ws (l .d1) 0 (l .d1 .chunks - 0)
-    → rest ws (l .d2) (f .c2) ≡ recordsFrom ws (l .d2) 0 (l .d2 .chunks - 0) → rest ws (l .d3) (f .c3) ≡ recordsFrom ws (l .d3) 0 (l .d3 .chunks - 0) → rests ws l f ≡ layered ws l
-rests-start ws l f e0 e1 e2 e3 = rw (e0, e1, e2, e3, sub-zero (l .d0 .chunks), sub-zero (l .d1 .chunks), sub-zero (l .d2 .chunks), sub-zero (l .d3 .chunks))

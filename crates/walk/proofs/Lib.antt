@@ -4,6 +4,5 @@ pub mod Between
 pub mod Four
 pub mod From
 pub mod Nearest
-pub mod Counting
 pub mod Walking
 pub mod Ends

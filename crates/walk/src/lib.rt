@@ -1,6 +1,6 @@
 // A walk over four levels side by side: the least key leaves every level that has it, and the uppermost
-// record with it decides. It counts the live keys, or lists a stretch of them, of which the next live key is the first;
-// for that each level is entered at the slot of the first key, so that no key below it is looked at.
+// record with it decides. It lists a stretch of the live keys, of which the next live key is the first. Each level is entered at the
+// slot of the first key, so that no key below it is looked at.
 
 ghost use mathlib.Core.Path.{_≡_};
 ghost use mathlib.Core.Bool.{Bool};
@@ -12,7 +12,7 @@ ghost use Rattle.words.specs.Layout.{word};
 ghost use Rattle.words.specs.Calls.{StretchAnswer, StretchOutcome, filled};
 ghost use Rattle.chunks.specs.Peel.{past, liveBit};
 ghost use Rattle.directory.specs.Directory.{Formed, recordsFrom};
-ghost use Rattle.walk.specs.Walk.{Good, rest, FromKey, upperOf, Smaller, Skims, Copies, AllFormed, SameLevels, layered, Entered, Ahead, Walked, keptOf, entered, followingOf, KeyFits};
+ghost use Rattle.walk.specs.Walk.{Good, rest, FromKey, upperOf, Smaller, Copies, AllFormed, SameLevels, layered, Entered, Ahead, Walked, keptOf, entered, followingOf, KeyFits};
 use chunks::Chunk;
 use directory::Directory;
 
@@ -163,42 +163,6 @@ fn cursor_at(next: usize, marks: u32, keys: usize, pays: usize, count: usize, ke
         next: next,
         chunk: chunk,
         key: key,
-    }
-}
-
-// Past the records of a cursor's chunk whose keys are below the bound. Its loop is the whole cost of most
-// records of a store, and so works on numbers and builds no cursor.
-fn skim(s: &[u32], dir: Directory, cur: Cursor, bound: usize) -> Passed
-    requires { ⌜ Good (now s) dir cur × (bound ≤ 4294967296) ⌝ }
-    ensures { λ r. ⌜ Skims (now (s .entry)) dir cur bound (r .cursor) (r .live) ⌝ }
-{
-    let next = cur.next;
-    let chunk = cur.chunk;
-    let mut marks = chunk.marks;
-    let mut keys = chunk.keys;
-    let mut pays = chunk.pays;
-    let mut count = chunk.count;
-    let mut key = cur.key;
-    let mut live: usize = 0;
-    while key < bound {
-        live += live_bit(marks);
-        if count <= 1 {
-            let cursor = refill(s, dir, next);
-            return Passed {
-                cursor: cursor,
-                live: live,
-            };
-        }
-        marks = marks / 2;
-        keys += 1;
-        pays += 1;
-        count -= 1;
-        key = s[keys] as usize;
-    }
-    let cursor = cursor_at(next, marks, keys, pays, count, key);
-    Passed {
-        cursor: cursor,
-        live: live,
     }
 }
 
@@ -402,49 +366,6 @@ fn enter(s: &[u32], l: Levels, q: usize) -> Front
         c2: c2,
         c3: c3,
     }
-}
-
-// The number of live keys of four levels. The last one, which has most of the records, is skimmed up to the least key of
-// the others. Every call pays for this loop, so it is none of `walk_on`, which lists records too and was slower.
-fn count_live(s: &[u32], d0: Directory, d1: Directory, d2: Directory, d3: Directory) -> usize
-    requires { ⌜ AllFormed (now s) (record { d0 = d0; d1 = d1; d2 = d2; d3 = d3 }) ⌝ }
-    ensures { λ r. ⌜ r ≡ length (unmarked (layered (now (s .entry)) (record { d0 = d0; d1 = d1; d2 = d2; d3 = d3 }))) ⌝ }
-{
-    let mut c0 = refill(s, d0, 0);
-    let mut c1 = refill(s, d1, 0);
-    let mut c2 = refill(s, d2, 0);
-    let mut c3 = refill(s, d3, 0);
-    let mut n: usize = 0;
-    loop {
-        let bound = smaller(smaller(c0.key, c1.key), c2.key);
-        let passed = skim(s, d3, c3, bound);
-        c3 = passed.cursor;
-        n += passed.live;
-        let k = smaller(bound, c3.key);
-        if END <= k {
-            return n;
-        }
-        let chunk = upper(c0, c1, c2, c3, k);
-        n += live_bit(chunk.marks);
-        c0 = step(s, d0, c0, k);
-        c1 = step(s, d1, c1, k);
-        c2 = step(s, d2, c2, k);
-        c3 = step(s, d3, c3, k);
-    }
-}
-
-// The number of live keys of four levels. Called at two places, the loop stays a function of its own; put in here by the
-// compiler it was slower.
-pub fn live(s: &[u32], levels: Levels) -> usize
-    requires { ⌜ AllFormed (now s) levels ⌝ }
-    ensures { λ r. ⌜ r ≡ length (unmarked (layered (now (s .entry)) levels)) ⌝ }
-{
-    let d3 = levels.d3;
-    if d3.chunks != 0 {
-        return count_live(s, levels.d0, levels.d1, levels.d2, d3);
-    }
-    let l = deepest_last(levels);
-    count_live(s, l.d0, l.d1, l.d2, l.d3)
 }
 
 // The smallest live key of four levels at or above q, with its payload: a walk that lists one record.

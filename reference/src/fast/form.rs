@@ -1,12 +1,12 @@
 //! The form check: the header, the lists, and one pass over each level.
 
+use super::live;
 use super::shape::{Shape, COUNTS, CURSOR, HEADER, LIVE, MOST_SLOTS};
-use super::walk;
 
 /// The shape of a store, or which of the reasons 1 to 4 turns it down.
 pub fn check(s: &[u32]) -> Result<Shape, u32> {
     let shape = Shape::of(s)?;
-    let kept = formed(s, &shape) && walk::live(s, &shape) == s[LIVE] as usize;
+    let kept = formed(s, &shape) && live::live(s, &shape) == s[LIVE] as usize;
     if kept {
         Ok(shape)
     } else {

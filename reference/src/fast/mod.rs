@@ -5,6 +5,7 @@
 //! fixed work arrays. The answers are those of `calls`.
 
 mod form;
+mod live;
 mod merge;
 mod search;
 mod shape;

@@ -176,28 +176,6 @@ pub fn least(cursors: &[Cursor; 3]) -> u64 {
     cursors[0].key.min(cursors[1].key).min(cursors[2].key)
 }
 
-/// The number of live keys, record by record.
-pub fn live(s: &[u32], shape: &Shape) -> usize {
-    let levels = Levels::of(s, shape);
-    let mut upper = levels.cursors(|level| level.from(0));
-    let mut bottom = levels.bottom.from(0);
-    let mut live = 0;
-    loop {
-        let key = least(&upper);
-        while bottom.key < key {
-            live += 1;
-            levels.bottom.step(&mut bottom);
-        }
-        if key == END {
-            return live;
-        }
-        live += 1 - pass(&levels.upper, &mut upper, key) as usize;
-        if bottom.key == key {
-            levels.bottom.step(&mut bottom);
-        }
-    }
-}
-
 /// The smallest live key at or above `key` with its payload.
 pub fn next(s: &[u32], shape: &Shape, key: u32) -> Option<(u32, u32)> {
     let levels = Levels::of(s, shape);

@@ -9,6 +9,7 @@ mod faults;
 mod figures;
 mod geometry;
 mod lists;
+mod live;
 mod readings;
 mod refusals;
 mod scripts;

@@ -18,7 +18,7 @@ use Rattle.form.proofs.level_of.Reads as level-of-reads
 use Rattle.form.proofs.lists_ok.Reads as lists-ok-reads
 use Rattle.form.proofs.spare_ok.Reads as spare-ok-reads
 use Rattle.form.proofs.top_of.Reads as top-of-reads
-use Rattle.walk.proofs.live.Reads as live-reads
+use Rattle.shares.proofs.live.Reads as live-reads
 
 abbrev at1 : tie.Else1 → tie.Start
 at1 c = c .before .before .before
