@@ -17,7 +17,10 @@
 #define DAY_NUMBERS 50
 #define PIECE 5
 
-enum kind { MEASURED, DELETED, SHEET, ALL, DAY, NEXT, BLOCK_AROUND, STORED, FLIP, CHECK };
+/* The merges of one call that the console has room to tell of. */
+#define TICKETS 4
+
+enum kind { MEASURED, TRACED, DELETED, SHEET, ALL, DAY, NEXT, BLOCK_AROUND, STORED, FLIP, CHECK };
 
 struct event {
     enum kind kind;
@@ -59,15 +62,32 @@ static void print_written(mewilovang_changed a)
     printf("\n");
 }
 
-static void measured(uint32_t test, uint32_t left, uint32_t right)
+static void print_stored(uint32_t test, mewilovang_changed a)
 {
-    mewilovang_changed a = mewilovang_put(store, WORDS, test, left << 16 | right);
     if (a.reason != 0) {
         printf("test %u not stored: %s (%u)\n", (unsigned)test, why(a.reason), (unsigned)a.reason);
         return;
     }
     printf("test %u stored%s", (unsigned)test, a.live ? " over an older reading" : "");
     print_written(a);
+}
+
+static void measured(uint32_t test, uint32_t left, uint32_t right)
+{
+    print_stored(test, mewilovang_put(store, WORDS, test, left << 16 | right));
+}
+
+/* The same, and what made it slow: a line for each of its merges, as many as there are tickets for. */
+static void traced(uint32_t test, uint32_t left, uint32_t right)
+{
+    mewilovang_ticket tickets[TICKETS];
+    mewilovang_changed a = mewilovang_put_tickets(store, WORDS, test, left << 16 | right, tickets, TICKETS);
+    uint32_t merges = a.level1.merges + a.level2.merges + a.level3.merges, i;
+    print_stored(test, a);
+    for (i = 0; i < merges && i < TICKETS; i++) {
+        printf("  merge out of level %u: run from %u on, overlap %u, blocks written: %u\n", (unsigned)tickets[i].level,
+               (unsigned)tickets[i].first, (unsigned)tickets[i].overlap, (unsigned)tickets[i].written);
+    }
 }
 
 static void deleted(uint32_t test)
@@ -199,6 +219,9 @@ static void handle(struct event e)
     case MEASURED:
         measured(e.test, e.left, e.right);
         break;
+    case TRACED:
+        traced(e.test, e.left, e.right);
+        break;
     case DELETED:
         deleted(e.test);
         break;
@@ -251,7 +274,7 @@ static const struct event until_full[] = {
     {MEASURED, 15, 2415, 2485}, {MEASURED, 25, 2425, 2475}, {MEASURED, 35, 2435, 2465}, {MEASURED, 45, 2445, 2455},
     {MEASURED, 46, 2446, 2454}, {MEASURED, 47, 2447, 2453}, {MEASURED, 48, 2448, 2452}, {MEASURED, 49, 2449, 2451},
     {MEASURED, 55, 2455, 2445}, {MEASURED, 100, 2500, 2400}, {STORED, 0, 0, 0},         {MEASURED, 49, 2300, 2600},
-    {DELETED, 60, 0, 0},        {MEASURED, 100, 2500, 2400}, {ALL, 0, 0, 0},            {DAY, 1, 0, 0},
+    {DELETED, 60, 0, 0},        {TRACED, 100, 2500, 2400},  {ALL, 0, 0, 0},             {DAY, 1, 0, 0},
     {DAY, 2, 0, 0},             {DAY, 4, 0, 0},             {NEXT, 56, 0, 0},           {NEXT, 101, 0, 0},
     {BLOCK_AROUND, 37, 0, 0},   {SHEET, 15, 0, 0},          {SHEET, 60, 0, 0},
 };

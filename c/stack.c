@@ -35,7 +35,9 @@
     CALL(SHOW, "show", shown = mewilovang_show(store, words, 1 + key % 3, key)) \
     CALL(ABOUT, "about", reason = mewilovang_about(store, words).reason) \
     CALL(PUT, "put", count(mewilovang_put(store, words, key, key))) \
-    CALL(DELETE, "delete", count(mewilovang_delete(store, words, key)))
+    CALL(DELETE, "delete", count(mewilovang_delete(store, words, key))) \
+    CALL(PUT_TICKETS, "put_tickets", count(mewilovang_put_tickets(store, words, key, key, tickets, ROOM))) \
+    CALL(DELETE_TICKETS, "delete_tickets", count(mewilovang_delete_tickets(store, words, key, tickets, ROOM)))
 
 #define NUMBER(which, name, statement) which,
 #define NAME(which, name, statement) name,
@@ -67,6 +69,7 @@ static size_t words;
 static uint32_t key;
 static unsigned char *top;
 static uint32_t keys[ROOM], payloads[ROOM];
+static mewilovang_ticket tickets[ROOM];
 static uint32_t reason;
 static mewilovang_nexted nexted;
 static mewilovang_stretched stretched;
@@ -129,7 +132,8 @@ static void live_key(void)
     key = nexted.key;
 }
 
-/* New tests until the store is full, then one out for each one in, and some overwritten: the levels fill with marks. */
+/* New tests until the store is full, then one out for each one in, and some overwritten: the levels fill with marks. Every
+   other round with tickets. */
 static void drive(const uint32_t *g)
 {
     uint32_t i;
@@ -143,10 +147,10 @@ static void drive(const uint32_t *g)
     on_its_stack(FORMAT);
     for (i = 0; i < ROUNDS; i++) {
         key = random_word();
-        on_its_stack(PUT);
+        on_its_stack(i % 2 == 0 ? PUT : PUT_TICKETS);
         if (reason == 5) {
             live_key();
-            on_its_stack(DELETE);
+            on_its_stack(i % 2 == 0 ? DELETE : DELETE_TICKETS);
         } else if (i % 16 == 0) {
             live_key();
             on_its_stack(PUT);

@@ -11,13 +11,19 @@
  * WHAT YOU LEND
  *
  *     store   the first word; aligned to 4 bytes, and never NULL, not even with 0 words
- *     words   how many words there are; all of them can be read, and written in format, put and delete
+ *     words   how many words there are; all of them can be read, and written in format, put and delete (below, put and
+ *             delete are also put_tickets and delete_tickets, which do the same to the store)
  *
  * And to stretch, which copies tests out of the store, two arrays besides:
  *
  *     keys, payloads           the first word of each; aligned to 4 bytes, and never NULL, not even with room 0
  *     key_room, payload_room   how many words each has; all of them can be written, and none lies in the store or in the
  *                              other array
+ *
+ * And to put_tickets and delete_tickets, which tell what each merge did, a list:
+ *
+ *     tickets   the first ticket; aligned to 4 bytes, and never NULL, not even with room 0
+ *     room      how many tickets it has; all of them can be written, and none lies in the store
  *
  * That, enough stack (MEWILOVANG_STACK_.., below) and the rule about others (THREADS) are all that you have to see to.
  * Whatever the words hold, noise or a damaged store, each call ends, touches no word outside of what you lend, and does
@@ -34,7 +40,8 @@
  *     5  the store is full: a put of a test number that is not in it while it holds as many as it may (put only)
  *
  * They are looked for in this order, and the first that applies is the reason. A call that is turned down changes no
- * word of the store or of stretch's two arrays, and its answer has the number in `reason` and 0 in every other member.
+ * word of the store, of stretch's two arrays or of the tickets, and its answer has the number in `reason` and 0 in every
+ * other member.
  * (check answers the number alone; show has none, its part is empty.)
  *
  * Every call but format and words makes the whole form check first. So a store that was damaged since the last call is
@@ -98,7 +105,8 @@
  *                                                  written to
  *
  * A call is without a merge if its answer counts none. Words 0 to 5 change in format alone. Of each of its two arrays
- * stretch writes the first `written` entries, as many as it answers, and leaves the others as they were.
+ * stretch writes the first `written` entries, as many as it answers, and leaves the others as they were. Of their list
+ * put_tickets and delete_tickets write the first tickets, one for each merge that the answer counts, as many as there are.
  *
  * No block in use is written over: each merge, and each compacting of a level, writes to places that no list named when
  * it began. A block that leaves its level keeps its words until its place is written to again. So a call with one merge
@@ -123,11 +131,12 @@
  *     stretch          1 and one walk from `first` on, as far as the arrays have room. All tests of a store at once took
  *                      3.3 to 5.9, in one of 40 places 1.8 to 2.0. So ask it for many tests at once, and not next for
  *                      one after the other
- *     show, about      1.0 to 1.1; timed once, at three geometries, not in that file
+ *     show, about      0.9 to 1.0, right after a check
  *     put              1 and its merges. On average 1.0 to 1.2 in stores of 1160 places and more, 1.4 to 1.5 in those of
  *                      264 and 136, 2.5 to 3.1 in one of 40. The slowest put of a run took 2.0 to 11.0; one that the
  *                      operating system interrupts takes longer
  *     delete           as put; not timed
+ *     put_tickets      as put, and some 0.2 microseconds more, with merges 0.3 to 2; delete_tickets was not timed
  *     format           no form check: it writes every word once
  *     words            a few multiplications
  *
@@ -141,7 +150,8 @@
  * There is no global state. Two threads may read one store at the same time (check, look_up, next, stretch, show, about).
  * While any call runs on a store, nothing else may write its words: no other thread, no interrupt, no device. While
  * format, put or delete runs, nothing else may read them either. While stretch runs, nothing else may read or write its
- * two arrays: each thread lends its own. Different stores have nothing to do with each other.
+ * two arrays, and while put_tickets or delete_tickets runs, its tickets: each thread lends its own. Different stores have
+ * nothing to do with each other.
  *
  *
  * POWER LOSS
@@ -189,11 +199,12 @@ extern "C" {
  *     1.0.0  words, format, check, look_up, next, show, put, delete
  *     1.1.0  about
  *     1.2.0  stretch
+ *     1.3.0  put_tickets, delete_tickets
  */
 #define MEWILOVANG_VERSION_MAJOR 1
-#define MEWILOVANG_VERSION_MINOR 2
-#define MEWILOVANG_VERSION_PATCH 3
-#define MEWILOVANG_VERSION "1.2.3"
+#define MEWILOVANG_VERSION_MINOR 3
+#define MEWILOVANG_VERSION_PATCH 0
+#define MEWILOVANG_VERSION "1.3.0"
 
 /*
  * The bytes of stack to have free for each call, from its return address down; the arguments and the answer stand in your
@@ -212,6 +223,8 @@ extern "C" {
 #define MEWILOVANG_STACK_ABOUT (25 * 1024)
 #define MEWILOVANG_STACK_PUT (126 * 1024)
 #define MEWILOVANG_STACK_DELETE (126 * 1024)
+#define MEWILOVANG_STACK_PUT_TICKETS (151 * 1024)
+#define MEWILOVANG_STACK_DELETE_TICKETS (150 * 1024)
 
 /* limit: N, the tests that the store holds at most. */
 typedef struct {
@@ -256,6 +269,17 @@ typedef struct {
     uint32_t reason, live;
     mewilovang_counts level1, level2, level3;
 } mewilovang_changed;
+
+/*
+ * What a merge did. It took a run of w * g^level blocks out of `level`, 0 to h - 1, into the level below it. first: the
+ * number of the run's first block in its level, from 0, before the run left it; in level 0, whose records stand in pages of
+ * b, the number of the page. overlap: the blocks of the level below whose range of keys meets the run's; no other run of
+ * that level meets fewer, and it is at most w * g^(level + 1). written: the blocks that it wrote, at most w * g^level +
+ * overlap + 1, out of level 0 at most w + overlap; what compacting a level wrote afterwards is not in it.
+ */
+typedef struct {
+    uint32_t level, first, overlap, written;
+} mewilovang_ticket;
 
 /* The words that a geometry needs, which is what you lend with it; 0 if it breaks a limit. At most 288524. */
 size_t mewilovang_words(uint32_t b, uint32_t w, uint32_t d, uint32_t g, uint32_t h, uint32_t p);
@@ -315,6 +339,19 @@ mewilovang_changed mewilovang_put(uint32_t *store, size_t words, uint32_t key, u
 /* A test out of the store. One that is not in it changes no word (reason 0, live 0). Merges as put. Turned down for 1 to 4. */
 mewilovang_changed mewilovang_delete(uint32_t *store, size_t words, uint32_t key);
 
+/*
+ * Put and delete, and a ticket for each merge that the call makes, in the order of the merges: what a slow call did. Store
+ * and answer are those of put and delete, whatever `room` is. If there are more merges than tickets, the further ones are
+ * only counted; tickets that are not reached keep their content, and so do all where the call is turned down or merges
+ * nothing. The tickets filled are the smaller of `room` and the merges that the answer counts for the three levels. If all
+ * fitted, the blocks written of the tickets with level i add up to the answer's `written` for level i + 1. No call makes
+ * more than 512 merges; the tests' stores make up to six.
+ */
+mewilovang_changed mewilovang_put_tickets(uint32_t *store, size_t words, uint32_t key, uint32_t payload,
+                                          mewilovang_ticket *tickets, size_t room);
+mewilovang_changed mewilovang_delete_tickets(uint32_t *store, size_t words, uint32_t key, mewilovang_ticket *tickets,
+                                             size_t room);
+
 #if defined(__cplusplus) && __cplusplus >= 201103L
 #define MEWILOVANG_HOLDS(fact, text) static_assert(fact, text)
 #elif !defined(__cplusplus) && defined(__STDC_VERSION__) && __STDC_VERSION__ >= 201112L
@@ -327,6 +364,7 @@ MEWILOVANG_HOLDS(sizeof(mewilovang_looked) == 12, "mewilovang_looked has gaps");
 MEWILOVANG_HOLDS(sizeof(mewilovang_nexted) == 16, "mewilovang_nexted has gaps");
 MEWILOVANG_HOLDS(sizeof(mewilovang_stretched) == 12, "mewilovang_stretched has gaps");
 MEWILOVANG_HOLDS(sizeof(mewilovang_part) == 16, "mewilovang_part has gaps");
+MEWILOVANG_HOLDS(sizeof(mewilovang_ticket) == 16, "mewilovang_ticket has gaps");
 MEWILOVANG_HOLDS(sizeof(mewilovang_about_store) == 52, "mewilovang_about_store has gaps");
 MEWILOVANG_HOLDS(sizeof(mewilovang_counts) == 12, "mewilovang_counts has gaps");
 MEWILOVANG_HOLDS(sizeof(mewilovang_changed) == 44, "mewilovang_changed has gaps");

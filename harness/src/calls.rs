@@ -1,7 +1,11 @@
-//! The ten calls as values, what is lent to them, and who answers them.
+//! The twelve calls as values, what is lent to them, and who answers them.
 
 use mewilovang::border as c;
-use reference::{calls as plain, fast, geometry::Geometry};
+use reference::calls::{self as plain, Ticket};
+use reference::{fast, geometry::Geometry};
+
+/// Words of a ticket.
+pub const TICKET: usize = 4;
 
 /// A call with its arguments.
 #[derive(Clone, Copy, Debug, PartialEq, Eq)]
@@ -21,19 +25,34 @@ pub enum Call {
     About,
     Put(u32, u32),
     Delete(u32),
+    /// Key and payload, and room for so many tickets.
+    PutTickets(u32, u32, usize),
+    /// A key, and room for so many tickets.
+    DeleteTickets(u32, usize),
 }
 
 impl Call {
     /// Whether the call never changes a word of the store.
     pub fn only_reads(self) -> bool {
-        !matches!(self, Call::Format(_) | Call::Put(..) | Call::Delete(_))
+        use Call::*;
+        let changes = matches!(self, Format(_) | Put(..) | Delete(_));
+        !changes && self.tickets().is_none()
     }
 
-    /// The lengths of the two arrays that the call is lent; 0 if it is lent none.
-    pub fn rooms(self) -> [usize; 2] {
+    /// How many tickets the call is lent, if it is a form that is lent some.
+    pub fn tickets(self) -> Option<usize> {
         match self {
-            Call::Stretch { rooms, .. } => rooms,
-            _ => [0, 0],
+            Call::PutTickets(_, _, room) | Call::DeleteTickets(_, room) => Some(room),
+            _ => None,
+        }
+    }
+
+    /// The words of the keys, of the payloads and of the tickets that the call is lent; 0
+    /// where it is lent none.
+    pub fn rooms(self) -> [usize; 3] {
+        match self {
+            Call::Stretch { rooms: [m, n], .. } => [m, n, 0],
+            _ => [0, 0, TICKET * self.tickets().unwrap_or(0)],
         }
     }
 }
@@ -90,16 +109,23 @@ impl Answer {
             _ => 0,
         }
     }
+
+    /// Tickets that the call, answered so, has filled: one for each merge, as far as there are tickets.
+    pub fn filled(self, call: Call) -> usize {
+        call.tickets().unwrap_or(0).min(self.merges() as usize)
+    }
 }
 
-/// What a caller lends: a store of so many words, and the arrays of a stretch, with at least the room that the call
-/// names.
+/// What a caller lends: a store of so many words, and the arrays of a stretch or tickets, with at least the room that
+/// the call names.
 #[derive(Clone, Copy)]
 pub struct Lent {
     pub store: *mut u32,
     pub words: usize,
     pub keys: *mut u32,
     pub payloads: *mut u32,
+    /// The first word of the first ticket.
+    pub tickets: *mut u32,
 }
 
 /// The words that a caller holds.
@@ -108,10 +134,12 @@ pub struct Held {
     pub store: Vec<u32>,
     pub keys: Vec<u32>,
     pub payloads: Vec<u32>,
+    /// Tickets, word for word.
+    pub tickets: Vec<u32>,
 }
 
 impl Held {
-    /// A store alone, with no room for a stretch.
+    /// A store alone, with no room for a stretch or for tickets.
     pub fn store(store: Vec<u32>) -> Held {
         Held {
             store,
@@ -126,6 +154,7 @@ impl Held {
             words: self.store.len(),
             keys: self.keys.as_mut_ptr(),
             payloads: self.payloads.as_mut_ptr(),
+            tickets: self.tickets.as_mut_ptr(),
         }
     }
 }
@@ -142,7 +171,7 @@ pub struct Library;
 
 impl Store for Library {
     unsafe fn call(&self, lent: Lent, call: Call) -> Answer {
-        let Lent { store, words, .. } = lent;
+        let (Lent { store, words, .. }, tickets) = (lent, lent.tickets.cast());
         match call {
             Call::Words([b, w, d, g, h, p]) => Answer::Words(c::mewilovang_words(b, w, d, g, h, p)),
             Call::Format([b, w, d, g, h, p]) => {
@@ -159,8 +188,7 @@ impl Store for Library {
                 Answer::Nexted([a.reason, a.found, a.key, a.payload])
             }
             Call::Stretch { first, last, rooms } => {
-                let Lent { keys, payloads, .. } = lent;
-                let [m, n] = rooms;
+                let (Lent { keys, payloads, .. }, [m, n]) = (lent, rooms);
                 let a = c::mewilovang_stretch(store, words, first, last, keys, m, payloads, n);
                 Answer::Stretched([a.reason, a.written, a.more])
             }
@@ -168,15 +196,17 @@ impl Store for Library {
                 let a = c::mewilovang_show(store, words, level, key);
                 Answer::Part(a.start, a.length)
             }
-            Call::About => {
-                let a = c::mewilovang_about(store, words);
-                Answer::About([
-                    a.reason, a.b, a.w, a.d, a.g, a.h, a.p, a.live, a.limit, a.top, a.blocks1,
-                    a.blocks2, a.blocks3,
-                ])
-            }
+            Call::About => about(c::mewilovang_about(store, words)),
             Call::Put(key, payload) => changed(c::mewilovang_put(store, words, key, payload)),
             Call::Delete(key) => changed(c::mewilovang_delete(store, words, key)),
+            Call::PutTickets(key, payload, room) => {
+                let put = c::mewilovang_put_tickets;
+                changed(put(store, words, key, payload, tickets, room))
+            }
+            Call::DeleteTickets(key, room) => {
+                let delete = c::mewilovang_delete_tickets;
+                changed(delete(store, words, key, tickets, room))
+            }
         }
     }
 }
@@ -188,6 +218,7 @@ impl Store for Package {
     unsafe fn call(&self, lent: Lent, call: Call) -> Answer {
         let read = || std::slice::from_raw_parts(lent.store, lent.words);
         let write = || std::slice::from_raw_parts_mut(lent.store, lent.words);
+        let tickets = |room| std::slice::from_raw_parts_mut(lent.tickets.cast(), room);
         match call {
             Call::Words(numbers) => Answer::Words(six(numbers).words().unwrap_or(0)),
             Call::Format(numbers) => {
@@ -203,12 +234,9 @@ impl Store for Package {
                 Answer::Looked(answer.map_or_else(refused, found))
             }
             Call::Next(key) => {
-                let found = |found: Option<mewilovang::Record>| match found {
-                    Some(record) => [0, 1, record.key, record.payload],
-                    None => [0; 4],
-                };
-                let answer = mewilovang::next(read(), key);
-                Answer::Nexted(answer.map_or_else(refused, found))
+                let found = |r: mewilovang::Record| [0, 1, r.key, r.payload];
+                let found = |record: Option<_>| record.map_or([0; 4], found);
+                Answer::Nexted(mewilovang::next(read(), key).map_or_else(refused, found))
             }
             Call::Stretch { first, last, rooms } => {
                 let keys = std::slice::from_raw_parts_mut(lent.keys, rooms[0]);
@@ -218,16 +246,16 @@ impl Store for Package {
                 Answer::Stretched(answer.map_or_else(refused, piece))
             }
             Call::Show(level, key) => part(read(), mewilovang::show(read(), level, key)),
-            Call::About => {
-                let numbers = |a: mewilovang::About| {
-                    let mewilovang::Geometry { b, w, d, g, h, p } = a.geometry;
-                    let [x, y, z] = a.blocks;
-                    [0, b, w, d, g, h, p, a.live, a.limit, a.top, x, y, z]
-                };
-                Answer::About(mewilovang::about(read()).map_or_else(refused, numbers))
-            }
+            Call::About => Answer::About(mewilovang::about(read()).map_or_else(refused, numbers)),
             Call::Put(key, payload) => done(mewilovang::put(write(), key, payload)),
             Call::Delete(key) => done(mewilovang::delete(write(), key)),
+            Call::PutTickets(key, payload, room) => {
+                let answer = mewilovang::put_tickets(write(), key, payload, tickets(room));
+                done(answer)
+            }
+            Call::DeleteTickets(key, room) => {
+                done(mewilovang::delete_tickets(write(), key, tickets(room)))
+            }
         }
     }
 }
@@ -242,6 +270,21 @@ fn refused<const N: usize>(refusal: mewilovang::Refusal) -> [u32; N] {
     let mut numbers = [0; N];
     numbers[0] = refusal.number();
     numbers
+}
+
+/// The numbers of what a store says of itself.
+fn numbers(a: mewilovang::About) -> [u32; 13] {
+    let mewilovang::Geometry { b, w, d, g, h, p } = a.geometry;
+    let [x, y, z] = a.blocks;
+    [0, b, w, d, g, h, p, a.live, a.limit, a.top, x, y, z]
+}
+
+/// The same of the library.
+fn about(a: c::AboutStore) -> Answer {
+    Answer::About([
+        a.reason, a.b, a.w, a.d, a.g, a.h, a.p, a.live, a.limit, a.top, a.blocks1, a.blocks2,
+        a.blocks3,
+    ])
 }
 
 /// The numbers of an answer of the package.
@@ -353,10 +396,47 @@ impl Oracle {
                 let [x, y, z] = a.blocks;
                 Answer::About([a.refusal, b, w, d, g, h, p, a.live, a.limit, a.top, x, y, z])
             }
-            Call::Put(key, payload) if plain => told(plain::put(words, key, payload)),
-            Call::Put(key, payload) => told(fast::put(words, key, payload)),
-            Call::Delete(key) if plain => told(plain::delete(words, key)),
-            Call::Delete(key) => told(fast::delete(words, key)),
+            Call::Put(key, payload) => self.change(words, key, Some(payload)),
+            Call::Delete(key) => self.change(words, key, None),
+            Call::PutTickets(key, payload, room) => self.told(held, key, Some(payload), room),
+            Call::DeleteTickets(key, room) => self.told(held, key, None, room),
         }
+    }
+
+    /// A put of this payload, or a delete.
+    fn change(self, words: &mut [u32], key: u32, payload: Option<u32>) -> Answer {
+        told(match (self, payload) {
+            (Oracle::Plain, Some(payload)) => plain::put(words, key, payload),
+            (Oracle::Plain, None) => plain::delete(words, key),
+            (Oracle::Fast, Some(payload)) => fast::put(words, key, payload),
+            (Oracle::Fast, None) => fast::delete(words, key),
+        })
+    }
+
+    /// The same with so many tickets. With no room for any, a call is to do what the form
+    /// without them does.
+    fn told(self, held: &mut Held, key: u32, payload: Option<u32>, room: usize) -> Answer {
+        let words = &mut held.store[..];
+        if room == 0 {
+            return self.change(words, key, payload);
+        }
+        let lent = &mut held.tickets[..TICKET * room];
+        let ticket = |words: &[u32]| Ticket {
+            level: words[0],
+            first: words[1],
+            overlap: words[2],
+            written: words[3],
+        };
+        let mut tickets: Vec<Ticket> = lent.chunks_exact(TICKET).map(ticket).collect();
+        let answer = match (self, payload) {
+            (Oracle::Plain, Some(v)) => plain::put_tickets(words, key, v, &mut tickets),
+            (Oracle::Plain, None) => plain::delete_tickets(words, key, &mut tickets),
+            (Oracle::Fast, Some(v)) => fast::put_tickets(words, key, v, &mut tickets),
+            (Oracle::Fast, None) => fast::delete_tickets(words, key, &mut tickets),
+        };
+        for (words, t) in lent.chunks_exact_mut(TICKET).zip(tickets) {
+            words.copy_from_slice(&[t.level, t.first, t.overlap, t.written]);
+        }
+        told(answer)
     }
 }

@@ -1,7 +1,7 @@
-//! One call compared: answer, every word of the store and of the arrays, and the
-//! words around them.
+//! One call compared: answer, every word of the store, of the arrays and of the tickets,
+//! and the words around them.
 
-use crate::calls::{Answer, Call, Held, Lent, Oracle, Store};
+use crate::calls::{Answer, Call, Held, Lent, Oracle, Store, TICKET};
 use std::fmt;
 
 /// Guard words before and after lent ones.
@@ -12,10 +12,10 @@ fn guard(index: usize) -> u32 {
     0xa5c3_9600 ^ (index as u32).wrapping_mul(0x0101_0101)
 }
 
-/// What entry `index` of an array holds before a call: each its own word, those of
-/// payloads other than those of keys.
+/// What word `index` of an array or of the tickets holds before a call: each its own
+/// word, those of payloads other than those of keys, and of tickets other than both.
 fn filling(array: u32, index: usize) -> u32 {
-    (2 * index as u32 + array).wrapping_mul(0x9e37_79b1) ^ 0x3c5a_69f0
+    (3 * index as u32 + array).wrapping_mul(0x9e37_79b1) ^ 0x3c5a_69f0
 }
 
 /// What is lent.
@@ -24,9 +24,10 @@ pub enum Kind {
     Store,
     Keys,
     Payloads,
+    Tickets,
 }
 
-const KINDS: [Kind; 3] = [Kind::Store, Kind::Keys, Kind::Payloads];
+const KINDS: [Kind; 4] = [Kind::Store, Kind::Keys, Kind::Payloads, Kind::Tickets];
 
 /// Where a word stands.
 #[derive(Clone, Copy, Debug, PartialEq, Eq)]
@@ -41,6 +42,7 @@ impl fmt::Display for Place {
             Kind::Store => "store",
             Kind::Keys => "keys",
             Kind::Payloads => "payloads",
+            Kind::Tickets => "tickets",
         };
         write!(out, "word {} of the {of}", self.at)
     }
@@ -65,8 +67,9 @@ pub enum Difference {
         got: u32,
         right: u32,
     },
-    /// A reading or refused call changed a word of the store, or a stretch changed
-    /// an entry behind the last written one.
+    /// A reading or refused call changed a word of the store, a stretch changed an
+    /// entry behind the last written one, or a put or delete a ticket that it did not
+    /// reach.
     Touched {
         call: Call,
         at: Place,
@@ -187,16 +190,16 @@ fn first_difference(left: &[u32], right: &[u32]) -> Option<usize> {
 }
 
 /// The words of each kind.
-fn kinds(held: &Held) -> [&[u32]; 3] {
-    [&held.store, &held.keys, &held.payloads]
+fn kinds(held: &Held) -> [&[u32]; 4] {
+    [&held.store, &held.keys, &held.payloads, &held.tickets]
 }
 
-/// A store that is lent to calls, and arrays for stretches, between guard words,
+/// A store that is lent to calls, arrays for stretches and tickets, between guard words,
 /// with all words at entry.
 pub struct Bench {
     entry: Held,
     /// Of each kind.
-    lent: [Guarded; 3],
+    lent: [Guarded; 4],
     /// The words of the reference.
     right: Held,
     /// The words of the other implementation of the reference.
@@ -206,7 +209,7 @@ pub struct Bench {
 impl Bench {
     /// No store yet.
     pub fn new() -> Bench {
-        let mut lent: [Guarded; 3] = Default::default();
+        let mut lent: [Guarded; 4] = Default::default();
         lent.iter_mut().for_each(|some| some.load(&[]));
         Bench {
             entry: Held::default(),
@@ -225,18 +228,23 @@ impl Bench {
         self.lent[0].load(words);
     }
 
-    /// Arrays with this room, filled with known words.
-    fn lend_arrays(&mut self, [keys, payloads]: [usize; 2]) {
-        self.entry.keys.clear();
-        self.entry.keys.extend((0..keys).map(|at| filling(0, at)));
-        self.entry.payloads.clear();
-        let filling = (0..payloads).map(|at| filling(1, at));
-        self.entry.payloads.extend(filling);
-        self.lent[1].load(&self.entry.keys);
-        self.lent[2].load(&self.entry.payloads);
+    /// Arrays and tickets with this room, filled with known words.
+    fn lend_arrays(&mut self, rooms: [usize; 3]) {
+        let Held {
+            keys,
+            payloads,
+            tickets,
+            ..
+        } = &mut self.entry;
+        for (array, (words, room)) in (0..).zip([keys, payloads, tickets].into_iter().zip(rooms)) {
+            words.clear();
+            words.extend((0..room).map(|at| filling(array, at)));
+            self.lent[1 + array as usize].load(words);
+        }
         for held in [&mut self.right, &mut self.other] {
             held.keys.clone_from(&self.entry.keys);
             held.payloads.clone_from(&self.entry.payloads);
+            held.tickets.clone_from(&self.entry.tickets);
         }
     }
 
@@ -290,12 +298,13 @@ impl Bench {
     ) -> Result<Answer, Difference> {
         self.lend_arrays(call.rooms());
         let words = self.entry.store.len();
-        let [lent, keys, payloads] = &mut self.lent;
+        let [lent, keys, payloads, tickets] = &mut self.lent;
         let lent = Lent {
             store: lent.lend(),
             words,
             keys: keys.lend(),
             payloads: payloads.lend(),
+            tickets: tickets.lend(),
         };
         // The words stand inside `self.lent`, which nothing else uses meanwhile.
         let got = unsafe { store.call(lent, call) };
@@ -319,12 +328,13 @@ impl Bench {
 
     /// Every lent word is as the reference has it, and where the call is to change
     /// nothing, as it was at entry: in the store if it only reads or is refused, in
-    /// an array behind the last written entry.
+    /// an array behind the last written entry, in tickets behind the last one filled.
     fn same_words(&self, call: Call, answer: Answer) -> Result<(), Difference> {
         let (store, written) = (self.entry.store.len(), answer.written());
         let store = if answer.unchanged(call) { 0 } else { store };
+        let told = TICKET * answer.filled(call);
         let (entries, rights) = (kinds(&self.entry), kinds(&self.right));
-        for (kind, changed) in [store, written, written].into_iter().enumerate() {
+        for (kind, changed) in [store, written, written, told].into_iter().enumerate() {
             let (got, entry, right) = (self.lent[kind].words(), entries[kind], rights[kind]);
             let place = |at| Place {
                 of: KINDS[kind],

@@ -15,6 +15,7 @@ pub mod planted;
 pub mod search;
 pub mod stretches;
 pub mod table;
+pub mod tickets;
 pub mod walks;
 
 #[cfg(test)]

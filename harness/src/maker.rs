@@ -2,6 +2,7 @@
 
 use crate::calls::{Call, Held, Oracle};
 use reference::breach::Breach;
+use reference::cascade::Cascade;
 use reference::damage::damaged;
 use reference::generate::{legal_geometries, Choices, Stream};
 use reference::geometry::Geometry;
@@ -28,6 +29,8 @@ pub enum Origin {
     Unreachable(usize),
     /// A store with this clause of the form check broken.
     Broken(Breach),
+    /// A store whose next new key makes so many merges.
+    Cascade(usize),
 }
 
 /// A store, before this program damages it.
@@ -80,8 +83,27 @@ impl Maker {
         }
     }
 
+    /// A store whose next new key makes five merges or more.
+    pub fn cascade(random: &mut Random) -> Base {
+        let cascade = random.pick(&Cascade::ALL);
+        let geometry = cascade.geometry();
+        let size = match geometry.length() {
+            ..=16_384 => Size::Medium,
+            _ => Size::Large,
+        };
+        Base {
+            geometry,
+            size,
+            origin: Origin::Cascade(cascade.merges),
+            words: cascade.store(random),
+        }
+    }
+
     /// A random store.
     pub fn base(&self, random: &mut Random) -> Base {
+        if random.one_in(40) {
+            return Maker::cascade(random);
+        }
         let (geometry, size) = self.geometry(random);
         let (oracle, most) = match size {
             Size::Large => (Oracle::Fast, 3 * geometry.key_limit()),

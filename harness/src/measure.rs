@@ -248,6 +248,7 @@ impl Rounds {
             store: self.store.clone(),
             keys: vec![0; self.geometry.key_limit()],
             payloads: vec![0; self.geometry.key_limit()],
+            tickets: Vec::new(),
         };
         for turn in &self.puts[..WARMING] {
             call(&mut lent, Call::Put(turn.put, 0));
@@ -341,8 +342,9 @@ impl Rounds {
 
 /// A call of the library.
 pub fn library(held: &mut Held, call: Call) -> Answer {
-    let [keys, payloads] = call.rooms();
+    let [keys, payloads, tickets] = call.rooms();
     assert!(keys <= held.keys.len() && payloads <= held.payloads.len());
+    assert!(tickets <= held.tickets.len());
     // The words are lent to this call alone, and the arrays have the room that it names.
     unsafe { Library.call(held.lend(), call) }
 }

@@ -1,7 +1,7 @@
 //! Wrong stores that a search must find out: each answers as another store does,
 //! but for one fault.
 
-use crate::calls::{Answer, Call, Lent, Store};
+use crate::calls::{Answer, Call, Lent, Store, TICKET};
 
 /// A planted fault.
 #[derive(Clone, Copy, Debug, PartialEq, Eq)]
@@ -64,11 +64,33 @@ pub enum Fault {
     CheckWritesBehind,
     /// Delete writes before the lent words.
     DeleteWritesBefore,
+    /// The number of a run's first block is one too large.
+    TicketFirst,
+    /// The first two tickets are the other way round.
+    TicketsSwapped,
+    /// A ticket counts the blocks written compacting the level below too.
+    TicketCompacting,
+    /// The overlap of the last ticket is left as it was.
+    TicketOverlap,
+    /// The ticket behind the last one filled is cleared.
+    TicketBehind,
+    /// The last ticket of a list that is too short tells of no merge.
+    TicketShort,
+    /// A call with more merges than tickets, and some of these, counts a merge too few.
+    TicketCounts,
+    /// A call with no room for tickets counts a merge too few.
+    TicketNoRoom,
+    /// A call with more merges than tickets writes after them.
+    TicketWritesAfter,
+    /// A call that is turned down for 4 clears its first ticket.
+    RefusedTickets,
+    /// A put with tickets writes its payload with the lowest bit turned over.
+    TicketPutWord,
 }
 
 impl Fault {
     /// Every fault.
-    pub const ALL: [Fault; 29] = {
+    pub const ALL: [Fault; 40] = {
         use Fault::*;
         [
             CheckLenient,
@@ -100,11 +122,22 @@ impl Fault {
             LookUpWrites,
             CheckWritesBehind,
             DeleteWritesBefore,
+            TicketFirst,
+            TicketsSwapped,
+            TicketCompacting,
+            TicketOverlap,
+            TicketBehind,
+            TicketShort,
+            TicketCounts,
+            TicketNoRoom,
+            TicketWritesAfter,
+            RefusedTickets,
+            TicketPutWord,
         ]
     };
 
-    /// Those of stretches of a sound store.
-    pub const STRETCHES: [Fault; 10] = {
+    /// Those of stretches and of tickets of a sound store.
+    pub const HISTORIES: [Fault; 20] = {
         use Fault::*;
         [
             StretchLast,
@@ -117,6 +150,16 @@ impl Fault {
             StretchLonger,
             StretchWritesAfter,
             StretchStore,
+            TicketFirst,
+            TicketsSwapped,
+            TicketCompacting,
+            TicketOverlap,
+            TicketBehind,
+            TicketShort,
+            TicketCounts,
+            TicketNoRoom,
+            TicketWritesAfter,
+            TicketPutWord,
         ]
     };
 }
@@ -201,28 +244,91 @@ impl Fault {
             _ => {}
         }
     }
+
+    /// The answer that the fault makes of the right one to a call with so many tickets.
+    fn uncounted(self, room: usize, right: Answer) -> Answer {
+        let wrong = match self {
+            Fault::TicketCounts => room > 0,
+            Fault::TicketNoRoom => room == 0,
+            _ => false,
+        };
+        match right {
+            Answer::Changed(mut numbers) if wrong && right.merges() as usize > room => {
+                numbers[2] -= 1;
+                Answer::Changed(numbers)
+            }
+            _ => right,
+        }
+    }
+
+    /// What the fault does to the tickets, which held these words before, after the right
+    /// answer.
+    unsafe fn tickets(self, lent: Lent, before: &[u32], right: Answer) {
+        use Fault::*;
+        let (merges, room) = (right.merges() as usize, before.len() / TICKET);
+        let tickets = std::slice::from_raw_parts_mut(lent.tickets, before.len());
+        let (told, rest) = tickets.split_at_mut(TICKET * merges.min(room));
+        match (self, right) {
+            (TicketFirst, _) if !told.is_empty() => told[1] += 1,
+            (TicketsSwapped, _) if told.len() >= 2 * TICKET => {
+                let (one, other) = told.split_at_mut(TICKET);
+                one.swap_with_slice(&mut other[..TICKET]);
+            }
+            (TicketCompacting, Answer::Changed(numbers)) if !told.is_empty() => {
+                told[3] += numbers[4];
+            }
+            (TicketOverlap, _) if !told.is_empty() => {
+                let at = told.len() - 2;
+                told[at] = before[at];
+            }
+            (TicketBehind, _) => rest.iter_mut().take(TICKET).for_each(|word| *word = 0),
+            (TicketShort, _) if room > 0 && merges > room => {
+                let at = TICKET * (room - 1);
+                told[at..].copy_from_slice(&before[at..]);
+            }
+            (TicketWritesAfter, _) if merges > room => *lent.tickets.add(before.len()) ^= 1,
+            (RefusedTickets, Answer::Changed([4, ..])) => {
+                rest.iter_mut().take(TICKET).for_each(|word| *word = 0);
+            }
+            _ => {}
+        }
+    }
+}
+
+impl<S: Store> Planted<S> {
+    /// A call with so many tickets.
+    unsafe fn with_tickets(&self, lent: Lent, call: Call, room: usize) -> Answer {
+        let before = std::slice::from_raw_parts(lent.tickets, TICKET * room).to_vec();
+        let right = self.store.call(lent, call);
+        match (self.fault, call) {
+            (Fault::TicketPutWord, Call::PutTickets(key, payload, _)) if right.reason() == 0 => {
+                self.store.call(lent, Call::Put(key, payload ^ 1));
+            }
+            _ => self.fault.tickets(lent, &before, right),
+        }
+        self.fault.uncounted(room, right)
+    }
 }
 
 impl<S: Store> Store for Planted<S> {
     unsafe fn call(&self, lent: Lent, call: Call) -> Answer {
         use Fault::*;
         let Lent { store, words, .. } = lent;
-        let last = (words > 0).then(|| *store.add(words - 1));
+        // The last lent word.
+        let end = store.wrapping_add(words).wrapping_sub(1);
+        let last = (words > 0).then(|| *end);
+        if let Some(room) = call.tickets() {
+            return self.with_tickets(lent, call, room);
+        }
         let right = self.store.call(lent, self.fault.call(call));
         match (self.fault, call, right) {
-            (FormatLeaves, _, Answer::Formatted([0, _])) => {
-                *store.add(words - 1) = last.unwrap_or(0);
-            }
+            (FormatLeaves, _, Answer::Formatted([0, _])) => *end = last.unwrap_or(0),
             (PutWord, Call::Put(key, payload), Answer::Changed([0, ..])) => {
                 self.store.call(lent, Call::Put(key, payload ^ 1));
             }
-            (RefusedPutWrites, Call::Put(..), Answer::Changed([4, ..])) => {
-                *store.add(words - 1) ^= 1;
-            }
-            (LookUpWrites, Call::LookUp(_), Answer::Looked([0, ..])) => {
-                *store.add(words - 1) ^= 1 << 31;
-            }
-            (AboutWrites, Call::About, Answer::About([4, ..])) => *store.add(words - 1) ^= 1,
+            (RefusedPutWrites, Call::Put(..), Answer::Changed([4, ..])) => *end ^= 1,
+            (LookUpWrites, Call::LookUp(_), Answer::Looked([0, ..])) => *end ^= 1 << 31,
+            (AboutWrites, Call::About, Answer::About([4, ..])) => *end ^= 1,
             (CheckWritesBehind, Call::Check, _) => *store.add(words) ^= 1,
             (DeleteWritesBefore, Call::Delete(_), _) => *store.sub(1) ^= 1,
             (
@@ -234,7 +340,7 @@ impl<S: Store> Store for Planted<S> {
                 let more = matches!(behind, Answer::Nexted([0, 1, ..]));
                 return Answer::Stretched([0, written, more.into()]);
             }
-            (StretchStore, _, Answer::Stretched([0, ..])) => *store.add(words - 1) ^= 1,
+            (StretchStore, _, Answer::Stretched([0, ..])) => *end ^= 1,
             (_, Call::Stretch { rooms, .. }, Answer::Stretched(numbers)) => {
                 self.fault.arrays(lent, rooms, numbers);
             }

@@ -1,10 +1,11 @@
-//! The search for a difference: random stores, damaged, all ten calls on each.
+//! The search for a difference: random stores, damaged, all twelve calls on each.
 
 use crate::calls::{Call, Oracle, Store};
 use crate::compare::{Bench, Difference};
 use crate::harm::{damage, Harm};
 use crate::maker::{Base, Maker, Origin, Size};
 use crate::stretches::{ends, rooms, Stretches};
+use crate::tickets::Tickets;
 use reference::layout::{HEADER, LIVE};
 use reference::random::Random;
 use std::fmt;
@@ -52,6 +53,7 @@ pub struct Counts {
     pub full: u64,
     /// Merges of the puts and deletes.
     pub merges: u64,
+    pub tickets: Tickets,
     pub stretches: Stretches,
     /// Calls for which both implementations of the reference were asked.
     pub both: u64,
@@ -73,6 +75,7 @@ impl fmt::Display for Counts {
         writeln!(out, "calls compared   {:>10}", self.calls)?;
         writeln!(out, "{}", self.stretches)?;
         writeln!(out, "  merges         {:>10}", self.merges)?;
+        writeln!(out, "{}", self.tickets)?;
         writeln!(out, "  refused for 5  {:>10}", self.full)?;
         write!(out, "  plain and fast {:>10}", self.both)
     }
@@ -134,7 +137,7 @@ impl<'a> Search<'a> {
         Ok(())
     }
 
-    /// All ten calls on one store, each on the words as they are.
+    /// All twelve calls on one store, each on the words as they are.
     fn ask_all(
         &mut self,
         random: &mut Random,
@@ -160,6 +163,7 @@ impl<'a> Search<'a> {
             self.counts.calls += 1;
             self.counts.both += u64::from(both);
             self.counts.merges += u64::from(answer.merges());
+            self.counts.tickets.count(call, answer);
             self.counts.stretches.count(answer);
             match call {
                 Call::Check => self.counts.reasons[answer.reason() as usize] += 1,
@@ -170,7 +174,7 @@ impl<'a> Search<'a> {
     }
 }
 
-/// All ten calls, stretch, put and delete twice, with arguments that fit the store.
+/// All twelve calls, stretch twice, with arguments that fit the store.
 fn calls(random: &mut Random, base: &Base, words: &[u32]) -> [Call; 13] {
     let keys: [u32; 11] = std::array::from_fn(|_| key(random, base, words));
     let own = [0, 1, 2, 3, 4, 5].map(|at| words.get(at).copied().unwrap_or(4));
@@ -199,9 +203,9 @@ fn calls(random: &mut Random, base: &Base, words: &[u32]) -> [Call; 13] {
         Call::Show(level, keys[2]),
         Call::About,
         Call::Put(keys[3], random.word()),
-        Call::Put(keys[4], 0),
+        Call::PutTickets(keys[4], 0, random.below(9)),
         Call::Delete(keys[5]),
-        Call::Delete(keys[6]),
+        Call::DeleteTickets(keys[6], random.below(9)),
         Call::Format(numbers),
     ]
 }

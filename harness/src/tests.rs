@@ -6,6 +6,7 @@ use crate::log::Log;
 use crate::planted::{Fault, Planted};
 use crate::search::Search;
 use crate::table::Range;
+use crate::tickets::Tickets;
 use crate::walks::{same, Walks};
 use reference::geometry::Geometry;
 use reference::layout::LIVE;
@@ -45,12 +46,19 @@ fn nothing_in_the_library() {
     assert!(counts.merges > 0 && counts.full > 0 && counts.both > 0 && counts.large > 0);
     let stretches = &counts.stretches;
     assert!(stretches.cut > 0 && stretches.wrote > stretches.cut && stretches.more > stretches.cut);
+    all_met(&counts.tickets);
 }
 
-/// Each planted fault of a stretch is reported in a history, which shows it again.
+/// Lists of tickets that had no room, were too short, and were told of five merges and six.
+fn all_met(tickets: &Tickets) {
+    assert!(tickets.empty > 0 && tickets.short > 0 && tickets.filled > 100);
+    assert!(tickets.deep > 0 && tickets.most == 6);
+}
+
+/// Each planted fault of a stretch or ticket is reported in a history, which shows it again.
 #[test]
 fn planted_faults_are_reported_in_histories() {
-    for fault in Fault::STRETCHES {
+    for fault in Fault::HISTORIES {
         let store = Planted {
             store: Library,
             fault,
@@ -79,6 +87,7 @@ fn nothing_in_histories() {
     println!("{counts}");
     assert!(counts.merges > 0 && counts.full > 0 && counts.large > 0);
     assert!(counts.stretches.cut > 0 && counts.steps > 2 * counts.walks);
+    all_met(&counts.tickets);
 }
 
 /// What a stretch gives is held to the map, whatever the reference says.

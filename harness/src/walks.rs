@@ -1,17 +1,20 @@
-//! Histories: a store that is formatted, then random puts, deletes and look ups of
-//! the library and of the reference side by side, with stretches between them.
-//! Beside both stands a plain map that is fed with the accepted puts and deletes,
-//! and every stretch is held to it too, and every walk: stretches from a first to a
-//! last key, each resumed one above the last key that was written, till none follow.
+//! Histories: a store that is formatted, or one whose next new key makes many merges,
+//! then random puts, deletes and look ups of the library and of the reference side by
+//! side, half of the puts and deletes with tickets, with stretches between them. Beside
+//! both stands a plain map that is fed with the accepted puts and deletes, and every
+//! stretch is held to it too, and every walk: stretches from a first to a last key, each
+//! resumed one above the last key that was written, till none follow.
 
 use crate::calls::{Answer, Call, Oracle, Store};
 use crate::compare::{Bench, Difference, Piece};
-use crate::maker::{Maker, Size};
+use crate::maker::{Base, Maker, Size};
 use crate::stretches::{ends, rooms, Stretches};
+use crate::tickets::{delete, put, Tickets};
 use reference::generate::Stream;
 use reference::geometry::Geometry;
 use reference::random::Random;
 use reference::script::Line;
+use reference::unreachable;
 use std::collections::BTreeMap;
 use std::fmt;
 
@@ -49,6 +52,7 @@ pub struct Counts {
     pub calls: u64,
     pub full: u64,
     pub merges: u64,
+    pub tickets: Tickets,
     pub stretches: Stretches,
     /// Walks, their stretches and their records.
     pub walks: u64,
@@ -62,6 +66,7 @@ impl fmt::Display for Counts {
         writeln!(out, "  over 16384     {:>10}", self.large)?;
         writeln!(out, "  changes, looks {:>10}", self.calls)?;
         writeln!(out, "  merges         {:>10}", self.merges)?;
+        writeln!(out, "{}", self.tickets)?;
         writeln!(out, "  refused for 5  {:>10}", self.full)?;
         writeln!(out, "{}", self.stretches)?;
         writeln!(out, "walks            {:>10}", self.walks)?;
@@ -94,9 +99,13 @@ impl<'a> Walks<'a> {
 
     /// One history, which depends on nothing but the seed and its number.
     pub fn history(&mut self, number: u64) -> Result<(), Box<Report>> {
-        let start = Random::new(self.seed.wrapping_add(number.wrapping_mul(0x9e37_79b9))).bits();
-        let mut random = Random::new(start);
-        let (geometry, size) = self.maker.geometry(&mut random);
+        let seed = self.seed.wrapping_add(number.wrapping_mul(0x9e37_79b9));
+        let mut random = Random::new(Random::new(seed).bits());
+        let start = random.one_in(25).then(|| Maker::cascade(&mut random));
+        let (geometry, size) = match &start {
+            Some(base) => (base.geometry, base.size),
+            None => self.maker.geometry(&mut random),
+        };
         self.counts.histories += 1;
         self.counts.large += u64::from(geometry.length() > 16_384);
         let mut history = History {
@@ -110,7 +119,8 @@ impl<'a> Walks<'a> {
             map: BTreeMap::new(),
             calls: 0,
         };
-        history.run(&mut random, geometry).map_err(|difference| {
+        let result = history.run(&mut random, geometry, start);
+        result.map_err(|difference| {
             Box::new(Report {
                 seed: self.seed,
                 history: number,
@@ -161,40 +171,61 @@ struct History<'a> {
 }
 
 impl History<'_> {
-    /// All of it.
-    fn run(&mut self, random: &mut Random, geometry: Geometry) -> Result<(), Difference> {
-        let limit = geometry.key_limit();
-        self.bench.load(&vec![random.word(); geometry.length()]);
-        self.call(Call::Format(geometry.numbers()))?;
-        let mut stream = Stream::new(random, geometry, Vec::new());
-        let most = (3 * limit + 40).min(3000);
+    /// All of it, from a store that is there or from a formatted one.
+    fn run(
+        &mut self,
+        random: &mut Random,
+        geometry: Geometry,
+        start: Option<Base>,
+    ) -> Result<(), Difference> {
+        let most = match start {
+            Some(base) => {
+                self.bench.load(&base.words);
+                self.map = unreachable::map(&base.words);
+                40
+            }
+            None => {
+                self.bench.load(&vec![random.word(); geometry.length()]);
+                self.call(Call::Format(geometry.numbers()))?;
+                (3 * geometry.key_limit() + 40).min(3000)
+            }
+        };
+        let keys = self.map.keys().copied().collect();
+        let mut stream = Stream::new(random, geometry, keys);
         for _ in 0..random.below(most) {
-            match stream.call(random) {
-                Line::Put(key, payload) => {
-                    if self.call(Call::Put(key, payload))?.reason() == 0 {
-                        self.map.insert(key, payload);
-                    }
-                }
-                Line::Delete(key) => {
-                    if self.call(Call::Delete(key))?.reason() == 0 {
-                        self.map.remove(&key);
-                    }
-                }
-                Line::Get(key) => drop(self.call(Call::LookUp(key))?),
-                Line::Format(_) => {}
-            }
-            self.calls += 1;
-            if random.one_in(4) {
-                let (first, last) = self.ends(random);
-                let rooms = rooms(random, self.map.len());
-                self.stretch(first, last, rooms)?;
-            }
-            if random.one_in(40) {
-                let (first, last) = self.ends(random);
-                self.walk(random, first, last)?;
-            }
+            let line = stream.call(random);
+            self.step(random, line)?;
         }
         self.walk(random, 0, u32::MAX)
+    }
+
+    /// A put, delete or look up, now and then with a stretch or a walk after it.
+    fn step(&mut self, random: &mut Random, line: Line) -> Result<(), Difference> {
+        match line {
+            Line::Put(key, payload) => {
+                if self.call(put(random, key, payload))?.reason() == 0 {
+                    self.map.insert(key, payload);
+                }
+            }
+            Line::Delete(key) => {
+                if self.call(delete(random, key))?.reason() == 0 {
+                    self.map.remove(&key);
+                }
+            }
+            Line::Get(key) => drop(self.call(Call::LookUp(key))?),
+            Line::Format(_) => {}
+        }
+        self.calls += 1;
+        if random.one_in(4) {
+            let (first, last) = self.ends(random);
+            let rooms = rooms(random, self.map.len());
+            self.stretch(first, last, rooms)?;
+        }
+        if random.one_in(40) {
+            let (first, last) = self.ends(random);
+            self.walk(random, first, last)?;
+        }
+        Ok(())
     }
 
     /// A call that changes the store or looks a key up.
@@ -203,6 +234,7 @@ impl History<'_> {
         self.counts.calls += 1;
         self.counts.full += u64::from(answer.reason() == 5);
         self.counts.merges += u64::from(answer.merges());
+        self.counts.tickets.count(call, answer);
         Ok(answer)
     }
 

@@ -9,6 +9,8 @@ use crate::layout::{COUNTS, CURSOR, HEADER, LIVE, MOST_LEVELS};
 use crate::level::View;
 use crate::work::{Merge, Work};
 
+pub use crate::work::Ticket;
+
 /// The answer of format: refusal number or 0, and N ("the answer has only the
 /// number and zeros" when refused).
 #[derive(Clone, Copy, Debug, Default, PartialEq, Eq)]
@@ -317,6 +319,42 @@ pub fn delete_listed(words: &mut [u32], key: u32) -> (Changed, Vec<Merge>) {
     );
     words[LIVE] = live as u32;
     (answer(true, &merges), merges)
+}
+
+/// Put k, v, in the form of card 3 of document 02, "that is also lent a list of
+/// tickets". Neither the store nor the answer depends on the list's length.
+pub fn put_tickets(words: &mut [u32], key: u32, payload: u32, tickets: &mut [Ticket]) -> Changed {
+    let (answer, merges) = put_listed(words, key, payload);
+    fill(tickets, answer, &merges)
+}
+
+/// Delete k, in the same form.
+pub fn delete_tickets(words: &mut [u32], key: u32, tickets: &mut [Ticket]) -> Changed {
+    let (answer, merges) = delete_listed(words, key);
+    fill(tickets, answer, &merges)
+}
+
+/// "Tickets are filled in the order of the merges; if the list is shorter, the further
+/// merges are only counted. Tickets not reached stay unchanged." Gives the answer back.
+fn fill(tickets: &mut [Ticket], right: Changed, merges: &[Merge]) -> Changed {
+    if fault::is(Fault::ClearsTickets) {
+        tickets.fill(Ticket::default());
+    }
+    let reached = merges.len().min(tickets.len());
+    let mut told = &merges[..reached];
+    if fault::is(Fault::TicketsOfLast) {
+        told = &merges[merges.len() - reached..];
+    }
+    for (ticket, merge) in tickets.iter_mut().zip(told) {
+        *ticket = merge.ticket();
+    }
+    if fault::is(Fault::TicketsBackwards) {
+        tickets[..reached].reverse();
+    }
+    if fault::is(Fault::CountsTicketsOnly) && reached < merges.len() {
+        return answer(right.live_before, told);
+    }
+    right
 }
 
 /// A refused put or delete: the number, zeros and the empty list.

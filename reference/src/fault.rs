@@ -28,6 +28,22 @@ pub enum Fault {
     ListTombstones,
     /// A stretch lists the oldest record of a live key.
     ListOlder,
+    /// The run's first block gets its number after step 2.
+    FirstAfterLeaving,
+    /// The run's first block is counted in windows.
+    FirstInWindows,
+    /// Step 2's block is not among the blocks written.
+    JoinNotCounted,
+    /// A ticket counts the compactings after its merge too.
+    CompactingOnTicket,
+    /// The tickets come last merge first.
+    TicketsBackwards,
+    /// A list that is too short gets the tickets of the last merges.
+    TicketsOfLast,
+    /// All tickets are cleared first, in a refused call too.
+    ClearsTickets,
+    /// Merges that find no ticket are not counted.
+    CountsTicketsOnly,
 }
 
 #[cfg(test)]

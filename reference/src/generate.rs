@@ -300,6 +300,16 @@ pub fn call_list(seed: u64, lines: usize, noise: bool) -> Vec<u8> {
     bytes
 }
 
+/// A call list of these lines.
+pub fn printed(lines: &[Line]) -> Vec<u8> {
+    let (mut bytes, mut random) = (Vec::new(), Random::new(0));
+    for &line in lines {
+        print(&mut bytes, line, false, &mut random);
+        bytes.push(b'\n');
+    }
+    bytes
+}
+
 /// Prints a readable line; with noise its numbers sometimes have leading zeros.
 fn print(bytes: &mut Vec<u8>, line: Line, noise: bool, random: &mut Random) {
     let (letter, numbers) = match line {

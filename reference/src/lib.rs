@@ -1,6 +1,6 @@
 //! The reference implementation of the flash record store of document 01
-//! ("The record store of a brake tester console") with card 1 of document 02,
-//! written from these documents and the lists of readings alone. It is plain on
+//! ("The record store of a brake tester console") with cards 1 and 3 of document
+//! 02, written from these documents and the lists of readings alone. It is plain on
 //! purpose: it is the other side of a comparison. Standard library only.
 //!
 //! Words of this code and of document 01: a *tombstone* is the document's delete
@@ -14,6 +14,7 @@ pub mod block;
 pub mod borders;
 pub mod breach;
 pub mod calls;
+pub mod cascade;
 pub mod choose;
 pub mod damage;
 pub mod fast;

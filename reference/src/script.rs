@@ -1,11 +1,15 @@
-//! "Call list program" of document 01: bytes in, one printed line for each line.
+//! "Call list program" of document 01: bytes in, one printed line for each line. The
+//! trace program is the same with lines for the tickets of card 3 of document 02.
 
-use crate::calls;
+use crate::calls::{self, Ticket};
 use crate::geometry::Geometry;
-use std::io::{self, BufRead, Write};
+use std::io::{self, BufRead, BufReader, BufWriter, Write};
 
 /// "over 16,384 words of which format takes what the layout needs".
 pub const WORDS: usize = 16384;
+
+/// The tickets that the trace program lends to a put or delete.
+pub const TICKETS: usize = 64;
 
 /// A readable line.
 #[derive(Clone, Copy, Debug, PartialEq, Eq)]
@@ -160,6 +164,33 @@ impl Bench {
         }
     }
 
+    /// The same for the trace program: after the line of a put or delete one line for
+    /// each merge that it made, in their order, as far as there are tickets.
+    pub fn trace(&mut self, line: Option<Line>) -> String {
+        let mut tickets = [Ticket::default(); TICKETS];
+        let lent = &mut tickets[..];
+        let (letter, answer) = match line {
+            Some(Line::Put(key, payload)) => {
+                let answer = calls::put_tickets(self.store(), key, payload, lent);
+                ('p', answer)
+            }
+            Some(Line::Delete(key)) => ('d', calls::delete_tickets(self.store(), key, lent)),
+            _ => return self.answer(line),
+        };
+        let merges: u32 = answer.levels.iter().map(|level| level.merges).sum();
+        let mut printed = changed(letter, answer);
+        for ticket in tickets.iter().take(merges as usize) {
+            let Ticket {
+                level,
+                first,
+                overlap,
+                written,
+            } = ticket;
+            printed += &format!("\nt {level} {first} {overlap} {written}");
+        }
+        printed
+    }
+
     /// f: 2 before 3, never 1; a refused one leaves the old store as it was, its
     /// length too (reading 22).
     fn format(&mut self, numbers: [u32; 6]) -> calls::Formatted {
@@ -191,9 +222,12 @@ fn changed(letter: char, answer: calls::Changed) -> String {
     )
 }
 
-/// The whole program: "the last line may lack its line end"; a final line end
-/// begins no further line (reading 23).
-pub fn run(mut input: impl BufRead, mut output: impl Write) -> io::Result<()> {
+/// What a program prints for a line, without the last line end.
+pub type Said = fn(&mut Bench, Option<Line>) -> String;
+
+/// A whole program, [`Bench::answer`] or [`Bench::trace`]: "the last line may lack its
+/// line end"; a final line end begins no further line (reading 23).
+pub fn run(said: Said, mut input: impl BufRead, mut output: impl Write) -> io::Result<()> {
     let mut bench = Bench::default();
     let mut reader = LineReader::default();
     loop {
@@ -204,7 +238,7 @@ pub fn run(mut input: impl BufRead, mut output: impl Write) -> io::Result<()> {
         }
         for &byte in bytes {
             if byte == b'\n' {
-                writeln!(output, "{}", bench.answer(reader.line()))?;
+                writeln!(output, "{}", said(&mut bench, reader.line()))?;
                 reader = LineReader::default();
             } else {
                 reader.take(byte);
@@ -213,7 +247,14 @@ pub fn run(mut input: impl BufRead, mut output: impl Write) -> io::Result<()> {
         input.consume(length);
     }
     if !reader.is_empty() {
-        writeln!(output, "{}", bench.answer(reader.line()))?;
+        writeln!(output, "{}", said(&mut bench, reader.line()))?;
     }
     output.flush()
+}
+
+/// A whole program from standard input to standard output.
+pub fn run_here(said: Said) -> io::Result<()> {
+    let input = BufReader::with_capacity(1 << 16, io::stdin().lock());
+    let output = BufWriter::with_capacity(1 << 16, io::stdout().lock());
+    run(said, input, output)
 }

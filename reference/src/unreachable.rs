@@ -350,7 +350,7 @@ fn alternating(b: usize, blocks: usize, records: usize) -> Vec<usize> {
 }
 
 /// All slots in random order.
-fn shuffled(random: &mut Random, slots: usize) -> Vec<u32> {
+pub fn shuffled(random: &mut Random, slots: usize) -> Vec<u32> {
     let mut order: Vec<u32> = (0..slots as u32).collect();
     for index in (1..order.len()).rev() {
         order.swap(index, random.below(index + 1));

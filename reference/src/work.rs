@@ -45,11 +45,43 @@ pub struct Compaction {
     pub after: Vec<u32>,
 }
 
+/// A ticket of document 02's card 3: what one merge did.
+#[derive(Clone, Copy, Debug, Default, PartialEq, Eq)]
+pub struct Ticket {
+    /// "upper level".
+    pub level: u32,
+    /// "number of the run's first block in that level from 0", at the merge's start,
+    /// before X leaves; in level 0 the number of the page.
+    pub first: u32,
+    /// The overlap of the run.
+    pub overlap: u32,
+    /// Blocks written, as demand 3 counts them: no compacting is among them.
+    pub written: u32,
+}
+
 impl Merge {
     /// "Blocks written by a merge are the places in use at its end that were not
     /// in use at its start, step 2's block with them."
     pub fn writes(&self) -> usize {
         newly_in_use(&self.before, &self.after).count()
+    }
+
+    /// The merge's ticket.
+    pub fn ticket(&self) -> Ticket {
+        let (mut first, mut written) = (self.run, self.writes());
+        if fault::is(Fault::FirstInWindows) {
+            first /= self.w;
+        }
+        if fault::is(Fault::CompactingOnTicket) {
+            let compacted = self.compactions.iter().map(Compaction::writes);
+            written += compacted.sum::<usize>();
+        }
+        Ticket {
+            level: self.upper as u32,
+            first: first as u32,
+            overlap: self.q as u32,
+            written: written as u32,
+        }
     }
 }
 
@@ -133,7 +165,7 @@ impl<'a> Work<'a> {
         let (above, below) = (self.spans(upper), self.spans(upper + 1));
         // A level merges full or above K(i) ≥ W(i), so there is a run.
         let run = choose(&above, &below, w).expect("a level that merges has a run");
-        let before = self.slots_in_use();
+        let mut before = self.slots_in_use();
         let mut used = self.used_flags();
         let x = self.blocks(upper, run.first..run.first + w);
         if fault::is(Fault::SlotsFreeTooSoon) {
@@ -142,23 +174,26 @@ impl<'a> Work<'a> {
                 .for_each(|slot| used[slot as usize] = false);
         }
         self.leave(upper, run.first..run.first + w, &mut used);
-        self.arrive(
-            upper + 1,
-            &x,
-            run.below.clone(),
-            reach(&run, below.len()),
-            &mut used,
-        );
+        let mut first = run.first;
+        if fault::is(Fault::FirstAfterLeaving) {
+            let below = |span: &Span| span.last < x[0].span().first;
+            first = self.spans(upper).partition_point(below);
+        }
+        if fault::is(Fault::JoinNotCounted) {
+            before.extend(self.slots_in_use());
+            before.sort_unstable();
+        }
+        let (y, reach) = (run.below.clone(), reach(&run, below.len()));
+        self.arrive(upper + 1, &x, y, reach, &mut used);
         let after = self.slots_in_use();
         let compactions = self.compact_after(upper);
-        let (q, a, n) = (run.overlap(), above.len(), below.len());
         Merge {
             upper,
-            run: run.first,
+            run: first,
             w,
-            q,
-            a,
-            n,
+            q: run.overlap(),
+            a: above.len(),
+            n: below.len(),
             before,
             after,
             compactions,

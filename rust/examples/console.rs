@@ -1,7 +1,7 @@
 //! A brake tester's console over the store, in Rust: the same events as in c/console.c, and the same lines printed
 //! (c/console.out).
 
-use mewilovang::{Change, Geometry, Record, Refusal};
+use mewilovang::{Change, Geometry, Record, Refusal, Ticket};
 
 const GEOMETRY: Geometry = Geometry {
     b: 4,
@@ -16,10 +16,13 @@ const GEOMETRY: Geometry = Geometry {
 const DAY_NUMBERS: u32 = 50;
 /// The tests that a listing has room for at a time.
 const PIECE: usize = 5;
+/// The merges of one call that the console has room to tell of.
+const TICKETS: usize = 4;
 
 #[derive(Clone, Copy)]
 enum Event {
     Measured(u32, u32, u32),
+    Traced(u32, u32, u32),
     Deleted(u32),
     Sheet(u32),
     All,
@@ -69,7 +72,7 @@ const UNTIL_FULL: &[Event] = &[
     Stored,
     Measured(49, 2300, 2600),
     Deleted(60),
-    Measured(100, 2500, 2400),
+    Traced(100, 2500, 2400),
     All,
     Day(1),
     Day(2),
@@ -107,13 +110,31 @@ fn blocks_written(c: Change) -> String {
     format!(", blocks written: {blocks}")
 }
 
-fn measured(store: &mut [u32], test: u32, left: u32, right: u32) {
-    match mewilovang::put(store, test, left << 16 | right) {
+fn print_stored(test: u32, answer: Result<Change, Refusal>) {
+    match answer {
         Err(r) => println!("test {test} not stored: {}", why(r)),
         Ok(c) => {
             let over = if c.live { " over an older reading" } else { "" };
             println!("test {test} stored{over}{}", blocks_written(c));
         }
+    }
+}
+
+fn measured(store: &mut [u32], test: u32, left: u32, right: u32) {
+    print_stored(test, mewilovang::put(store, test, left << 16 | right));
+}
+
+/// The same, and what made it slow: a line for each of its merges, as many as there are tickets for.
+fn traced(store: &mut [u32], test: u32, left: u32, right: u32) {
+    let mut tickets = [Ticket::default(); TICKETS];
+    let answer = mewilovang::put_tickets(store, test, left << 16 | right, &mut tickets);
+    print_stored(test, answer);
+    let merges: u32 = answer.map_or(0, |c| c.levels.iter().map(|l| l.merges).sum());
+    for t in tickets.iter().take(merges as usize) {
+        println!(
+            "  merge out of level {}: run from {} on, overlap {}, blocks written: {}",
+            t.level, t.first, t.overlap, t.written
+        );
     }
 }
 
@@ -228,6 +249,7 @@ fn run(store: &mut [u32], events: &[Event]) {
     for event in events {
         match *event {
             Measured(test, left, right) => measured(store, test, left, right),
+            Traced(test, left, right) => traced(store, test, left, right),
             Deleted(test) => deleted(store, test),
             Sheet(test) => sheet(store, test),
             All => all_tests(store),

@@ -2,7 +2,8 @@
 //!
 //! A function that takes a store is safe to call if `store` is not null, is aligned to 4 bytes, and `words` words from it
 //! on can be read, and written where it is `*mut`, with no other use of them during the call. The same holds of `keys` with
-//! `key_room` words and of `payloads` with `payload_room` words, which are written; no word may be in two of the three.
+//! `key_room` words and of `payloads` with `payload_room` words, which are written; no word may be in two of the three. And
+//! of `tickets` with `room` tickets, which are written; no word of them may be in the store.
 
 #[repr(C)]
 #[derive(Clone, Copy, Debug, Default, PartialEq, Eq)]
@@ -81,6 +82,17 @@ pub struct Changed {
     pub level3: Counts,
 }
 
+/// A merge of a put or delete: the level that its run left, the number of the run's first block there (in level 0, page)
+/// from 0 at the merge's start, the blocks of the level below that the run overlapped, and the blocks that the merge wrote.
+#[repr(C)]
+#[derive(Clone, Copy, Debug, Default, PartialEq, Eq)]
+pub struct Ticket {
+    pub level: u32,
+    pub first: u32,
+    pub overlap: u32,
+    pub written: u32,
+}
+
 extern "C" {
     pub fn mewilovang_words(b: u32, w: u32, d: u32, g: u32, h: u32, p: u32) -> usize;
     pub fn mewilovang_format(
@@ -110,4 +122,19 @@ extern "C" {
     pub fn mewilovang_about(store: *const u32, words: usize) -> AboutStore;
     pub fn mewilovang_put(store: *mut u32, words: usize, key: u32, payload: u32) -> Changed;
     pub fn mewilovang_delete(store: *mut u32, words: usize, key: u32) -> Changed;
+    pub fn mewilovang_put_tickets(
+        store: *mut u32,
+        words: usize,
+        key: u32,
+        payload: u32,
+        tickets: *mut Ticket,
+        room: usize,
+    ) -> Changed;
+    pub fn mewilovang_delete_tickets(
+        store: *mut u32,
+        words: usize,
+        key: u32,
+        tickets: *mut Ticket,
+        room: usize,
+    ) -> Changed;
 }

@@ -18,7 +18,7 @@
 
 pub mod border;
 
-pub use border::Counts;
+pub use border::{Counts, Ticket};
 
 /// The six numbers of a store; the limits are in `mewilovang.h`.
 #[derive(Clone, Copy, Debug, PartialEq, Eq)]
@@ -268,6 +268,70 @@ pub fn put(store: &mut [u32], key: u32, payload: u32) -> Result<Change, Refusal>
 /// A key out of the store. One that is not in it changes nothing, and `live` is false.
 pub fn delete(store: &mut [u32], key: u32) -> Result<Change, Refusal> {
     change(unsafe { border::mewilovang_delete(store.as_mut_ptr(), store.len(), key) })
+}
+
+/// As [`put`], with a ticket for each merge that the call makes, in their order: what a slow put did. If there are more
+/// merges than tickets, the further ones are only counted. Tickets that are not reached stay as they were, and all of them do
+/// if the call is turned down. Neither the store nor the answer depends on how many tickets are lent.
+///
+/// The number of tickets filled is that of all merges that the answer counts, or of the tickets lent if these are fewer. If
+/// all fitted, the blocks written that the tickets of a level have add up to the answer's for the level below.
+///
+/// ```
+/// use mewilovang::{Geometry, Refusal, Ticket};
+///
+/// let geometry = Geometry { b: 4, w: 1, d: 2, g: 4, h: 1, p: 40 };
+/// let mut store = vec![0; 438];
+/// mewilovang::format(&mut store, geometry)?;
+/// for key in [10, 20, 30, 40, 50, 60, 70, 80] {
+///     mewilovang::put(&mut store, key, 2400)?;
+/// }
+/// // Level 0 is full: its first page goes to level 1, which is empty, and is written as one block.
+/// let mut tickets = [Ticket::default(); 2];
+/// let change = mewilovang::put_tickets(&mut store, 90, 2400, &mut tickets)?;
+/// assert_eq!((change.levels[0].merges, change.levels[0].written), (1, 1));
+/// let first = Ticket { level: 0, first: 0, overlap: 0, written: 1 };
+/// assert_eq!(tickets, [first, Ticket::default()]);
+///
+/// // Level 0 has room again: no merge, and no ticket is touched.
+/// mewilovang::put_tickets(&mut store, 15, 2400, &mut tickets)?;
+/// assert_eq!(tickets, [first, Ticket::default()]);
+/// # Ok::<(), Refusal>(())
+/// ```
+pub fn put_tickets(
+    store: &mut [u32],
+    key: u32,
+    payload: u32,
+    tickets: &mut [Ticket],
+) -> Result<Change, Refusal> {
+    // Safe besides, here and below: tickets lie in no other slice, and the pointer of an empty one is aligned and not null.
+    change(unsafe {
+        border::mewilovang_put_tickets(
+            store.as_mut_ptr(),
+            store.len(),
+            key,
+            payload,
+            tickets.as_mut_ptr(),
+            tickets.len(),
+        )
+    })
+}
+
+/// As [`delete`], with a ticket for each merge that the call makes: see [`put_tickets`].
+pub fn delete_tickets(
+    store: &mut [u32],
+    key: u32,
+    tickets: &mut [Ticket],
+) -> Result<Change, Refusal> {
+    change(unsafe {
+        border::mewilovang_delete_tickets(
+            store.as_mut_ptr(),
+            store.len(),
+            key,
+            tickets.as_mut_ptr(),
+            tickets.len(),
+        )
+    })
 }
 
 fn accepted(reason: u32) -> Result<(), Refusal> {

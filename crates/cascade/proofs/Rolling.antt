@@ -5,6 +5,7 @@ use mathlib.Core.Bool.{Bool, true, false}
 use mathlib.Core.List.{List, [], _∷_, _++_, append-assoc}
 use native.Mathlib.Omega.{arith}
 use lib.Dec.{eqb}
+use lib.ListN.{length, set, length-set}
 use Rattle.geometry.specs.declared.Geometry.{Geometry}
 use Rattle.geometry.specs.Geometry.{Valid}
 use Rattle.levels.specs.Basics.{if_then_else_, total}
@@ -12,6 +13,8 @@ use Rattle.levels.specs.Store.{Store, rows}
 use Rattle.levels.specs.Call.{Merge, mergeLevel, afterMerge, afterMerges, deepestOver, mergesBelow}
 use Rattle.levels.specs.Count.{blocksMerged, totalInto, totalCompacted, countsOf}
 use Rattle.levels.specs.Count as levels
+use Rattle.levels.specs.declared.Ticket.{Ticket}
+use Rattle.levels.specs.Tickets.{ticketOf, ticketsOf}
 use Rattle.levels.specs.Inside.{load}
 use Rattle.levels.specs.InCall.{MergeFacts}
 use Rattle.levels.proofs.InCall.{next-facts, merge-start, below-stop, below-next}
@@ -19,7 +22,9 @@ use Rattle.levels.proofs.CallCounts.{compacted-most, merge-short}
 use Rattle.levels.proofs.MergeBounds.{merge-written}
 use Rattle.words.specs.Layout.{areaOf, writeBlocks}
 use Rattle.words.specs.Calls.{compactedBlocks, writtenBlocks}
+use Rattle.words.specs.Rows.{rowOf, rowsOf, laidFrom}
 use Rattle.words.proofs.Blocks.{writes-append}
+use Rattle.words.proofs.Rows.{laid-from-none, laid-from-next}
 use Rattle.steps.specs.declared.Counts.{Counts}
 use Rattle.steps.specs.declared.Run.{Run}
 use Rattle.steps.specs.Running.{storeOf, Stands, numbersOf, plus, Leaving, StepReady, stepCounts}
@@ -63,8 +68,23 @@ pub record Goes (n : ℕ) (g : Geometry) (ws0 one0 two0 three0 : List ℕ) (r0 :
   pub rolling : Rolling steps g ws one two three r
   pub rest : Rest g (storeOf g ws0 one0 two0 three0 r0) (mergesBelow n g (storeOf g ws0 one0 two0 three0 r0)) ws0 r0 (storeOf g ws one two three r) (mergesBelow steps g (storeOf g ws one two three r)) ws r
 
-pub goes-first : (n : ℕ) (g : Geometry) (ws one two three : List ℕ) (r : Run) → Rolling n g ws one two three r → Goes n g ws one two three r ws one two three r
+-- The tickets of the merges to come, filed from row `filed` on, come to the same as those of all merges from row 1 on: the row of merge 0 is the first.
+pub record Files (n : ℕ) (g : Geometry) (t0 : Store) (rows0 : List (List ℕ)) (steps : ℕ) (t : Store) (rows : List (List ℕ)) (filed : ℕ) : Type 0 where
+  pub low : filed + steps ≤ suc n
+  pub long : length rows ≡ length rows0
+  pub tickets : laidFrom filed (rowsOf (ticketsOf g (mergesBelow steps g t))) rows ≡ laidFrom 1 (rowsOf (ticketsOf g (mergesBelow n g t0))) rows0
+
+-- a turn of the loop
+pub record Turn (n : ℕ) (g : Geometry) (ws0 one0 two0 three0 : List ℕ) (r0 : Run) (rows0 : List (List ℕ)) (ws one two three : List ℕ) (r : Run) (rows : List (List ℕ)) (filed : ℕ) : Type 0 where
+  pub goes : Goes n g ws0 one0 two0 three0 r0 ws one two three r
+  pub files : Files n g (storeOf g ws0 one0 two0 three0 r0) rows0 (goes .steps) (storeOf g ws one two three r) rows filed
+
+goes-first : (n : ℕ) (g : Geometry) (ws one two three : List ℕ) (r : Run) → Rolling n g ws one two three r → Goes n g ws one two three r ws one two three r
 goes-first n g ws one two three r k = record { steps = n; rolling = k; rest = record { store = refl; area = refl; one = refl; two = refl; three = refl } }
+
+pub turn-first : (n : ℕ) (g : Geometry) (ws one two three : List ℕ) (r : Run) (rows : List (List ℕ)) → Rolling n g ws one two three r → Turn n g ws one two three r rows ws one two three r rows 1
+unfolding goes-first
+turn-first n g ws one two three r rows k = record { goes = goes-first n g ws one two three r k; files = record { low = omega arith; long = refl; tickets = refl } }
 
 module _ (n : ℕ) (g : Geometry) (ws0 one0 two0 three0 : List ℕ) (r0 : Run) (ws one two three : List ℕ) (r : Run) (k : Goes n g ws0 one0 two0 three0 r0 ws one two three r) (d : ℕ) (ed : d ≡ deepestFor g (g .h) (r .n1) (r .n2)) where
   abbrev pub t : Store
@@ -90,8 +110,20 @@ module _ (n : ℕ) (g : Geometry) (ws0 one0 two0 three0 : List ℕ) (r0 : Run) (
       none : (c : levels.Counts) → c ≡ plus c (record { merges = 0; written = 0; compacted = 0 })
       none c = same-counts c (record { merges = 0; written = 0; compacted = 0 }) refl refl refl
 
+  -- and then all tickets are filed
+  pub files-last : (rows0 rows : List (List ℕ)) (filed : ℕ) → Files n g (storeOf g ws0 one0 two0 three0 r0) rows0 (k .steps) t rows filed → d ≡ 0
+      → (t0 : Store) → t0 ≡ storeOf g ws0 one0 two0 three0 r0 → rows ≡ laidFrom 1 (rowsOf (ticketsOf g (mergesBelow n g t0))) rows0
+  unfolding rowsOf
+  files-last rows0 rows filed f z t0 et =
+      let q : mergesBelow (k .steps) g t ≡ [] = below-stop (k .steps) g t (sym deepest ∙ z) in
+      sym (laid-from-none filed rows) ∙ ap (λ (ms : List Merge). laidFrom filed (rowsOf (ticketsOf g ms)) rows) (sym q) ∙ f .tickets
+      ∙ ap (λ (x : Store). laidFrom 1 (rowsOf (ticketsOf g (mergesBelow n g x))) rows0) (sym et)
+
   -- a merge is due
   module _ (j : ℕ) (dj : d ≡ suc j) where
+    more : mergesBelow (k .steps) g t ≡ mergeLevel g (suc j) t ∷ mergesBelow (k .steps - 1) g (afterMerge (mergeLevel g (suc j) t))
+    more = let p = k .rolling in below-next (k .steps) g (p .entry) t j (p .valid) (p .entry-is) (p .inside) (p .ruled) (p .load-low) (sym deepest ∙ dj)
+
     facts : MergeFacts g (k .rolling .entry) (mergeLevel g (suc j) t)
     facts = let p = k .rolling in next-facts g (p .entry) t j (p .valid) (p .entry-is) (p .inside) (p .ruled) (sym deepest ∙ dj)
 
@@ -128,8 +160,7 @@ module _ (n : ℕ) (g : Geometry) (ws0 one0 two0 three0 : List ℕ) (r0 : Run) (
           let s = left .stands in
           let f = facts in
           let st = k .steps in
-          let q : mergesBelow st g t ≡ m ∷ mergesBelow (st - 1) g y = below-next st g (p .entry) t j (p .valid) (p .entry-is) (p .inside) (p .ruled) (p .load-low) (sym deepest ∙ dj) in
-          let e = subst (λ (ms : List Merge). Rest g (storeOf g ws0 one0 two0 three0 r0) (mergesBelow n g (storeOf g ws0 one0 two0 three0 r0)) ws0 r0 t ms ws r) q (k .rest) in
+          let e = subst (λ (ms : List Merge). Rest g (storeOf g ws0 one0 two0 three0 r0) (mergesBelow n g (storeOf g ws0 one0 two0 three0 r0)) ws0 r0 t ms ws r) more (k .rest) in
           let ms : List Merge = mergesBelow (st - 1) g y in
           let count : (i : ℕ) (c c' : levels.Counts) → c' ≡ plus c (stepCounts m i) → plus c' (countsOf i ms) ≡ plus c (countsOf i (m ∷ ms)) = λ i c c' a. ap (λ (z : levels.Counts). plus z (countsOf i ms)) a ∙ plus-assoc c (stepCounts m i) (countsOf i ms) ∙ ap (plus c) (sym (counts-cons m ms i)) in
           let now : Rest g (storeOf g ws0 one0 two0 three0 r0) (mergesBelow n g (storeOf g ws0 one0 two0 three0 r0)) ws0 r0 y ms ws' r' = record {
@@ -155,4 +186,23 @@ module _ (n : ℕ) (g : Geometry) (ws0 one0 two0 three0 : List ℕ) (r0 : Run) (
               bound-low = omega (arith, p .bound-low, p .load-low, goes-less);
             };
             rest = subst (λ (z : Store). Rest g (storeOf g ws0 one0 two0 three0 r0) (mergesBelow n g (storeOf g ws0 one0 two0 three0 r0)) ws0 r0 z (mergesBelow (st - 1) g z) ws' r') (sym (s .store)) now;
+          }
+
+      -- its ticket is filed
+      pub files-on : (rows0 rows rows' : List (List ℕ)) (filed : ℕ) (x : Ticket) → Files n g (storeOf g ws0 one0 two0 three0 r0) rows0 (k .steps) t rows filed → x ≡ ticketOf g (mergeLevel g d t) → rows' ≡ set rows filed (rowOf x)
+          → Files n g (storeOf g ws0 one0 two0 three0 r0) rows0 (goes-on .steps) (storeOf g ws' one' two' three' r') rows' (filed + 1)
+      unfolding goes-on left rowsOf
+      files-on rows0 rows rows' filed x f ex er =
+          let m : Merge = mergeLevel g (suc j) t in
+          let st = k .steps in
+          let late : List (List ℕ) = rowsOf (ticketsOf g (mergesBelow (st - 1) g (afterMerge m))) in
+          let ey : x ≡ ticketOf g m = ex ∙ ap (λ (i : ℕ). ticketOf g (mergeLevel g i t)) dj in
+          let es : rows' ≡ set rows filed (rowOf (ticketOf g m)) = er ∙ ap (λ (y : Ticket). set rows filed (rowOf y)) ey in
+          let one-more : filed + 1 ≡ suc filed = omega arith in
+          record {
+            low = omega (arith, f .low, k .rolling .load-low, falls);
+            long = ap length es ∙ length-set rows filed (rowOf (ticketOf g m)) ∙ f .long;
+            tickets = ap (λ (z : Store). laidFrom (filed + 1) (rowsOf (ticketsOf g (mergesBelow (st - 1) g z))) rows') (left .stands .store)
+                ∙ ap (λ (i : ℕ). laidFrom i late rows') one-more ∙ ap (laidFrom (suc filed) late) es ∙ sym (laid-from-next filed (rowOf (ticketOf g m)) late rows)
+                ∙ ap (λ (ms : List Merge). laidFrom filed (rowsOf (ticketsOf g ms)) rows) (sym more) ∙ f .tickets;
           }

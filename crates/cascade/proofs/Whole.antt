@@ -5,13 +5,15 @@ use mathlib.Core.List.{List, [], _∷_, _++_, append-assoc}
 use mathlib.Core.Logic.{dite}
 use native.Mathlib.Decide.{decLt, ℕ-discrete}
 use native.Mathlib.Omega.{arith}
-use lib.ListN.{length, take, getD, List·getD-eq-default}
+use lib.ListN.{length, take, getD, set, List·getD-eq-default}
 use Rattle.geometry.specs.declared.Geometry.{Geometry}
 use Rattle.geometry.specs.Geometry.{Valid, capacityOf, topCapacityOf, storeLength}
 use Rattle.levels.specs.Store.{Store, rows, blocksOf}
 use Rattle.levels.specs.Call.{Merge, mergeLevel, afterMerge, afterMerges, mergesBelow, mergesFrom, enoughSteps}
 use Rattle.levels.specs.Count.{countsOf}
 use Rattle.levels.specs.Count as levels
+use Rattle.levels.specs.declared.Ticket.{Ticket}
+use Rattle.levels.specs.Tickets.{ticketOf, ticketsOf, laid}
 use Rattle.levels.specs.Sound.{Fits}
 use Rattle.levels.specs.Inside.{load, Inside}
 use Rattle.levels.specs.InCall.{MergeFacts}
@@ -23,6 +25,8 @@ use Rattle.levels.proofs.CallMerges.{from-is, first-facts, from-facts, from-end
 use Rattle.levels.proofs.CallCounts.{steps-high}
 use Rattle.words.specs.Layout.{countAt, listedAt, cursorAt, storeAt, areaOf, storeWords, writeBlocks}
 use Rattle.words.specs.Calls.{compactedBlocks, writtenBlocks, leftWords}
+use Rattle.words.specs.Rows.{rowOf, rowsOf, laidFrom}
+use Rattle.words.proofs.Rows.{laid-first}
 use Rattle.words.proofs.State.{Holds, words-hold, cursor-held, top-count-held, count-held}
 use Rattle.words.specs.Form.{roomOf}
 use Rattle.words.proofs.Form.{room-level}
@@ -143,6 +147,14 @@ module _ (g : Geometry) (ws : List ℕ) (k : FullStore g ws) where
           ∙ ap (λ (ms : List Merge). m0 ∷ ms)
           (below-same (enoughSteps g s0) 98304 g s0 (afterMerge m0) (k .passed .valid) (entry-of g s0 (k .passed .valid) (k .passed .fits) (k .passed .sound)) (facts .five .inside) (facts .after-ruled)
           (omega (arith, load-falls, load-enough g s0 (k .passed .fits .level-count))) (omega (arith, load-falls, load-high)))
+
+      -- the tickets of the whole list: that of the first merge in row 0, the later ones from row 1 on
+      pub merged-tickets : (rows rows1 rows2 : List (List ℕ)) (x : Ticket) → x ≡ ticketOf g m0 → rows1 ≡ set rows 0 (rowOf x) → rows2 ≡ laidFrom 1 (rowsOf (ticketsOf g later)) rows1
+          → rows2 ≡ laid (rowsOf (ticketsOf g all)) rows
+      unfolding rowsOf
+      merged-tickets rows rows1 rows2 x ex e1 e2 =
+          e2 ∙ ap (laidFrom 1 (rowsOf (ticketsOf g later))) (e1 ∙ ap (λ (y : Ticket). set rows 0 (rowOf y)) ex)
+          ∙ sym (laid-first (rowOf (ticketOf g m0)) (rowsOf (ticketsOf g later)) rows) ∙ ap (λ (ms : List Merge). laid (rowsOf (ticketsOf g ms)) rows) (sym all-is)
 
       listing : ListFacts g s0 s0 all
       listing = from-facts g s0 (k .passed .valid) (k .passed .fits) (k .passed .sound) full

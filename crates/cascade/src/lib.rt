@@ -1,14 +1,18 @@
 // The merges of a call, from a full level 0 on: the place lists are taken out of the words, and written back after the last merge.
 
 ghost use mathlib.Core.Path.{_≡_};
-ghost use Prim.Native.Nat.{_<_};
+ghost use lib.ListN.{set};
 ghost use Rattle.geometry.specs.Geometry.{Ranged};
 ghost use Rattle.levels.specs.Store.{Store};
-ghost use Rattle.levels.specs.Call.{afterMerges, mergesBelow};
+ghost use Rattle.levels.specs.Call.{afterMerges, mergesBelow, mergesFrom};
+ghost use Rattle.levels.specs.Tickets.{ticketsOf, laid};
+ghost use Rattle.words.specs.Layout.{storeAt};
 ghost use Rattle.words.specs.Calls.{writtenBlocks};
+ghost use Rattle.words.specs.Rows.{rowOf, rowsOf, laidFrom};
 ghost use Rattle.steps.specs.Running.{storeOf, Leaving};
 ghost use Rattle.cascade.specs.Cascade.{deepestFor, Rolling, listCounts, FullStore, Loaded, MergedAll, loadMost};
 use geometry::Geometry;
+use levels::Ticket;
 use steps::Counts;
 use steps::Run;
 use steps::Tally;
@@ -30,8 +34,17 @@ fn deepest(g: Geometry, r: Run) -> usize
     0
 }
 
+// The ticket of merge i of a call, from 0, as four words, if there is a row for it.
+fn file_row(rows: &mut [[u32; 4]], i: usize, x: Ticket)
+    ensures { λ _. ⌜ now (rows .exit) ≡ set (now (rows .entry)) i (rowOf x) ⌝ }
+{
+    if i < rows.len() {
+        rows[i] = [x.level, x.first, x.overlap, x.written];
+    }
+}
+
 // Step 6: while a level holds more blocks than its capacity, the deepest such merges next. Each merge lowers the store's
-// load (`Inside.load`), so there are `loadMost` at most.
+// load (`Inside.load`), so there are `loadMost` at most. Their tickets go behind that of the merge out of level 0.
 fn merge_below(
     s: &mut [u32],
     one: &mut [u32; Geometry::LIST_ROOM],
@@ -39,18 +52,25 @@ fn merge_below(
     three: &mut [u32; Geometry::LIST_ROOM],
     g: Geometry,
     r: Run,
+    rows: &mut [[u32; 4]],
 ) -> Run
     requires { ⌜ Rolling loadMost g (now s) (now one) (now two) (now three) r ⌝ }
     ensures { λ u. ⌜ ((t : Store) → t ≡ storeOf g (now (s .entry)) (now (one .entry)) (now (two .entry)) (now (three .entry)) r
-        → Leaving g (afterMerges t (mergesBelow loadMost g t)) (writtenBlocks (mergesBelow loadMost g t)) (listCounts (mergesBelow loadMost g t)) (now (s .entry)) r (now (s .exit)) (now (one .exit)) (now (two .exit)) (now (three .exit)) u) ⌝ }
+        → Leaving g (afterMerges t (mergesBelow loadMost g t)) (writtenBlocks (mergesBelow loadMost g t)) (listCounts (mergesBelow loadMost g t)) (now (s .entry)) r (now (s .exit)) (now (one .exit)) (now (two .exit)) (now (three .exit)) u
+        × (now (rows .exit) ≡ laidFrom 1 (rowsOf (ticketsOf g (mergesBelow loadMost g t))) (now (rows .entry)))) ⌝ }
 {
     let mut v = r;
+    let mut filed: usize = 1;
     loop {
         let level = deepest(g, v);
         if level == 0 {
             break v;
         }
-        v = steps::merge_step(s, one, two, three, g, level, v);
+        let merged = steps::merge_step(s, one, two, three, g, level, v);
+        let ticket = merged.ticket;
+        file_row(rows, filed, ticket);
+        filed = filed + 1;
+        v = merged.run;
     }
 }
 
@@ -88,17 +108,21 @@ fn load_run(
     }
 }
 
-// All merges of a call whose level 0 is full.
-pub fn merge_all(s: &mut [u32], g: Geometry) -> Tally
+// All merges of a call whose level 0 is full, and their tickets, as many as there are rows.
+pub fn merge_all(s: &mut [u32], g: Geometry, rows: &mut [[u32; 4]]) -> Tally
     requires { ⌜ FullStore g (now s) ⌝ }
-    ensures { λ r. ⌜ MergedAll g (now (s .entry)) (now (s .exit)) r ⌝ }
+    ensures { λ r. ⌜ MergedAll g (now (s .entry)) (now (s .exit)) r
+        × (now (rows .exit) ≡ laid (rowsOf (ticketsOf g (mergesFrom g (storeAt g (now (s .entry)))))) (now (rows .entry))) ⌝ }
 {
     let mut one = [0u32; Geometry::LIST_ROOM];
     let mut two = [0u32; Geometry::LIST_ROOM];
     let mut three = [0u32; Geometry::LIST_ROOM];
     let r = load_run(s, g, &mut one, &mut two, &mut three);
-    let a = steps::merge_step(s, &mut one, &mut two, &mut three, g, 0, r);
-    let v = merge_below(s, &mut one, &mut two, &mut three, g, a);
+    let merged = steps::merge_step(s, &mut one, &mut two, &mut three, g, 0, r);
+    let ticket = merged.ticket;
+    file_row(rows, 0, ticket);
+    let a = merged.run;
+    let v = merge_below(s, &mut one, &mut two, &mut three, g, a, rows);
     lists::store_back(s, g, &one, &two, &three, v.n1, v.n2, v.n3, v.cursor);
     let tally = v.tally;
     tally

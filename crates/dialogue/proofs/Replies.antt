@@ -1,5 +1,5 @@
 -- What the proofs of `answer` and of what it calls need: the answer to a line is what `saidOf` says.
-use Prim.Native.Nat.{ℕ, _+_, _-_, _≤_, _<_}
+use Prim.Native.Nat.{ℕ, _+_, _-_, _*_, _≤_, _<_}
 use mathlib.Core.Path.{_≡_, refl, sym, ap, _∙_, subst}
 use mathlib.Core.Bool.{Bool, true, false}
 use mathlib.Core.List.{List, [], _++_}
@@ -13,11 +13,11 @@ use Rattle.geometry.specs.declared.Geometry.{Geometry}
 use Rattle.geometry.specs.declared.Built.the-variants.{Legal, Broken}
 use Rattle.geometry.specs.Geometry.{Valid, isLegal, builtOf, storeLength, keyLimitOf}
 use Rattle.geometry.proofs.Laws.{built-valid, built-broken, legal-valid, valid-legal}
-use Rattle.words.specs.Calls.{Outcome, FormatAnswer, ChangeAnswer, formatWords, formatOf, lookUpOf, putOf, deleteOf}
+use Rattle.words.specs.Calls.{Outcome, FormatAnswer, formatWords, formatOf, lookUpOf}
 use Rattle.words.proofs.Reason.{size-none}
 use Rattle.lines.specs.declared.Line.{Line}
-use Rattle.lines.specs.declared.Line.the-variants.{Format, Put, Delete, Get, Unreadable}
-use Rattle.lines.specs.Bytes.{Printed, letterP, letterD}
+use Rattle.lines.specs.declared.Line.the-variants.{Format, Get, Unreadable}
+use Rattle.lines.specs.Bytes.{Printed}
 use Rattle.lines.specs.Lines.{longestLine, formatLine, unreadableLine}
 use Rattle.lines.specs.Machine.{run}
 use Rattle.writer.specs.declared.Change.{Change}
@@ -28,13 +28,13 @@ use Rattle.reader.specs.declared.Looked.{Looked}
 use Rattle.reader.specs.Answers.{lookedAnswer}
 use Rattle.writer.specs.Answers.{changedAnswer}
 use Rattle.store.specs.Answers.{formatAnswer}
-use Rattle.store.specs.Change.{SumsFit, PutDone, DeleteDone}
+use Rattle.store.specs.Change.{SumsFit}
 use Rattle.dialogue.specs.declared.Fed.{Fed}
 use Rattle.dialogue.specs.declared.Room.{Room}
 use Rattle.dialogue.specs.declared.Room.the-variants.{Words, Refused}
 use Rattle.dialogue.specs.Bench.{benchWords, roomOf}
-use Rattle.dialogue.specs.Said.{Said, formattedLine, lookedLine, changedLine, changeSaid, formatSaid, saidOf}
-use Rattle.dialogue.specs.State.{Feeds, closed, answeredAs}
+use Rattle.dialogue.specs.Said.{Said, formattedLine, lookedLine, formatSaid, saidOf, ticketsMost, longestAnswer}
+use Rattle.dialogue.specs.State.{Feeds, closed, answeredAs, Says}
 
 -- the sums of what was done are words
 pub done-fit : (c : Changed) (d : Change) → c ≡ Done d → SumsFit (changedAnswer c)
@@ -101,75 +101,83 @@ room-fits g r m e f = subst (RoomFits g) (sym e ∙ f) (roomed [] g .fits)
 abbrev LinePrinted : List ℕ → List ℕ → ℕ → ℕ → List ℕ → Type 0
 LinePrinted before after at r bs = (r ≤ at + longestLine) × Printed before after at r bs
 
-abbrev Answers : Said → ℕ → Fed → List ℕ → List ℕ → List ℕ → Type 0
-Answers a at f words before after = (f .bytes ≤ at + longestLine) × Feeds (closed a) at f words before after
+abbrev Answers : ℕ → Said → ℕ → Fed → List ℕ → List ℕ → List ℕ → Type 0
+Answers t a at f words before after = (f .bytes ≤ at + longestAnswer t) × Feeds t (closed a) at f words before after
+
+-- a line is no longer than an answer, and an answer is a line and the lines of its tickets
+pub line-fits : (t : ℕ) → longestLine ≤ longestAnswer t
+unfolding longestAnswer
+line-fits t = omega arith
+
+pub answer-long : (t : ℕ) → longestLine + longestLine * t ≡ longestAnswer t
+unfolding longestAnswer
+answer-long t = omega arith
 
 -- the part of the words that a call is lent
 part-is : (n : ℕ) (ws : List ℕ) → take (n - 0) ws ≡ take n ws
 part-is n ws = rw (sub-zero n)
 
-part-long : (n : ℕ) (ws : List ℕ) → n ≤ length ws → length (take (n - 0) ws) ≡ n
+part-long : {A : Type 0} (n : ℕ) (ws : List A) → n ≤ length ws → length (take (n - 0) ws) ≡ n
 part-long n ws h = rw (sub-zero n, length-take n ws) (omega arith)
+
+-- room for the answer to a call that works in t of the rows
+pub part-room : (at t : ℕ) (rows : List (List ℕ)) (o : ℕ) → t ≤ length rows → at + longestAnswer t ≤ o → at + longestAnswer (length (take (t - 0) rows)) ≤ o
+part-room at t rows o h l = subst (λ (k : ℕ). at + longestAnswer k ≤ o) (sym (part-long t rows h)) l
 
 format-is : (g : Geometry) (ws : List ℕ) → Valid g → length ws ≡ storeLength g → formatOf ws g ≡ record { answer = record { reason = 0; limit = keyLimitOf g }; words = formatWords g (storeLength g) }
 unfolding formatOf
 format-is g ws v l = rw (size-none (length ws) g v l, formatOf, l)
 
--- A line answered, by what it says: the store is the first n words then, and the line printed ends at place r.
-module _ (at n r : ℕ) (f : Fed) (before after : List ℕ) (low : n ≤ benchWords) (x : f ≡ answeredAs n r) where
-  replied : (a : Said) (words bs : List ℕ) → take n words ≡ a .store → bs ≡ a .bytes → LinePrinted before after at r bs → Answers a at f words before after
+-- A line answered, by what it says: at most t tickets are printed, the store is the first n words then, and the answer ends at place r.
+module _ (at t n r : ℕ) (f : Fed) (before after : List ℕ) (few : t ≤ ticketsMost) (low : n ≤ benchWords) (x : f ≡ answeredAs t n r) where
+  replied : (a : Said) (words bs : List ℕ) → take n words ≡ a .store → bs ≡ a .bytes → r ≤ at + longestAnswer t → Printed before after at r bs → Answers t a at f words before after
   unfolding run
-  replied a words bs e q p =
-      subst (λ (y : Fed). Answers a at y words before after) (sym x)
-      (p .0, record { session = record { fits = low; store = e; begun = refl }; output = subst (λ (b : List ℕ). Printed before after at r b) q (p .1) })
+  replied a words bs e q l p =
+      subst (λ (y : Fed). Answers t a at y words before after) (sym x)
+      (l, record { session = record { tickets = refl; few = few; fits = low; store = e; begun = refl }; output = subst (λ (b : List ℕ). Printed before after at r b) q p })
 
-  changed-replied : (letter : ℕ) (c : Changed) (o : Outcome ChangeAnswer) (ys rest : List ℕ) → length ys ≡ n → _≡_ {A = Outcome ChangeAnswer} (record { answer = changedAnswer c; words = ys }) o
-      → LinePrinted before after at r (changedLine letter (changedAnswer c)) → Answers (changeSaid letter o) at f (ys ++ rest) before after
-  changed-replied letter c o ys rest l e p =
-      replied (changeSaid letter o) (ys ++ rest) (changedLine letter (changedAnswer c)) (take-at ys rest n l ∙ ap (λ (z : Outcome ChangeAnswer). z .words) e)
-      (ap (λ (z : Outcome ChangeAnswer). changedLine letter (z .answer)) e) p
+  line-replied : (a : Said) (words bs : List ℕ) → take n words ≡ a .store → bs ≡ a .bytes → LinePrinted before after at r bs → Answers t a at f words before after
+  line-replied a words bs e q p = replied a words bs e q (omega (arith, p .0, line-fits t)) (p .1)
 
   module _ (ws : List ℕ) (line : Line) (m : length ws ≡ benchWords) where
-    pub put-replied : (k v : ℕ) (c : Changed) (ys rest : List ℕ) → line ≡ Put k v → PutDone (take (n - 0) ws) k v c ys → length ys ≡ length (take (n - 0) ws)
-        → LinePrinted before after at r (changedLine letterP (changedAnswer c)) → Answers (saidOf (take n ws) line) at f (ys ++ rest) before after
-    put-replied k v c ys rest e d l p =
-        subst (λ (y : Line). Answers (saidOf (take n ws) y) at f (ys ++ rest) before after) (sym e)
-        (changed-replied letterP c (putOf (take n ws) k v) ys rest (l ∙ part-long n ws (omega arith)) (d .outcome ∙ ap (λ (z : List ℕ). putOf z k v) (part-is n ws)) p)
+    -- a put or delete, on the store's part of the words and with some of the rows
+    pub change-replied : (o : Line) (rows : List (List ℕ)) (ys rest : List ℕ) → line ≡ o → t ≤ length rows → length ys ≡ length (take (n - 0) ws)
+        → Says (length (take (t - 0) rows)) (saidOf (length (take (t - 0) rows)) (take (n - 0) ws) o) at r ys before after → Answers t (saidOf t (take n ws) line) at f (ys ++ rest) before after
+    change-replied o rows ys rest e h l p =
+        let q : Says t (saidOf t (take (n - 0) ws) o) at r ys before after = subst (λ (j : ℕ). Says j (saidOf j (take (n - 0) ws) o) at r ys before after) (part-long t rows h) p in
+        let s : Says t (saidOf t (take n ws) line) at r ys before after =
+        subst (λ (y : Line). Says t (saidOf t (take n ws) y) at r ys before after) (sym e)
+        (subst (λ (z : List ℕ). Says t (saidOf t z o) at r ys before after) (part-is n ws) q) in
+        replied (saidOf t (take n ws) line) (ys ++ rest) (saidOf t (take n ws) line .bytes) (take-at ys rest n (l ∙ part-long n ws (omega arith)) ∙ s .store) refl (s .ends) (s .output)
 
-    pub delete-replied : (k : ℕ) (c : Changed) (ys rest : List ℕ) → line ≡ Delete k → DeleteDone (take (n - 0) ws) k c ys → length ys ≡ length (take (n - 0) ws)
-        → LinePrinted before after at r (changedLine letterD (changedAnswer c)) → Answers (saidOf (take n ws) line) at f (ys ++ rest) before after
-    delete-replied k c ys rest e d l p =
-        subst (λ (y : Line). Answers (saidOf (take n ws) y) at f (ys ++ rest) before after) (sym e)
-        (changed-replied letterD c (deleteOf (take n ws) k) ys rest (l ∙ part-long n ws (omega arith)) (d .outcome ∙ ap (λ (z : List ℕ). deleteOf z k) (part-is n ws)) p)
-
-    pub get-replied : (k : ℕ) (a : Looked) → line ≡ Get k → lookedAnswer a ≡ lookUpOf (take (n - 0) ws) k → LinePrinted before after at r (lookedLine (lookedAnswer a)) → Answers (saidOf (take n ws) line) at f ws before after
+    pub get-replied : (k : ℕ) (a : Looked) → line ≡ Get k → lookedAnswer a ≡ lookUpOf (take (n - 0) ws) k → LinePrinted before after at r (lookedLine (lookedAnswer a)) → Answers t (saidOf t (take n ws) line) at f ws before after
     get-replied k a e d p =
-        subst (λ (y : Line). Answers (saidOf (take n ws) y) at f ws before after) (sym e)
-        (replied (saidOf (take n ws) (Get k)) ws (lookedLine (lookedAnswer a)) refl (ap lookedLine (d ∙ ap (λ (z : List ℕ). lookUpOf z k) (part-is n ws))) p)
+        subst (λ (y : Line). Answers t (saidOf t (take n ws) y) at f ws before after) (sym e)
+        (line-replied (saidOf t (take n ws) (Get k)) ws (lookedLine (lookedAnswer a)) refl (ap lookedLine (d ∙ ap (λ (z : List ℕ). lookUpOf z k) (part-is n ws))) p)
 
-    pub unreadable-replied : line ≡ Unreadable → LinePrinted before after at r unreadableLine → Answers (saidOf (take n ws) line) at f ws before after
+    pub unreadable-replied : line ≡ Unreadable → LinePrinted before after at r unreadableLine → Answers t (saidOf t (take n ws) line) at f ws before after
     unreadable-replied e p =
-        subst (λ (y : Line). Answers (saidOf (take n ws) y) at f ws before after) (sym e)
-        (replied (saidOf (take n ws) Unreadable) ws unreadableLine refl refl p)
+        subst (λ (y : Line). Answers t (saidOf t (take n ws) y) at f ws before after) (sym e)
+        (line-replied (saidOf t (take n ws) Unreadable) ws unreadableLine refl refl p)
 
   module _ (b w d g h p : ℕ) (line : Line) (room : Room) (e : line ≡ Format b w d g h p) (q : room ≡ roomOf (record { b = b; w = w; d = d; g = g; h = h; p = p })) where
-    pub refused-replied : (k : ℕ) (ws : List ℕ) → room ≡ Refused k → LinePrinted before after at r (formatLine k 0) → Answers (saidOf (take n ws) line) at f ws before after
-    refused-replied k ws u t =
+    pub refused-replied : (k : ℕ) (ws : List ℕ) → room ≡ Refused k → LinePrinted before after at r (formatLine k 0) → Answers t (saidOf t (take n ws) line) at f ws before after
+    refused-replied k ws u y =
         let z : Geometry = record { b = b; w = w; d = d; g = g; h = h; p = p } in
         let s = roomed (take n ws) z .said ∙ ap (roomSaid (take n ws) z) (sym q ∙ u) in
-        subst (λ (y : Line). Answers (saidOf (take n ws) y) at f ws before after) (sym e)
-        (subst (λ (a : Said). Answers a at f ws before after) (sym s) (replied (record { store = take n ws; bytes = formatLine k 0 }) ws (formatLine k 0) refl refl t))
+        subst (λ (y : Line). Answers t (saidOf t (take n ws) y) at f ws before after) (sym e)
+        (subst (λ (a : Said). Answers t a at f ws before after) (sym s) (line-replied (record { store = take n ws; bytes = formatLine k 0 }) ws (formatLine k 0) refl refl y))
 
     pub format-replied : (o : ℕ) (a : Formatted) (ws ys rest : List ℕ) → room ≡ Words n → length ws ≡ benchWords
         → _≡_ {A = Outcome FormatAnswer} (record { answer = formatAnswer a; words = ys }) (formatOf (take (n - 0) ws) (record { b = b; w = w; d = d; g = g; h = h; p = p })) → length ys ≡ length (take (n - 0) ws)
-        → LinePrinted before after at r (formattedLine (formatAnswer a)) → Answers (saidOf (take o ws) line) at f (ys ++ rest) before after
-    format-replied o a ws ys rest u m v l t =
+        → LinePrinted before after at r (formattedLine (formatAnswer a)) → Answers t (saidOf t (take o ws) line) at f (ys ++ rest) before after
+    format-replied o a ws ys rest u m v l y =
         let z : Geometry = record { b = b; w = w; d = d; g = g; h = h; p = p } in
         let s = roomed (take o ws) z .said ∙ ap (roomSaid (take o ws) z) (sym q ∙ u) in
         let k = room-fits z room n q u in
         let j : length (take (n - 0) ws) ≡ n = part-long n ws (omega arith) in
         let i = v ∙ format-is z (take (n - 0) ws) (k .0) (j ∙ k .1 .0) in
-        subst (λ (y : Line). Answers (saidOf (take o ws) y) at f (ys ++ rest) before after) (sym e)
-        (subst (λ (c : Said). Answers c at f (ys ++ rest) before after) (sym s)
-        (replied (record { store = formatWords z n; bytes = formatLine 0 (keyLimitOf z) }) (ys ++ rest) (formattedLine (formatAnswer a))
-        (take-at ys rest n (l ∙ j) ∙ ap (λ (y : Outcome FormatAnswer). y .words) i ∙ ap (formatWords z) (sym (k .1 .0))) (ap (λ (y : Outcome FormatAnswer). formattedLine (y .answer)) i) t))
+        subst (λ (y : Line). Answers t (saidOf t (take o ws) y) at f (ys ++ rest) before after) (sym e)
+        (subst (λ (c : Said). Answers t c at f (ys ++ rest) before after) (sym s)
+        (line-replied (record { store = formatWords z n; bytes = formatLine 0 (keyLimitOf z) }) (ys ++ rest) (formattedLine (formatAnswer a))
+        (take-at ys rest n (l ∙ j) ∙ ap (λ (y : Outcome FormatAnswer). y .words) i ∙ ap (formatWords z) (sym (k .1 .0))) (ap (λ (z : Outcome FormatAnswer). formattedLine (z .answer)) i) y))

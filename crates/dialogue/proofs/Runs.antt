@@ -1,4 +1,4 @@
--- The calls of a whole run: whoever begins with `State::start()`, hands state and words on from one `feed` to the next and ends with
+-- The calls of a whole run: whoever begins with `State::start(m)`, hands state and words on from one `feed` to the next and ends with
 -- `finish` prints what `dialogue` says of the parts joined.
 use Prim.Native.Nat.{ℕ, _+_}
 use mathlib.Core.Path.{_≡_, sym, _∙_, ap, subst}
@@ -25,7 +25,7 @@ pub record FeedCall : Type 0 where
   pub gave : Fed
   pub left : List ℕ
   pub filled : List ℕ
-  pub contract : (s : Session) → Holds state words s → Feeds (heard s part) 0 gave left buffer filled
+  pub contract : (m : ℕ) (s : Session) → Holds m state words s → Feeds m (heard m s part) 0 gave left buffer filled
 
 -- the call of `finish`, likewise
 pub record FinishCall : Type 0 where
@@ -35,7 +35,7 @@ pub record FinishCall : Type 0 where
   pub gave : Fed
   pub left : List ℕ
   pub filled : List ℕ
-  pub contract : (s : Session) → Holds state words s → Feeds (closed (ended s)) 0 gave left buffer filled
+  pub contract : (m : ℕ) (s : Session) → Holds m state words s → Feeds m (closed (ended m s)) 0 gave left buffer filled
 
 -- The first call begins with state d and words ws, each later one, `finish` the last, with those that the call before it left.
 -- Buffers are the caller's: fresh ones or the same again.
@@ -57,22 +57,22 @@ unfolding putAt
 printed-front before after bs r p = ap (take r) (p .words) ∙ take-at bs (drop (0 + length bs) before) r (sym (p .ends ∙ zero-add (length bs)))
 
 -- from any session that the first state stands for
-run-from : (d : State) (ws : List ℕ) (cs : List FeedCall) (f : FinishCall) (s : Session) → Holds d ws s → InTurn d ws cs f
-    → printedBy cs f ≡ heardParts s (partsOf cs) .bytes ++ ended (heardParts s (partsOf cs) .session) .bytes
+run-from : (m : ℕ) (d : State) (ws : List ℕ) (cs : List FeedCall) (f : FinishCall) (s : Session) → Holds m d ws s → InTurn d ws cs f
+    → printedBy cs f ≡ heardParts m s (partsOf cs) .bytes ++ ended m (heardParts m s (partsOf cs) .session) .bytes
 unfolding heardParts
-run-from d ws [] f s h t =
-    let k : Holds (f .state) (f .words) s = subst (λ (x : State). Holds x (f .words) s) (t .0) (subst (λ (y : List ℕ). Holds d y s) (t .1) h) in
-    printed-front (f .buffer) (f .filled) (ended s .bytes) (f .gave .bytes) (f .contract s k .output)
-run-from d ws (c ∷ cs) f s h t =
-    let k : Holds (c .state) (c .words) s = subst (λ (x : State). Holds x (c .words) s) (t .0) (subst (λ (y : List ℕ). Holds d y s) (t .1) h) in
-    let a = c .contract s k in
-    let b = printed-front (c .buffer) (c .filled) (heard s (c .part) .bytes) (c .gave .bytes) (a .output) in
-    let r = run-from (c .gave .state) (c .left) cs f (heard s (c .part) .session) (a .session) (t .2) in
-    (λ i. b i ++ r i) ∙ sym (append-assoc (heard s (c .part) .bytes) _ _)
+run-from m d ws [] f s h t =
+    let k : Holds m (f .state) (f .words) s = subst (λ (x : State). Holds m x (f .words) s) (t .0) (subst (λ (y : List ℕ). Holds m d y s) (t .1) h) in
+    printed-front (f .buffer) (f .filled) (ended m s .bytes) (f .gave .bytes) (f .contract m s k .output)
+run-from m d ws (c ∷ cs) f s h t =
+    let k : Holds m (c .state) (c .words) s = subst (λ (x : State). Holds m x (c .words) s) (t .0) (subst (λ (y : List ℕ). Holds m d y s) (t .1) h) in
+    let a = c .contract m s k in
+    let b = printed-front (c .buffer) (c .filled) (heard m s (c .part) .bytes) (c .gave .bytes) (a .output) in
+    let r = run-from m (c .gave .state) (c .left) cs f (heard m s (c .part) .session) (a .session) (t .2) in
+    (λ i. b i ++ r i) ∙ sym (append-assoc (heard m s (c .part) .bytes) _ _)
 
 -- A run from a state of which the contract of `State::start` holds, on whatever words: the bytes printed for the parts and at the
--- end are those of `dialogue` for the parts joined.
-pub run-prints : (d : State) (ws : List ℕ) (cs : List FeedCall) (f : FinishCall) → ((words : List ℕ) → Holds d words opening) → InTurn d ws cs f
-    → printedBy cs f ≡ dialogue (flatten (partsOf cs)) .bytes
+-- end are those of `dialogue` for the parts joined, with at most m tickets for a call.
+pub run-prints : (m : ℕ) (d : State) (ws : List ℕ) (cs : List FeedCall) (f : FinishCall) → ((words : List ℕ) → Holds m d words opening) → InTurn d ws cs f
+    → printedBy cs f ≡ dialogue m (flatten (partsOf cs)) .bytes
 unfolding inParts
-run-prints d ws cs f h t = run-from d ws cs f opening (h ws) t ∙ ap (λ (a : Said). a .bytes) (parts-whole (partsOf cs))
+run-prints m d ws cs f h t = run-from m d ws cs f opening (h ws) t ∙ ap (λ (a : Said). a .bytes) (parts-whole m (partsOf cs))

@@ -3,10 +3,14 @@
 use Prim.Native.Nat.{ℕ}
 use Prim.Native.String.{String}
 use mathlib.Core.Path.{_≡_, refl}
-use mathlib.Core.Bool.{Bool, _&&_}
+use mathlib.Core.Bool.{Bool}
 use mathlib.Core.List.{List, [], _∷_, _++_}
 use Rattle.levels.specs.Basics.{if_then_else_}
 use Rattle.levels.specs.Bench.{sameNumbers}
+use Rattle.levels.specs.Count.{underOf, overlapOf}
+use Rattle.levels.specs.Put.{mergesOf}
+use Rattle.levels.specs.Tickets.{ticketOf}
+use Rattle.words.specs.Calls.{putTickets, deleteTickets}
 use Rattle.words.specs.Bench.{computed}
 use Rattle.lines.specs.Bytes.{bytes}
 use Rattle.lines.specs.Lines.{firstField, furtherFields, valueFrom, spoken, named, lineOf, decimalWithin, decimal, field, formatLine, getLine, changeLine, unreadableLine}
@@ -14,23 +18,27 @@ use Rattle.dialogue.specs.Said.{Said, formatSaid}
 use Rattle.dialogue.specs.Dialogue.{linesOf, answersTo, dialogue}
 
 -- the dialogue, computed; `computed` opens the definitions of the calls with all that they name
-unfoldable pub heardWhole : List ℕ → Said
+unfoldable pub heardWhole : ℕ → List ℕ → Said
 unfolding
-    computed firstField furtherFields valueFrom spoken named lineOf decimalWithin decimal field formatLine getLine changeLine unreadableLine formatSaid linesOf answersTo dialogue
-heardWhole input = dialogue input
+    computed firstField furtherFields valueFrom spoken named lineOf decimalWithin decimal field formatLine getLine changeLine unreadableLine formatSaid linesOf answersTo dialogue underOf overlapOf mergesOf ticketOf putTickets deleteTickets
+heardWhole m input = dialogue m input
 
--- What is printed for an input, whole; or lines that another line leaves the store of as it was, its length too.
+-- What is printed for an input, whole, without tickets or with at most 64 for a call; or lines that another line leaves the store of
+-- as it was, its length too.
 pub data Case : Type 0 where
   prints : String → String → String → Case
+  traces : String → String → String → Case
   keeps : String → String → String → Case
 
 unfoldable pub holds : Case → Bool
 unfolding heardWhole bytes
-holds (prints name input output) = sameNumbers (heardWhole (bytes input) .bytes) (bytes output)
-holds (keeps name lines line) = sameNumbers (heardWhole (bytes lines ++ bytes line) .store) (heardWhole (bytes lines) .store)
+holds (prints name input output) = sameNumbers (heardWhole 0 (bytes input) .bytes) (bytes output)
+holds (traces name input output) = sameNumbers (heardWhole 64 (bytes input) .bytes) (bytes output)
+holds (keeps name lines line) = sameNumbers (heardWhole 0 (bytes lines ++ bytes line) .store) (heardWhole 0 (bytes lines) .store)
 
 abbrev pub nameOf : Case → String
 nameOf (prints name input output) = name
+nameOf (traces name input output) = name
 nameOf (keeps name lines line) = name
 
 -- The names of the cases that do not hold: a refusal of the theorem prints them.
@@ -59,6 +67,17 @@ mergeCases =
 pub merge-cases-hold : failing mergeCases ≡ []
 unfolding failing holds mergeCases
 merge-cases-hold = refl
+
+-- the same with its tickets: out of level 0, the run's first page is the first, it overlaps no block, and one block is written
+unfoldable pub traceCases : List Case
+traceCases =
+    traces "the ninth put's ticket" "f 4 1 2 4 1 40\np 10 1\np 20 1\np 30 1\np 40 1\np 50 1\np 60 1\np 70 1\np 80 1\np 90 1\n" "f 0 17\np 0 0 0 0\np 0 0 0 0\np 0 0 0 0\np 0 0 0 0\np 0 0 0 0\np 0 0 0 0\np 0 0 0 0\np 0 0 0 0\np 0 0 1 0\nt 0 0 0 1\n"
+    ∷ traces "calls without a merge have no ticket" "f 4 1 2 4 1 40\np 10 1\nd 20\nd 10\ng 10\n" "f 0 17\np 0 0 0 0\nd 0 0 0 0\nd 0 1 0 0\ng 0 0 0\n"
+    ∷ []
+
+pub trace-cases-hold : failing traceCases ≡ []
+unfolding failing holds traceCases
+trace-cases-hold = refl
 
 -- reading 23; unreadable lines; lines before any f
 unfoldable pub endCases : List Case

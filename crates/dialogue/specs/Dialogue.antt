@@ -1,4 +1,4 @@
--- Document 01, "Call list program": what it prints for any list of input bytes, line by line.
+-- Document 01, "Call list program", and its trace: what they print for any list of input bytes, line by line.
 use Prim.Native.Nat.{ℕ}
 use mathlib.Core.Bool.{true, false}
 use mathlib.Core.List.{List, [], _∷_, _++_}
@@ -18,18 +18,6 @@ unfoldable pub linesOf : List ℕ → List (List ℕ)
 linesOf [] = []
 linesOf (x ∷ xs) = elim (eqb x lineEnd) [ true ↦ [] ∷ linesOf xs | false ↦ joined x (linesOf xs) ]
 
--- "Each line prints": the answers in the order of the lines, each line on the store that the line before it left
-unfoldable pub answersTo : List ℕ → List (List ℕ) → Said
-answersTo ws [] = record { store = ws; bytes = [] }
-answersTo ws (l ∷ ls) =
-    let a = saidOf ws (lineOf l) in
-    let r = answersTo (a .store) ls in
-    record { store = r .store; bytes = a .bytes ++ r .bytes }
-
--- What the program prints for the whole of its input, and the store at its end. "before any accepted f, the store has none"
-unfoldable pub dialogue : List ℕ → Said
-dialogue input = answersTo [] (linesOf input)
-
 -- Between two parts of the input: the store, and the bytes of the line that has begun and not ended.
 pub record Session : Type 0 where
   pub store : List ℕ
@@ -48,30 +36,44 @@ opening = record { store = []; begun = [] }
 abbrev pub after : List ℕ → Heard → Heard
 after bs h = record { session = h .session; bytes = bs ++ h .bytes }
 
--- The bytes of a part, one after the other: a line end ends the line that has begun, which is answered; any other byte is one more of it.
-unfoldable pub heard : Session → List ℕ → Heard
-heard s [] = record { session = s; bytes = [] }
-heard s (x ∷ xs) = elim (eqb x lineEnd) [
-  | true ↦ let a = saidOf (s .store) (lineOf (s .begun)) in after (a .bytes) (heard (record { store = a .store; begun = [] }) xs)
-  | false ↦ heard (record { store = s .store; begun = s .begun ++ (x ∷ []) }) xs
-]
+-- With the lines of at most m tickets for a call (`Said.saidOf`): document 01's program has none.
+module _ (m : ℕ) where
+  -- "Each line prints": the answers in the order of the lines, each line on the store that the line before it left
+  unfoldable pub answersTo : List ℕ → List (List ℕ) → Said
+  answersTo ws [] = record { store = ws; bytes = [] }
+  answersTo ws (l ∷ ls) =
+      let a = saidOf m ws (lineOf l) in
+      let r = answersTo (a .store) ls in
+      record { store = r .store; bytes = a .bytes ++ r .bytes }
 
--- The end of the input: "the last line may lack its line end". A line that has not begun is none.
-abbrev pub endedOn : List ℕ → List ℕ → Said
-endedOn ws [] = record { store = ws; bytes = [] }
-endedOn ws (x ∷ xs) = saidOf ws (lineOf (x ∷ xs))
+  -- What the program prints for the whole of its input, and the store at its end. "before any accepted f, the store has none"
+  unfoldable pub dialogue : List ℕ → Said
+  dialogue input = answersTo [] (linesOf input)
 
-abbrev pub ended : Session → Said
-ended s = endedOn (s .store) (s .begun)
+  -- The bytes of a part, one after the other: a line end ends the line that has begun, which is answered; any other byte is one more of it.
+  unfoldable pub heard : Session → List ℕ → Heard
+  heard s [] = record { session = s; bytes = [] }
+  heard s (x ∷ xs) = elim (eqb x lineEnd) [
+    | true ↦ let a = saidOf m (s .store) (lineOf (s .begun)) in after (a .bytes) (heard (record { store = a .store; begun = [] }) xs)
+    | false ↦ heard (record { store = s .store; begun = s .begun ++ (x ∷ []) }) xs
+  ]
 
--- The parts of the input in the order in which they come, each from the session that the part before it left.
-unfoldable pub heardParts : Session → List (List ℕ) → Heard
-heardParts s [] = record { session = s; bytes = [] }
-heardParts s (p ∷ ps) = let h = heard s p in after (h .bytes) (heardParts (h .session) ps)
+  -- The end of the input: "the last line may lack its line end". A line that has not begun is none.
+  abbrev pub endedOn : List ℕ → List ℕ → Said
+  endedOn ws [] = record { store = ws; bytes = [] }
+  endedOn ws (x ∷ xs) = saidOf m ws (lineOf (x ∷ xs))
 
--- What the program prints for the parts and then at the end of the input, and the store that it ends with.
-unfoldable pub inParts : List (List ℕ) → Said
-inParts ps =
-    let h = heardParts opening ps in
-    let e = ended (h .session) in
-    record { store = e .store; bytes = h .bytes ++ e .bytes }
+  abbrev pub ended : Session → Said
+  ended s = endedOn (s .store) (s .begun)
+
+  -- The parts of the input in the order in which they come, each from the session that the part before it left.
+  unfoldable pub heardParts : Session → List (List ℕ) → Heard
+  heardParts s [] = record { session = s; bytes = [] }
+  heardParts s (p ∷ ps) = let h = heard s p in after (h .bytes) (heardParts (h .session) ps)
+
+  -- What the program prints for the parts and then at the end of the input, and the store that it ends with.
+  unfoldable pub inParts : List (List ℕ) → Said
+  inParts ps =
+      let h = heardParts opening ps in
+      let e = ended (h .session) in
+      record { store = e .store; bytes = h .bytes ++ e .bytes }

@@ -1,16 +1,18 @@
--- Document 01, "Call list program": what a line does to the store and what is printed for it.
-use Prim.Native.Nat.{ℕ, _+_}
+-- Document 01, "Call list program", and its trace: what a line does to the store and what is printed for it.
+use Prim.Native.Nat.{ℕ, _+_, _*_}
 use mathlib.Core.Bool.{true, false}
-use mathlib.Core.List.{List}
+use mathlib.Core.List.{List, [], _∷_, _++_}
 use lib.Dec.{leb}
+use lib.ListN.{take}
 use Rattle.geometry.specs.declared.Geometry.{Geometry}
 use Rattle.geometry.specs.Geometry.{isLegal, storeLength, keyLimitOf}
+use Rattle.levels.specs.declared.Ticket.{Ticket}
 use Rattle.words.specs.Layout.{bit}
-use Rattle.words.specs.Calls.{Outcome, FormatAnswer, LookAnswer, ChangeAnswer, formatWords, lookUpOf, putOf, deleteOf}
+use Rattle.words.specs.Calls.{Outcome, FormatAnswer, LookAnswer, ChangeAnswer, formatWords, lookUpOf, putOf, deleteOf, putTickets, deleteTickets}
 use Rattle.lines.specs.declared.Line.{Line}
 use Rattle.lines.specs.declared.Line.the-variants.{Format, Put, Delete, Get, Unreadable}
-use Rattle.lines.specs.Bytes.{letterP, letterD}
-use Rattle.lines.specs.Lines.{formatLine, getLine, changeLine, unreadableLine}
+use Rattle.lines.specs.Bytes.{letterP, letterD, letterT}
+use Rattle.lines.specs.Lines.{longestLine, formatLine, getLine, changeLine, unreadableLine}
 use Rattle.dialogue.specs.Bench.{benchWords}
 
 -- The words of the store after a line, and the bytes printed for it. "before any accepted f, the store has none"
@@ -46,12 +48,29 @@ formatSaid ws g = elim (isLegal g) [
   ]
 ]
 
-abbrev pub changeSaid : ℕ → Outcome ChangeAnswer → Said
-changeSaid letter o = record { store = o .words; bytes = changedLine letter (o .answer) }
+-- Document 02, card 3, for the mechanic: `t LEVEL FIRST OVERLAP WRITTEN` for each merge, in the order of the merges
+abbrev pub ticketLine : Ticket → List ℕ
+ticketLine t = changeLine letterT (t .level) (t .first) (t .overlap) (t .written)
 
-abbrev pub saidOf : List ℕ → Line → Said
-saidOf ws (Format b w d g h p) = formatSaid ws (record { b = b; w = w; d = d; g = g; h = h; p = p })
-saidOf ws (Put k v) = changeSaid letterP (putOf ws k v)
-saidOf ws (Delete k) = changeSaid letterD (deleteOf ws k)
-saidOf ws (Get k) = record { store = ws; bytes = lookedLine (lookUpOf ws k) }
-saidOf ws Unreadable = record { store = ws; bytes = unreadableLine }
+abbrev pub ticketLines : List Ticket → List ℕ
+ticketLines [] = []
+ticketLines (t ∷ ts) = ticketLine t ++ ticketLines ts
+
+abbrev pub changeSaid : ℕ → Outcome ChangeAnswer → List Ticket → Said
+changeSaid letter o ts = record { store = o .words; bytes = changedLine letter (o .answer) ++ ticketLines ts }
+
+-- What a line does and prints, with the tickets of at most m merges for a call: none in document 01's program, 64 in the trace.
+abbrev pub saidOf : ℕ → List ℕ → Line → Said
+saidOf m ws (Format b w d g h p) = formatSaid ws (record { b = b; w = w; d = d; g = g; h = h; p = p })
+saidOf m ws (Put k v) = changeSaid letterP (putOf ws k v) (take m (putTickets ws k v))
+saidOf m ws (Delete k) = changeSaid letterD (deleteOf ws k) (take m (deleteTickets ws k))
+saidOf m ws (Get k) = record { store = ws; bytes = lookedLine (lookUpOf ws k) }
+saidOf m ws Unreadable = record { store = ws; bytes = unreadableLine }
+
+-- No program prints more tickets for a call.
+abbrev pub ticketsMost : ℕ
+ticketsMost = 64
+
+-- No line has a longer answer: its own line, and the lines of m tickets.
+unfoldable pub longestAnswer : ℕ → ℕ
+longestAnswer m = longestLine * (m + 1)

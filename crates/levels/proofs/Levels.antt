@@ -68,6 +68,17 @@ records-three-length a b c =
 pub well-tail : (B : ℕ) (b : Block) (bs : Level) → Well B (b ∷ bs) → Well B bs
 well-tail B b bs w = record { pairs = w .pairs .1; sized = w .sized .2 }
 
+-- a level's records, counted twice, hold each pair of neighbours once, and the two end blocks once more
+pairs-first : (B : ℕ) (b : Block) (bs : Level) → Well B (b ∷ bs) → length bs * (B + 1) + size b + 1 ≤ 2 * length (records (b ∷ bs))
+pairs-first B b [] w = omega (arith, w .sized .0, length-append (b .recs) [])
+pairs-first B b (c ∷ cs) w = omega (arith, w .pairs .0, pairs-first B c cs (well-tail B b (c ∷ cs) w), length-append (b .recs) (records (c ∷ cs)))
+
+-- "two neighbouring blocks of a level hold more than B records together": two blocks or more hold on average at least (B + 1)/4 records
+pub pairs-least : (B : ℕ) (l : Level) → Well B l → 2 ≤ length l → length l * (B + 1) ≤ 4 * length (records l)
+pairs-least B [] w h = absurd (omega arith)
+pairs-least B (b ∷ []) w h = absurd (omega arith)
+pairs-least B (b ∷ c ∷ cs) w h = omega (arith, pairs-first B b (c ∷ cs) w)
+
 -- a level without blocks
 pub well-nil : (B : ℕ) → Well B []
 well-nil B = record { pairs = tt; sized = tt }

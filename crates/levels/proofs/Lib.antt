@@ -34,7 +34,9 @@ pub mod CompactInside
 pub mod InCall
 pub mod Entry
 pub mod CallMerges
+pub mod MergesFew
 pub mod MergeBounds
+pub mod Tickets
 pub mod Insert
 pub mod PutDelete
 pub mod Stays

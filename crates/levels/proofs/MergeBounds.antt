@@ -68,7 +68,7 @@ module _ (g : Geometry) (e : Store) (m : Merge) (v : Valid g) (f : MergeFacts g 
   choice = choose-is (m .window) (aboveOf g m) (underOf g m) window-some window-inside
 
   -- q is the overlap that the choice found
-  overlap-is : overlapOf g m ≡ choose (m .window) (aboveOf g m) (underOf g m) .value
+  pub overlap-is : overlapOf g m ≡ choose (m .window) (aboveOf g m) (underOf g m) .value
   unfolding overlapOf runOf
   overlap-is = ap (λ (j : ℕ). overlap (underOf g m) (take (m .window) (drop j (aboveOf g m)))) (f .first-is) ∙ choice .overlaps
 

@@ -122,14 +122,19 @@ module _ (g : Geometry) (e s : Store) (i : ℕ) (v : Valid g) (low : i < g .h) (
   lower-row : length (records (lowerMade g i (windowOf g i) (chosenAt g i s) s)) ≤ length (getD (rows s) (suc i) []) + length (records (cutOf g i (windowOf g i) (chosenAt g i s) s .run))
   lower-row = omega (arith, lower-count (g .b) (windowOf g i) (chosenAt g i s) (blocksOf g i s) (blocksOf g (suc i) s) chosen-can (eqb (suc i) (g .h)), ap length (row-blocks g (suc i) s))
 
-  -- the sum over all records of the levels below theirs falls
-  pub chosen-load : load (rows (mergeLevel g i s .finish)) < load (rows s)
+  -- the sum over all records of the levels below theirs falls by X's records
+  pub chosen-falls : load (rows (mergeLevel g i s .finish)) + length (records (cutOf g i (windowOf g i) (chosenAt g i s) s .run)) ≤ load (rows s)
   unfolding mergeLevel
+  chosen-falls =
+      let x : ℕ = length (records (cutOf g i (windowOf g i) (chosenAt g i s) s .run)) in
+      subst (λ (y : List (List Rec)). load y + x ≤ load (rows s)) (sym (run-rows g i (windowOf g i) (chosenAt g i s) s))
+      (load-pair (rows s) i x (records (upperLeft g i (windowOf g i) (chosenAt g i s) s)) (records (lowerMade g i (windowOf g i) (chosenAt g i s) s)) (omega (arith, rows-count s, n .many)) upper-row lower-row)
+
+  -- so it falls
+  pub chosen-load : load (rows (mergeLevel g i s .finish)) < load (rows s)
   chosen-load =
       let f = upper-fewer (g .b) (windowOf g i) (chosenAt g i s) (blocksOf g i s) (blocksOf g (suc i) s) chosen-can i in
-      let u = upper-row in
-      subst (λ (x : List (List Rec)). load x < load (rows s)) (sym (run-rows g i (windowOf g i) (chosenAt g i s) s))
-      (omega (arith, f, ap length (row-blocks g i s), load-pair (rows s) i (length (records (cutOf g i (windowOf g i) (chosenAt g i s) s .run))) (records (upperLeft g i (windowOf g i) (chosenAt g i s) s)) (records (lowerMade g i (windowOf g i) (chosenAt g i s) s)) (omega (arith, rows-count s, n .many)) u lower-row))
+      omega (arith, f, ap length (row-blocks g i s), upper-row, chosen-falls)
 
   -- the merge, steps 1 to 4
   pub merge-inside : Inside g e (mergeLevel g i s .finish)

@@ -26,6 +26,10 @@ abbrev pub load : List (List Rec) → ℕ
 load [] = 0
 load (l ∷ ls) = length ls * length l + load ls
 
+-- No call makes more merges (`MergesFew`): each takes the records of W(i) blocks one level down, and the load is bounded.
+abbrev pub mergesMost : ℕ
+mergesMost = 512
+
 -- What holds of the store at every moment of a call's merges: at the start and the end of each merge and after each compaction.
 -- The map, live and the number of records above level h are those of the store `e` at the call's entry.
 pub record Inside (g : Geometry) (e s : Store) : Type 0 where

@@ -13,6 +13,7 @@ pub mod Store
 pub mod Call
 pub mod Put
 pub mod Count
+pub mod Tickets
 pub mod Sound
 pub mod Inside
 pub mod InCall

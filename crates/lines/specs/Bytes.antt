@@ -1,4 +1,4 @@
--- Bytes that document 01's call list names, by their ASCII codes, and small helpers that no rule names.
+-- Bytes that document 01's call list and document 02's trace name, by their ASCII codes, and small helpers that no rule names.
 use Prim.Native.Nat.{ℕ, _+_, _≤_}
 use mathlib.Core.Path.{_≡_}
 use Prim.Native.Char.{code}
@@ -29,6 +29,9 @@ letterG = 103
 
 abbrev pub letterP : ℕ
 letterP = 112
+
+abbrev pub letterT : ℕ
+letterT = 116
 
 abbrev pub digitNine : ℕ
 digitNine = 57

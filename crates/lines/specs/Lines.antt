@@ -85,7 +85,8 @@ formatLine reason limit = letterF ∷ space ∷ (field reason space ++ field lim
 unfoldable pub getLine : ℕ → ℕ → ℕ → List ℕ
 getLine reason found payload = letterG ∷ space ∷ (field reason space ++ (field found space ++ field payload lineEnd))
 
--- "for p and d live-before 1 or 0, blocks written by merges, blocks written by compacting, each over all levels"
+-- "for p and d live-before 1 or 0, blocks written by merges, blocks written by compacting, each over all levels"; a ticket's line
+-- has this form too
 unfoldable pub changeLine : ℕ → ℕ → ℕ → ℕ → ℕ → List ℕ
 changeLine letter reason live merged compacted =
     letter ∷ space ∷ (field reason space ++ (field live space ++ (field merged space ++ field compacted lineEnd)))

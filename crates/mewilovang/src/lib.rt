@@ -1,7 +1,8 @@
 // The calls of the store for C and Rust (include/mewilovang.h): plain numbers in and out, no `requires` on any of them.
 
 ghost use mathlib.Core.Path.{_≡_};
-ghost use Rattle.words.specs.Calls.{Outcome, StretchOutcome, formatOf, checkOf, lookUpOf, nextOf, stretchOf, aboutOf};
+ghost use Rattle.levels.specs.Tickets.{laid};
+ghost use Rattle.words.specs.Calls.{Outcome, StretchOutcome, formatOf, checkOf, lookUpOf, nextOf, stretchOf, aboutOf, putTickets, deleteTickets};
 ghost use Rattle.reader.specs.Answers.{lookedAnswer, nextedAnswer, stretchAnswer, toldAnswer};
 ghost use Rattle.writer.specs.Answers.{changedAnswer};
 ghost use Rattle.store.specs.Answers.{formatAnswer};
@@ -13,6 +14,7 @@ ghost use Rattle.mewilovang.specs.declared.Stretched.{Stretched};
 ghost use Rattle.mewilovang.specs.Answers.{wordsOf, formattedReply, formattedOutcome, lookedReply, nextedReply, stretchedReply, stretchedOutcome, partReply, toldReply, CountsFit, countsReply, changedReply, PutReplied, DeleteReplied};
 use geometry::Built;
 use geometry::Geometry;
+use levels::Ticket;
 
 // The reason that the call is turned down for, or 0, and N.
 #[repr(C)]
@@ -344,4 +346,30 @@ pub extern "C" fn mewilovang_delete(store: &mut [u32], key: u32) -> Changed
     ensures { λ r. ⌜ DeleteReplied (now (store .entry)) key r (now (store .exit)) ⌝ }
 {
     change_reply(store::delete(store, key))
+}
+
+// Put, and a ticket for each of its merges into the caller's list, in their order, as many as fit.
+#[no_mangle]
+pub extern "C" fn mewilovang_put_tickets(
+    store: &mut [u32],
+    key: u32,
+    payload: u32,
+    tickets: &mut [Ticket],
+) -> Changed
+    ensures { λ r. ⌜ PutReplied (now (store .entry)) key payload r (now (store .exit))
+        × (now (tickets .exit) ≡ laid (putTickets (now (store .entry)) key payload) (now (tickets .entry))) ⌝ }
+{
+    change_reply(store::put_tickets(store, key, payload, tickets))
+}
+
+#[no_mangle]
+pub extern "C" fn mewilovang_delete_tickets(
+    store: &mut [u32],
+    key: u32,
+    tickets: &mut [Ticket],
+) -> Changed
+    ensures { λ r. ⌜ DeleteReplied (now (store .entry)) key r (now (store .exit))
+        × (now (tickets .exit) ≡ laid (deleteTickets (now (store .entry)) key) (now (tickets .entry))) ⌝ }
+{
+    change_reply(store::delete_tickets(store, key, tickets))
 }

@@ -7,6 +7,8 @@ use mathlib.Core.Logic.{_≢_}
 use lib.ListN.{length, getD, set}
 use Rattle.geometry.specs.declared.Geometry.{Geometry}
 use Rattle.levels.specs.Store.{Store, usedIn}
+use Rattle.levels.specs.declared.Ticket.{Ticket}
+use Rattle.levels.specs.Tickets.{ticketOf}
 use Rattle.levels.specs.Call.{mergeCut, mergeRun, mergeLevel}
 use Rattle.levels.specs.Inside.{Inside}
 use Rattle.levels.specs.InCall.{MergeFacts}
@@ -69,33 +71,38 @@ module _ (g : Geometry) (ws one two three : List ℕ) (level : ℕ) (r : Run) (k
         small = k .small;
       }
 
-      pub merged-top : (ws' one' : List ℕ) (d : One) (u : Run) → u ≡ relisted r 0 d
-          → ((e t : Store) → PageReady e t g ws used one (r .n1) (r .cursor) (r .tally) → OneLeft (mergeLevel g 0 t .finish) (mergeLevel g 0 t .written) (mergedCounts (mergeLevel g 0 t)) g ws ws' one' 0 (r .tally) d)
-          → (t : Store) → t ≡ store → Leaving g (mergeLevel g level t .finish) (mergeLevel g level t .written) (mergedCounts (mergeLevel g level t)) ws r ws' one' two three u
-      merged-top ws' one' d u q left t et =
+      pub merged-top : (ws' one' : List ℕ) (d : One) (x : Ticket) (u : Run) → u ≡ relisted r 0 d
+          → ((e t : Store) → PageReady e t g ws used one (r .n1) (r .cursor) (r .tally)
+          → OneLeft (mergeLevel g 0 t .finish) (mergeLevel g 0 t .written) (mergedCounts (mergeLevel g 0 t)) g ws ws' one' 0 (r .tally) d × (x ≡ ticketOf g (mergeLevel g 0 t)))
+          → (t : Store) → t ≡ store → Leaving g (mergeLevel g level t .finish) (mergeLevel g level t .written) (mergedCounts (mergeLevel g level t)) ws r ws' one' two three u × (x ≡ ticketOf g (mergeLevel g level t))
+      merged-top ws' one' d x u q left t et =
+          let l = left (k .entry) store page-asks in
           rw (et, e, q)
-          (one-leaves g (k .entry) store (mergeLevel g 0 store .finish) ws one two three r (k .stands) (k .valid) (facts 0 e .finish-inside) (gap-short (k .entry) store g ws used one (r .n1) (r .cursor) (r .tally) page-asks) _ _ ws' 0 (top-keeps g store) one' d (left (k .entry) store page-asks))
+          (one-leaves g (k .entry) store (mergeLevel g 0 store .finish) ws one two three r (k .stands) (k .valid) (facts 0 e .finish-inside) (gap-short (k .entry) store g ws used one (r .n1) (r .cursor) (r .tally) page-asks) _ _ ws' 0 (top-keeps g store) one' d (l .0), l .1)
 
     -- out of level j + 1: what `merge_two` asks, and what it leaves
-    module _ (j : ℕ) (e : level ≡ suc j) (upper lower : List ℕ) (a n : ℕ) (x : Listed store j upper a) (y : Listed store (suc j) lower n) where
+    module _ (j : ℕ) (e : level ≡ suc j) (upper lower : List ℕ) (a n : ℕ) (la : Listed store j upper a) (ln : Listed store (suc j) lower n) where
       pub two-asks : TwoReady (k .entry) store j g ws used upper lower (suc j) a n (r .cursor) (r .tally)
       two-asks = record {
         valid = k .valid;
         level-is = refl;
         facts = facts (suc j) e;
         held = k .stands .held;
-        above = x;
-        under = y;
+        above = la;
+        under = ln;
         marks = named;
         marks-long = m .1;
         cursor-is = k .stands .cursor;
         small = k .small;
       }
 
-      pub merged-below : (ws' upper' lower' : List ℕ) (d : Two) (u : Run) → u ≡ relistedTwo r j d
-          → ((e t : Store) (i : ℕ) → TwoReady e t i g ws used upper lower (suc j) a n (r .cursor) (r .tally) → TwoLeft (mergeLevel g (suc i) t .finish) (mergeLevel g (suc i) t .written) (mergedCounts (mergeLevel g (suc i) t)) i g ws ws' upper' lower' (r .tally) d)
+      pub merged-below : (ws' upper' lower' : List ℕ) (d : Two) (x : Ticket) (u : Run) → u ≡ relistedTwo r j d
+          → ((e t : Store) (i : ℕ) → TwoReady e t i g ws used upper lower (suc j) a n (r .cursor) (r .tally)
+          → TwoLeft (mergeLevel g (suc i) t .finish) (mergeLevel g (suc i) t .written) (mergedCounts (mergeLevel g (suc i) t)) i g ws ws' upper' lower' (r .tally) d × (x ≡ ticketOf g (mergeLevel g (suc i) t)))
           → (t : Store) → t ≡ store
           → Leaving g (mergeLevel g level t .finish) (mergeLevel g level t .written) (mergedCounts (mergeLevel g level t)) ws r ws' (anew (suc j) lower' 0 (anew j upper' 0 one)) (anew (suc j) lower' 1 (anew j upper' 1 two)) (anew (suc j) lower' 2 (anew j upper' 2 three)) u
-      merged-below ws' upper' lower' d u q left t et =
+          × (x ≡ ticketOf g (mergeLevel g level t))
+      merged-below ws' upper' lower' d x u q left t et =
+          let l = left (k .entry) store j two-asks in
           rw (et, e, q)
-          (two-leaves g (k .entry) store (mergeLevel g (suc j) store .finish) ws one two three r (k .stands) (k .valid) (facts (suc j) e .finish-inside) (rw (merge-top-kept g store j) (top-fits g store ws one two three r (k .stands))) _ _ ws' j (merge-keeps g store j) upper' lower' d (left (k .entry) store j two-asks))
+          (two-leaves g (k .entry) store (mergeLevel g (suc j) store .finish) ws one two three r (k .stands) (k .valid) (facts (suc j) e .finish-inside) (rw (merge-top-kept g store j) (top-fits g store ws one two three r (k .stands))) _ _ ws' j (merge-keeps g store j) upper' lower' d (l .0), l .1)

@@ -15,9 +15,11 @@ use Rattle.levels.specs.Record.{Level, records, rising}
 use Rattle.levels.specs.Choose.{choose}
 use Rattle.levels.specs.Place.{Allocation, Settled}
 use Rattle.levels.specs.Store.{Store, blocksOf, usedIn, allocationOf}
-use Rattle.levels.specs.Call.{mergeCut, mergeRun, mergeLevel}
-use Rattle.levels.specs.Count.{blocksMerged, aboveOf, underOf}
+use Rattle.levels.specs.Call.{Merge, mergeCut, mergeRun, mergeLevel}
+use Rattle.levels.specs.Count.{blocksMerged, aboveOf, underOf, overlapOf}
 use Rattle.levels.specs.Count as levels
+use Rattle.levels.specs.declared.Ticket.{Ticket}
+use Rattle.levels.specs.Tickets.{ticketOf}
 use Rattle.levels.specs.InCall.{Due, MergeFacts}
 use Rattle.levels.specs.Every.{Every, allBlocks}
 use Rattle.levels.specs.Sound.{BlockFits}
@@ -30,7 +32,7 @@ use Rattle.levels.proofs.Room.{merge-room-numbers}
 use Rattle.levels.proofs.Entry.{inside-fit, blocks-at}
 use Rattle.levels.proofs.StoreRows.{set-at}
 use Rattle.levels.proofs.Inside.{inside-used}
-use Rattle.levels.proofs.MergeBounds.{merge-written}
+use Rattle.levels.proofs.MergeBounds.{overlap-is, merge-written}
 use Rattle.words.specs.Layout.{areaOf, writeBlocks}
 use Rattle.words.proofs.Steps.{laid-merge}
 use Rattle.lists.proofs.Laws.{but-area}
@@ -97,6 +99,24 @@ module _ (g : Geometry) (e t : Store) (i : ℕ) (v : Valid g) (f : MergeFacts g 
       pick : (b : Bool) (n : ℕ) → _≡_ {A = levels.Counts} (record { merges = if b then 1 else 0; written = if b then n else 0; compacted = 0 }) (if b then (record { merges = 1; written = n; compacted = 0 }) else (record { merges = 0; written = 0; compacted = 0 }))
       pick true n = refl
       pick false n = refl
+
+  -- the numbers of its ticket are words
+  pub merged-words : (first overlap : ℕ) → first ≡ choose (windowOf g i) (blocksOf g i t) (blocksOf g (suc i) t) .at → overlap ≡ choose (windowOf g i) (blocksOf g i t) (blocksOf g (suc i) t) .value
+      → length (blocksOf g i t) ≤ 2048 → (first ≤ 8192) × (overlap ≤ 8192)
+  unfolding mergeLevel mergeRun aboveOf underOf
+  merged-words first overlap ef eo h =
+      (omega (arith, ef, f .mergeable .whole), omega (arith, eo, due-overlap, window-capacity-half g (v .ranged) (suc i), level-high g v {i = suc i} level-low))
+
+  -- its ticket, by the chosen run and the blocks written
+  pub merged-ticket : (l first overlap n : ℕ) (x : Ticket) → l ≡ i → first ≡ choose (windowOf g i) (blocksOf g i t) (blocksOf g (suc i) t) .at → overlap ≡ choose (windowOf g i) (blocksOf g i t) (blocksOf g (suc i) t) .value
+      → n ≡ length (mergeLevel g i t .written) → x ≡ record { level = l; first = first; overlap = overlap; written = n } → x ≡ ticketOf g (mergeLevel g i t)
+  unfolding ticketOf mergeLevel mergeRun aboveOf underOf
+  merged-ticket l first overlap n x el ef eo en ex =
+      let m : Merge = mergeLevel g i t in
+      ex ∙ ap (λ (y : ℕ). of y first overlap n) el ∙ ap (λ (y : ℕ). of i y overlap n) ef ∙ ap (λ (y : ℕ). of i (m .first) y n) (eo ∙ sym (overlap-is g e m v f)) ∙ ap (λ (y : ℕ). of i (m .first) (overlapOf g m) y) (en ∙ sym (merge-written g e m v f))
+    where
+      of : ℕ → ℕ → ℕ → ℕ → Ticket
+      of l first overlap n = record { level = l; first = first; overlap = overlap; written = n }
 
 -- the merge of listed levels, as the contract of `merge_pair` has it
 PairOf : Geometry → Allocation → List ℕ → List ℕ → List Bool → List ℕ → List ℕ → Step → ℕ → Level → Level → Type 0
@@ -167,24 +187,38 @@ module _ (e t : Store) (j : ℕ) (g : Geometry) (ws : List ℕ) (used : List Boo
     pub two-few : r .writes ≤ 8192
     two-few = omega (arith, writes-is, merged-few g e t (suc j) (k .valid) (k .facts))
 
-    pub two-left : (u : Two) (more : Tally) → more ≡ counted tally (level + 1) (record { merges = 1; written = r .writes; compacted = 0 }) → u ≡ record { a = r .above; n = r .under; cursor = r .cursor; tally = more }
+    chosen-is : (r .first ≡ choose (windowOf g (suc j)) (getD (t .levels) j []) (getD (t .levels) (suc j) []) .at) × (r .overlap ≡ choose (windowOf g (suc j)) (getD (t .levels) j []) (getD (t .levels) (suc j) []) .value)
+    unfolding left-is PairOf
+    chosen-is = (left-is .below .first, left-is .below .overlap)
+
+    -- what `ticket` asks, and what it gives
+    pub two-words : (level ≤ 8192) × ((r .first ≤ 8192) × ((r .overlap ≤ 8192) × (r .writes ≤ 8192)))
+    two-words =
+        let v = k .valid in
+        let w = merged-words g e t (suc j) v (k .facts) (r .first) (r .overlap) (chosen-is .0) (chosen-is .1) (omega (arith, inside-short g e t v inside j)) in
+        (omega (arith, k .level-is, level-low g e t (suc j) v (k .facts), v .ranged .h-high), (w .0, (w .1, two-few)))
+
+    pub two-ticket : (x : Ticket) → x ≡ record { level = level; first = r .first; overlap = r .overlap; written = r .writes } → x ≡ ticketOf g (mergeLevel g (suc j) t)
+    two-ticket x = merged-ticket g e t (suc j) (k .valid) (k .facts) level (r .first) (r .overlap) (r .writes) x (k .level-is) (chosen-is .0) (chosen-is .1) writes-is
+
+    pub two-left : (u : Two) (more : Tally) (x : Ticket) → more ≡ counted tally (level + 1) (record { merges = 1; written = r .writes; compacted = 0 }) → u ≡ record { a = r .above; n = r .under; cursor = r .cursor; tally = more; ticket = x }
         → TwoLeft (mergeLevel g (suc j) t .finish) (mergeLevel g (suc j) t .written) (mergedCounts (mergeLevel g (suc j) t)) j g ws ws' upper' lower' tally u
     unfolding PairOf upperAfter lowerAfter mergeLevel mergeRun mergeCut
-    two-left u more em eu =
+    two-left u more x em eu =
         let v = k .valid in
-        let x : Store = mergeLevel g (suc j) t .finish in
+        let z : Store = mergeLevel g (suc j) t .finish in
         let area : List ℕ = writeBlocks g (areaOf g ws) (mergeLevel g (suc j) t .written) in
         let us : Settled = upperAfter g (suc j) (allocationOf t) (cutOf g (suc j) (getD (t .levels) j []) (getD (t .levels) (suc j) [])) in
         let ls : Settled = lowerAfter g (suc j) (us .allocation) (cutOf g (suc j) (getD (t .levels) j []) (getD (t .levels) (suc j) [])) in
         let low = level-low g e t (suc j) v (k .facts) in
-        let f = inside-fit g e x (k .facts .finish-inside) in
-        let ha : getD (x .levels) j [] ≡ us .level = set-at [] (λ l. l ≡ us .level) (set (t .levels) j (us .level)) (suc j) (ls .level) j (λ z. absurd (omega (arith, z))) (getD-set-same (t .levels) j (us .level) [] (omega (arith, inside .many))) in
-        let hu : getD (x .levels) (suc j) [] ≡ ls .level = getD-set-same (set (t .levels) j (us .level)) (suc j) (ls .level) [] (omega (arith, inside .many, length-set (t .levels) j (us .level))) in
+        let f = inside-fit g e z (k .facts .finish-inside) in
+        let ha : getD (z .levels) j [] ≡ us .level = set-at [] (λ l. l ≡ us .level) (set (t .levels) j (us .level)) (suc j) (ls .level) j (λ q. absurd (omega (arith, q))) (getD-set-same (t .levels) j (us .level) [] (omega (arith, inside .many))) in
+        let hu : getD (z .levels) (suc j) [] ≡ ls .level = getD-set-same (set (t .levels) j (us .level)) (suc j) (ls .level) [] (omega (arith, inside .many, length-set (t .levels) j (us .level))) in
         rw eu
         (record {
-          held = rw (left-is .words) (but-area g ws area t x v (k .held) refl refl (laid-merge g e (mergeLevel g (suc j) t) (areaOf g ws) (k .facts) (k .held .laid)));
-          above = listed-new g x j (us .level) upper' (r .above) (blocks-at (BlockFits g) (x .levels) j f) ha (left-is .upper-long) (left-is .above) (left-is .upper);
-          under = listed-new g x (suc j) (ls .level) lower' (r .under) (blocks-at (BlockFits g) (x .levels) (suc j) f) hu (left-is .below .lower-long) (left-is .below .under) (left-is .below .lower);
+          held = rw (left-is .words) (but-area g ws area t z v (k .held) refl refl (laid-merge g e (mergeLevel g (suc j) t) (areaOf g ws) (k .facts) (k .held .laid)));
+          above = listed-new g z j (us .level) upper' (r .above) (blocks-at (BlockFits g) (z .levels) j f) ha (left-is .upper-long) (left-is .above) (left-is .upper);
+          under = listed-new g z (suc j) (ls .level) lower' (r .under) (blocks-at (BlockFits g) (z .levels) (suc j) f) hu (left-is .below .lower-long) (left-is .below .under) (left-is .below .lower);
           cursor = left-is .below .cursor;
           area = ap (areaOf g) (left-is .words) ∙ base-drop g ws (k .held .long) area;
           counts = merged-grown g e t (suc j) v (k .facts) tally more (level + 1) (r .writes) (omega (arith, k .level-is)) writes-is em;

@@ -11,7 +11,7 @@ use lib.Seq.{getD-set-same, take-set-lt}
 use borrow.Author.Tests.{ltb-true}
 use Rattle.geometry.specs.declared.Geometry.{Geometry}
 use Rattle.geometry.specs.Geometry.{Valid, capacityOf, topCapacityOf, windowOf, marksStart, listStart, placesStart}
-use Rattle.geometry.proofs.Laws.{store-length-low}
+use Rattle.geometry.proofs.Laws.{store-length-low, level-high}
 use Rattle.levels.specs.Basics.{all}
 use Rattle.levels.specs.Record.{Rec, Level, records, rising, pages}
 use Rattle.levels.specs.Choose.{choose, cutAt}
@@ -19,6 +19,8 @@ use Rattle.levels.specs.Place.{Settled}
 use Rattle.levels.specs.Store.{Store, rows, blocksOf, usedIn, allocationOf}
 use Rattle.levels.specs.Count.{aboveOf, underOf}
 use Rattle.levels.specs.Call.{mergeCut, mergeRun, mergeLevel}
+use Rattle.levels.specs.declared.Ticket.{Ticket}
+use Rattle.levels.specs.Tickets.{ticketOf}
 use Rattle.levels.specs.Every.{Every, allBlocks}
 use Rattle.levels.specs.Sound.{BlockFits}
 use Rattle.levels.specs.Inside.{Inside}
@@ -50,7 +52,7 @@ use Rattle.steps.specs.declared.One.{One}
 use Rattle.steps.specs.Running.{counted, mergedCounts, OneLeft, PageReady}
 use Rattle.steps.proofs.Standing.{inside-short, listed-block, listed-level, but-top-read}
 use Rattle.steps.proofs.Compacting.{listed-new}
-use Rattle.steps.proofs.Merging.{start-due, start-inside, due-free, due-room, merged-few, merged-grown}
+use Rattle.steps.proofs.Merging.{start-due, start-inside, due-free, due-room, merged-few, merged-grown, merged-words, merged-ticket}
 use Rattle.words.proofs.Each.{all-each-at}
 
 -- Words that hold t, whose level 0 has room, are ready for level 0's edits.
@@ -158,6 +160,10 @@ module _ (e t : Store) (g : Geometry) (ws : List ℕ) (used : List Bool) (list :
   unfolding at mergeLevel mergeRun aboveOf underOf topCapacityOf
   run-inside = omega (arith, k .facts .mergeable .whole, pages-full (g .b) (capacityOf g 0) (t .top) (omega (arith, k .valid .ranged .b-low)) (k .full))
 
+  pages-few : length (blocksOf g 0 t) ≤ 2048
+  unfolding topCapacityOf
+  pages-few = omega (arith, pages-full (g .b) (capacityOf g 0) (t .top) (omega (arith, k .valid .ranged .b-low)) (k .full), level-high g (k .valid) {i = 0} (omega arith))
+
   gap-top : mergeLevel g 0 t .finish .top ≡ take (at * g .b) (t .top) ++ drop ((at + windowOf g 0) * g .b) (t .top)
   unfolding at mergeLevel mergeRun mergeCut cutAt
   gap-top = pages-close (g .b) at (windowOf g 0) (t .top) (omega (arith, k .valid .ranged .b-low))
@@ -207,6 +213,18 @@ module _ (e t : Store) (g : Geometry) (ws : List ℕ) (used : List Bool) (list :
 
     pub page-few : r .writes ≤ 8192
     page-few = omega (arith, writes-is, merged-few g e t 0 (k .valid) (k .facts))
+
+    -- what `ticket` asks, and what it gives
+    pub page-words : (0 ≤ 8192) × ((r .first ≤ 8192) × ((r .overlap ≤ 8192) × (r .writes ≤ 8192)))
+    unfolding PagesOf
+    page-words =
+        let v = k .valid in
+        let w = merged-words g e t 0 v (k .facts) (r .first) (r .overlap) (left-is .below .first) (left-is .below .overlap) pages-few in
+        (omega arith, (w .0, (w .1, page-few)))
+
+    pub page-ticket : (x : Ticket) → x ≡ record { level = 0; first = r .first; overlap = r .overlap; written = r .writes } → x ≡ ticketOf g (mergeLevel g 0 t)
+    unfolding PagesOf
+    page-ticket x = merged-ticket g e t 0 (k .valid) (k .facts) 0 (r .first) (r .overlap) (r .writes) x refl (left-is .below .first) (left-is .below .overlap) writes-is
 
     words-are : (w : ℕ) (ws2 : List ℕ) → w ≡ windowOf g 0 → ws2 ≡ top.withTop g ws' (take (r .first * g .b) (topRecs g ws') ++ drop ((r .first + w) * g .b) (topRecs g ws')) → ws2 ≡ top.withTop g ws' (mergeLevel g 0 t .finish .top)
     words-are w ws2 ew e2 = e2 ∙ rw (top-between, first-is, ew, gap-top)

@@ -14,11 +14,13 @@ ghost use Rattle.pair.specs.Contract.{InUse};
 ghost use Rattle.compaction.specs.Machine.{Countable, Compactable};
 ghost use Rattle.levels.specs.Store.{Store};
 ghost use Rattle.levels.specs.Call.{compactIfNeeded, afterCompactions, mergeLevel, afterMerge};
+ghost use Rattle.levels.specs.Tickets.{ticketOf};
 ghost use Rattle.words.specs.Calls.{compactedBlocks};
 ghost use Rattle.blocks.specs.Blocks.{Marks};
 ghost use Rattle.geometry.specs.Room.{placesMost};
 ghost use Rattle.steps.specs.Running.{namedIn, storeOf, Markable, sumOf, counted, countsMost, countsBefore, Few, Small, Leaving, Running, compactedCounts, wastes, dueOf, OneReady, OneAsked, OneLeft, relisted, relistedTwo, mergedCounts, TwoReady, TwoAsked, TwoLeft, PageReady, PageAsked, StepReady, stepCounts};
 use geometry::Geometry;
+use levels::Ticket;
 use merging::Merged;
 
 // Of one level: merges into it, blocks written by them, blocks written compacting it.
@@ -51,12 +53,25 @@ struct One {
     tally: Tally,
 }
 
-// The lengths of two lists, the cursor and the counts, after a merge of their levels.
+// The same after a merge out of level 0, with its ticket.
+struct Top {
+    one: One,
+    ticket: Ticket,
+}
+
+// The lengths of two lists, the cursor and the counts, after a merge of their levels, with its ticket.
 struct Two {
     a: usize,
     n: usize,
     cursor: usize,
     tally: Tally,
+    ticket: Ticket,
+}
+
+// What a merge has left, and its ticket.
+pub struct Ticketed {
+    pub run: Run,
+    pub ticket: Ticket,
 }
 
 // What is counted already, and what one merge or compaction adds: at most one for each of the 8,192 places.
@@ -100,6 +115,19 @@ fn count(t: Tally, level: usize, more: Counts) -> Tally
         one: one,
         two: two,
         three: grown,
+    }
+}
+
+// The ticket of a merge. Its numbers are words: no level has more blocks than there are places, and no merge writes more.
+fn ticket(level: usize, first: usize, overlap: usize, written: usize) -> Ticket
+    requires { ⌜ (level ≤ placesMost) × ((first ≤ placesMost) × ((overlap ≤ placesMost) × (written ≤ placesMost))) ⌝ }
+    ensures { λ r. ⌜ r ≡ record { level = level; first = first; overlap = overlap; written = written } ⌝ }
+{
+    Ticket {
+        level: level as u32,
+        first: first as u32,
+        overlap: overlap as u32,
+        written: written as u32,
     }
 }
 
@@ -283,7 +311,8 @@ fn merge_two(
 ) -> Two
     requires { ⌜ TwoAsked g (now s) (now used) (now upper) (now lower) level a n cursor tally ⌝ }
     ensures { λ r. ⌜ ((e t : Store) (j : ℕ) → TwoReady e t j g (now (s .entry)) (now (used .entry)) (now (upper .entry)) (now (lower .entry)) level a n cursor tally
-        → TwoLeft (mergeLevel g (suc j) t .finish) (mergeLevel g (suc j) t .written) (mergedCounts (mergeLevel g (suc j) t)) j g (now (s .entry)) (now (s .exit)) (now (upper .exit)) (now (lower .exit)) tally r) ⌝ }
+        → TwoLeft (mergeLevel g (suc j) t .finish) (mergeLevel g (suc j) t .written) (mergedCounts (mergeLevel g (suc j) t)) j g (now (s .entry)) (now (s .exit)) (now (upper .exit)) (now (lower .exit)) tally r
+        × (r .ticket ≡ ticketOf g (mergeLevel g (suc j) t))) ⌝ }
 {
     let m = pair::merge_pair(s, used, upper, lower, g, level, a, n, cursor);
     let counts = Counts {
@@ -297,6 +326,7 @@ fn merge_two(
         n: m.under,
         cursor: m.cursor,
         tally: more,
+        ticket: ticket(level, m.first, m.overlap, m.writes),
     }
 }
 
@@ -309,10 +339,11 @@ fn merge_top(
     n: usize,
     cursor: usize,
     tally: Tally,
-) -> One
+) -> Top
     requires { ⌜ PageAsked g (now s) (now used) (now list) n cursor tally ⌝ }
     ensures { λ r. ⌜ ((e t : Store) → PageReady e t g (now (s .entry)) (now (used .entry)) (now (list .entry)) n cursor tally
-        → OneLeft (mergeLevel g 0 t .finish) (mergeLevel g 0 t .written) (mergedCounts (mergeLevel g 0 t)) g (now (s .entry)) (now (s .exit)) (now (list .exit)) 0 tally r) ⌝ }
+        → OneLeft (mergeLevel g 0 t .finish) (mergeLevel g 0 t .written) (mergedCounts (mergeLevel g 0 t)) g (now (s .entry)) (now (s .exit)) (now (list .exit)) 0 tally (r .one)
+        × (r .ticket ≡ ticketOf g (mergeLevel g 0 t))) ⌝ }
 {
     let m = pair::merge_pages(s, used, list, g, n, cursor);
     let w = g.window(0);
@@ -323,10 +354,13 @@ fn merge_top(
         compacted: 0,
     };
     let more = count(tally, 1, counts);
-    One {
-        n: m.under,
-        cursor: m.cursor,
-        tally: more,
+    Top {
+        one: One {
+            n: m.under,
+            cursor: m.cursor,
+            tally: more,
+        },
+        ticket: ticket(0, m.first, m.overlap, m.writes),
     }
 }
 
@@ -339,24 +373,38 @@ fn merge_level(
     g: Geometry,
     level: usize,
     r: Run,
-) -> Run
+) -> Ticketed
     requires { ⌜ StepReady countsMost g (now s) (now one) (now two) (now three) level r ⌝ }
     ensures { λ u. ⌜ ((t : Store) → t ≡ storeOf g (now (s .entry)) (now (one .entry)) (now (two .entry)) (now (three .entry)) r
-        → Leaving g (mergeLevel g level t .finish) (mergeLevel g level t .written) (mergedCounts (mergeLevel g level t)) (now (s .entry)) r (now (s .exit)) (now (one .exit)) (now (two .exit)) (now (three .exit)) u) ⌝ }
+        → Leaving g (mergeLevel g level t .finish) (mergeLevel g level t .written) (mergedCounts (mergeLevel g level t)) (now (s .entry)) r (now (s .exit)) (now (one .exit)) (now (two .exit)) (now (three .exit)) (u .run)
+        × (u .ticket ≡ ticketOf g (mergeLevel g level t))) ⌝ }
 {
     let mut used = marks(one, two, three, r);
     let cursor = r.cursor;
     let tally = r.tally;
     if level == 0 {
         let after = merge_top(s, &mut used, one, g, r.n1, cursor, tally);
-        return relist(r, 0, after);
+        let listed = after.one;
+        let ticket = after.ticket;
+        return Ticketed {
+            run: relist(r, 0, listed),
+            ticket: ticket,
+        };
     }
     if level == 1 {
         let after = merge_two(s, &mut used, one, two, g, 1, r.n1, r.n2, cursor, tally);
-        return relist_two(r, 0, after);
+        let ticket = after.ticket;
+        return Ticketed {
+            run: relist_two(r, 0, after),
+            ticket: ticket,
+        };
     }
     let after = merge_two(s, &mut used, two, three, g, 2, r.n2, r.n3, cursor, tally);
-    relist_two(r, 1, after)
+    let ticket = after.ticket;
+    Ticketed {
+        run: relist_two(r, 1, after),
+        ticket: ticket,
+    }
 }
 
 // A merge out of a level, and its step 5: that level, if it is a listed one, then the next.
@@ -368,15 +416,24 @@ pub fn merge_step(
     g: Geometry,
     level: usize,
     r: Run,
-) -> Run
+) -> Ticketed
     requires { ⌜ StepReady countsBefore g (now s) (now one) (now two) (now three) level r ⌝ }
     ensures { λ u. ⌜ ((t : Store) → t ≡ storeOf g (now (s .entry)) (now (one .entry)) (now (two .entry)) (now (three .entry)) r
-        → Leaving g (afterMerge (mergeLevel g level t)) (mergeLevel g level t .written ++ compactedBlocks (mergeLevel g level t .compactions)) (stepCounts (mergeLevel g level t)) (now (s .entry)) r (now (s .exit)) (now (one .exit)) (now (two .exit)) (now (three .exit)) u) ⌝ }
+        → Leaving g (afterMerge (mergeLevel g level t)) (mergeLevel g level t .written ++ compactedBlocks (mergeLevel g level t .compactions)) (stepCounts (mergeLevel g level t)) (now (s .entry)) r (now (s .exit)) (now (one .exit)) (now (two .exit)) (now (three .exit)) (u .run)
+        × (u .ticket ≡ ticketOf g (mergeLevel g level t))) ⌝ }
 {
-    let a = merge_level(s, one, two, three, g, level, r);
+    let merged = merge_level(s, one, two, three, g, level, r);
+    let a = merged.run;
+    let ticket = merged.ticket;
     if level == 0 {
-        return compact_level(s, one, two, three, g, 1, a);
+        return Ticketed {
+            run: compact_level(s, one, two, three, g, 1, a),
+            ticket: ticket,
+        };
     }
     let next = compact_level(s, one, two, three, g, level, a);
-    compact_level(s, one, two, three, g, level + 1, next)
+    Ticketed {
+        run: compact_level(s, one, two, three, g, level + 1, next),
+        ticket: ticket,
+    }
 }

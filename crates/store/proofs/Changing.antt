@@ -1,15 +1,22 @@
 -- What the proofs of put and delete need: each answer of the code is the definition's, and demands 1 to 3 of it.
-use Prim.Native.Nat.{ℕ}
+use Prim.Native.Nat.{ℕ, _≤_}
 use mathlib.Core.Path.{_≡_, sym, ap, _∙_, subst}
-use mathlib.Core.List.{List}
+use mathlib.Core.List.{List, []}
+use native.Mathlib.Omega.{arith}
+use lib.ListN.{length}
 use Rattle.geometry.specs.declared.Geometry.{Geometry}
 use Rattle.levels.specs.Store.{Store}
+use Rattle.levels.specs.declared.Ticket.{Ticket}
 use Rattle.levels.specs.Put.{put, delete, mergesOf}
+use Rattle.levels.specs.Tickets.{ticketsOf}
 use Rattle.words.specs.Layout.{geometryAt, storeAt}
 use Rattle.words.specs.Form.{reasonOf}
-use Rattle.words.specs.Calls.{Outcome, ChangeAnswer, mapAt, changeOutcome, putOf, deleteOf}
+use Rattle.words.specs.Calls.{Outcome, ChangeAnswer, mapAt, changeOutcome, putOf, deleteOf, putTickets, deleteTickets, mergesCounted}
+use Rattle.words.specs.Rows.{rowsOf}
 use Rattle.words.specs.Demand.{Demand, ownPut, ownDelete}
 use Rattle.words.proofs.Steps.{put-of, delete-of, put-passes, delete-passes}
+use Rattle.words.proofs.Rows.{laid-length, Filed, filed-none, filed-by}
+use Rattle.words.proofs.Tickets.{put-tickets, delete-tickets, put-tickets-few, delete-tickets-few, put-tickets-counted, delete-tickets-counted}
 use Rattle.words.proofs.Demand.{put-demand, delete-demand}
 use Rattle.words.proofs.MapAfter.{put-enters, delete-takes-out, put-refused-words, delete-refused-words, put-full-only}
 use Rattle.entry.specs.declared.Opened.the-variants.{Ready, Refused}
@@ -55,23 +62,51 @@ delete-done ws k r out e =
     }
 
 -- A store that is turned down.
-module _ (ws : List ℕ) (n : ℕ) (e : checkedOf ws ≡ Refused n) where
-  pub put-refused : (k v : ℕ) → PutDone ws k v (changed.Refused n) ws
-  unfolding putOf
-  put-refused k v = put-done ws k v (changed.Refused n) ws (rw (refused-test ws n e, putOf, checked-refused ws n e .0) (refused-outcome (geometryAt ws) ws n))
+module _ (ws : List ℕ) (n : ℕ) (e : checkedOf ws ≡ Refused n) (rows : List (List ℕ)) where
+  pub put-refused : (k v : ℕ) → PutDone ws k v (changed.Refused n) ws × Filed (putTickets ws k v) rows rows
+  unfolding putOf putTickets
+  put-refused k v =
+      (put-done ws k v (changed.Refused n) ws (rw (refused-test ws n e, putOf, checked-refused ws n e .0) (refused-outcome (geometryAt ws) ws n)), filed-none _ rows (rw (refused-test ws n e, putTickets)))
 
-  pub delete-refused : (k : ℕ) → DeleteDone ws k (changed.Refused n) ws
-  unfolding deleteOf
-  delete-refused k = delete-done ws k (changed.Refused n) ws (rw (refused-test ws n e, deleteOf, checked-refused ws n e .0) (refused-outcome (geometryAt ws) ws n))
+  pub delete-refused : (k : ℕ) → DeleteDone ws k (changed.Refused n) ws × Filed (deleteTickets ws k) rows rows
+  unfolding deleteOf deleteTickets
+  delete-refused k =
+      (delete-done ws k (changed.Refused n) ws (rw (refused-test ws n e, deleteOf, checked-refused ws n e .0) (refused-outcome (geometryAt ws) ws n)), filed-none _ rows (rw (refused-test ws n e, deleteTickets)))
 
 -- A store that passes.
-module _ (ws : List ℕ) (g : Geometry) (e : checkedOf ws ≡ Ready g) where
-  pub put-ready : (k v : ℕ) (r : Changed) (out : List ℕ) → _≡_ {A = Outcome ChangeAnswer} (record { answer = changedAnswer r; words = out }) (changeOutcome g ws (put g (storeAt g ws) k v)) → PutDone ws k v r out
+module _ (ws : List ℕ) (g : Geometry) (e : checkedOf ws ≡ Ready g) (rows rows' : List (List ℕ)) where
+  pub put-ready : (k v : ℕ) (r : Changed) (out : List ℕ)
+      → _≡_ {A = Outcome ChangeAnswer} (record { answer = changedAnswer r; words = out }) (changeOutcome g ws (put g (storeAt g ws) k v)) × Filed (ticketsOf g (mergesOf (put g (storeAt g ws) k v))) rows rows'
+      → PutDone ws k v r out × Filed (putTickets ws k v) rows rows'
   put-ready k v r out h =
-      let z = checked-ready ws g e in
-      put-done ws k v r out (h ∙ ap (λ (t : Geometry). changeOutcome t ws (put t (storeAt t ws) k v)) (z .0) ∙ sym (put-of ws k v (z .1)))
+      let z = checked-ready ws g e in (
+        put-done ws k v r out (h .0 ∙ ap (λ (t : Geometry). changeOutcome t ws (put t (storeAt t ws) k v)) (z .0) ∙ sym (put-of ws k v (z .1))),
+        filed-by _ _ rows rows' (put-tickets ws k v (z .1) ∙ ap (λ (t : Geometry). ticketsOf t (mergesOf (put t (storeAt t ws) k v))) (sym (z .0))) (h .1),
+      )
 
-  pub delete-ready : (k : ℕ) (r : Changed) (out : List ℕ) → _≡_ {A = Outcome ChangeAnswer} (record { answer = changedAnswer r; words = out }) (changeOutcome g ws (delete g (storeAt g ws) k)) → DeleteDone ws k r out
+  pub delete-ready : (k : ℕ) (r : Changed) (out : List ℕ)
+      → _≡_ {A = Outcome ChangeAnswer} (record { answer = changedAnswer r; words = out }) (changeOutcome g ws (delete g (storeAt g ws) k)) × Filed (ticketsOf g (mergesOf (delete g (storeAt g ws) k))) rows rows'
+      → DeleteDone ws k r out × Filed (deleteTickets ws k) rows rows'
   delete-ready k r out h =
-      let z = checked-ready ws g e in
-      delete-done ws k r out (h ∙ ap (λ (t : Geometry). changeOutcome t ws (delete t (storeAt t ws) k)) (z .0) ∙ sym (delete-of ws k (z .1)))
+      let z = checked-ready ws g e in (
+        delete-done ws k r out (h .0 ∙ ap (λ (t : Geometry). changeOutcome t ws (delete t (storeAt t ws) k)) (z .0) ∙ sym (delete-of ws k (z .1))),
+        filed-by _ _ rows rows' (delete-tickets ws k (z .1) ∙ ap (λ (t : Geometry). ticketsOf t (mergesOf (delete t (storeAt t ws) k))) (sym (z .0))) (h .1),
+      )
+
+-- The merges that an answer counts are as many as there are tickets, which are few.
+pub put-merges : (ws : List ℕ) (k v : ℕ) (r : Changed) (out : List ℕ) → PutDone ws k v r out → (mergesCounted (changedAnswer r) ≡ length (putTickets ws k v)) × (length (putTickets ws k v) ≤ 512)
+put-merges ws k v r out d = (ap (λ (x : Outcome ChangeAnswer). mergesCounted (x .answer)) (d .outcome) ∙ sym (put-tickets-counted ws k v), put-tickets-few ws k v)
+
+pub delete-merges : (ws : List ℕ) (k : ℕ) (r : Changed) (out : List ℕ) → DeleteDone ws k r out → (mergesCounted (changedAnswer r) ≡ length (deleteTickets ws k)) × (length (deleteTickets ws k) ≤ 512)
+delete-merges ws k r out d = (ap (λ (x : Outcome ChangeAnswer). mergesCounted (x .answer)) (d .outcome) ∙ sym (delete-tickets-counted ws k), delete-tickets-few ws k)
+
+-- 512 rows hold them all
+pub rows-hold : (ts : List Ticket) (rows rows' : List (List ℕ)) (m n : ℕ) → (m ≡ length ts) × (length ts ≤ 512) → n ≡ m → length rows ≡ 512 → Filed ts rows rows' → (n ≤ 512) × (n ≤ length rows')
+rows-hold ts rows rows' m n few e l f = (omega (arith, few .0, few .1, e), omega (arith, few .0, few .1, e, l, ap length f, laid-length (rowsOf ts) rows))
+
+-- what was done, of an answer that is handed on
+pub put-handed : (ws : List ℕ) (k v : ℕ) (r r' : Changed) (out : List ℕ) → r' ≡ r → PutDone ws k v r out → PutDone ws k v r' out
+put-handed ws k v r r' out e d = subst (λ (x : Changed). PutDone ws k v x out) (sym e) d
+
+pub delete-handed : (ws : List ℕ) (k : ℕ) (r r' : Changed) (out : List ℕ) → r' ≡ r → DeleteDone ws k r out → DeleteDone ws k r' out
+delete-handed ws k r r' out e d = subst (λ (x : Changed). DeleteDone ws k x out) (sym e) d

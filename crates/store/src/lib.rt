@@ -4,7 +4,10 @@ ghost use mathlib.Core.Path.{_≡_};
 ghost use Prim.Native.Nat.{_≤_};
 ghost use lib.ListN.{length};
 ghost use Rattle.geometry.specs.Geometry.{Valid, keyLimitOf};
-ghost use Rattle.words.specs.Calls.{Outcome, FormatAnswer, StretchAnswer, StretchOutcome, formatOf, checkOf, lookUpOf, nextOf, stretchOf, showOf, aboutOf};
+ghost use Rattle.levels.specs.Tickets.{laid};
+ghost use Rattle.words.specs.Rows.{rowsOf};
+ghost use Rattle.words.specs.Calls.{Outcome, FormatAnswer, StretchAnswer, StretchOutcome, formatOf, checkOf, lookUpOf, nextOf, stretchOf, showOf, aboutOf, putTickets, deleteTickets};
+ghost use Rattle.tickets.specs.Gathering.{ticketsIn};
 ghost use Rattle.reader.specs.Answers.{lookedAnswer, nextedAnswer, stretchAnswer, toldAnswer};
 ghost use Rattle.store.specs.Answers.{formatAnswer};
 ghost use Rattle.store.specs.Change.{PutDone, DeleteDone};
@@ -12,11 +15,13 @@ ghost use Rattle.store.specs.Format.{headed};
 ghost use Rattle.store.specs.Show.{showPart};
 use entry::Opened;
 use geometry::Geometry;
+use levels::Ticket;
 use reader::Looked;
 use reader::Nexted;
 use reader::Part;
 use reader::Stretched;
 use reader::Told;
+use tickets::Gathered;
 use writer::Changed;
 
 // N, or the reason that the words or the geometry are turned down for.
@@ -144,18 +149,72 @@ pub fn about(s: &[u32]) -> Told
 pub fn put(s: &mut [u32], k: u32, v: u32) -> Changed
     ensures { λ r. ⌜ PutDone (now (s .entry)) k v r (now (s .exit)) ⌝ }
 {
-    match form::check(s) {
-        Opened::Refused(n) => Changed::Refused(n),
-        Opened::Ready(g) => writer::put_ready(s, g, k, v),
-    }
+    let mut none = [[0u32; 4]; 0];
+    put_rows(s, k, v, &mut none)
 }
 
 // k out of the map.
 pub fn delete(s: &mut [u32], k: u32) -> Changed
     ensures { λ r. ⌜ DeleteDone (now (s .entry)) k r (now (s .exit)) ⌝ }
 {
+    let mut none = [[0u32; 4]; 0];
+    delete_rows(s, k, &mut none)
+}
+
+// Put, and the tickets of its merges as rows of four words, as many as there are rows.
+pub fn put_rows(s: &mut [u32], k: u32, v: u32, rows: &mut [[u32; 4]]) -> Changed
+    ensures { λ r. ⌜ PutDone (now (s .entry)) k v r (now (s .exit))
+        × (now (rows .exit) ≡ laid (rowsOf (putTickets (now (s .entry)) k v)) (now (rows .entry))) ⌝ }
+{
     match form::check(s) {
         Opened::Refused(n) => Changed::Refused(n),
-        Opened::Ready(g) => writer::delete_ready(s, g, k),
+        Opened::Ready(g) => writer::put_ready(s, g, k, v, rows),
     }
+}
+
+// The same for delete.
+pub fn delete_rows(s: &mut [u32], k: u32, rows: &mut [[u32; 4]]) -> Changed
+    ensures { λ r. ⌜ DeleteDone (now (s .entry)) k r (now (s .exit))
+        × (now (rows .exit) ≡ laid (rowsOf (deleteTickets (now (s .entry)) k)) (now (rows .entry))) ⌝ }
+{
+    match form::check(s) {
+        Opened::Refused(n) => Changed::Refused(n),
+        Opened::Ready(g) => writer::delete_ready(s, g, k, rows),
+    }
+}
+
+// A put, with the tickets of all its merges.
+fn gather_put(s: &mut [u32], k: u32, v: u32) -> Gathered
+    ensures { λ r. ⌜ PutDone (now (s .entry)) k v (r .changed) (now (s .exit)) × (ticketsIn r ≡ putTickets (now (s .entry)) k v) ⌝ }
+{
+    let mut rows = [[0u32; 4]; tickets::ROOM];
+    let changed = put_rows(s, k, v, &mut rows);
+    tickets::gather(changed, &rows, writer::merges(changed))
+}
+
+// A delete, with the tickets of all its merges.
+fn gather_delete(s: &mut [u32], k: u32) -> Gathered
+    ensures { λ r. ⌜ DeleteDone (now (s .entry)) k (r .changed) (now (s .exit)) × (ticketsIn r ≡ deleteTickets (now (s .entry)) k) ⌝ }
+{
+    let mut rows = [[0u32; 4]; tickets::ROOM];
+    let changed = delete_rows(s, k, &mut rows);
+    tickets::gather(changed, &rows, writer::merges(changed))
+}
+
+// Put, and a ticket for each of its merges into the caller's list, in their order, as many as fit (document 02, card 3).
+pub fn put_tickets(s: &mut [u32], k: u32, v: u32, tickets: &mut [Ticket]) -> Changed
+    ensures { λ r. ⌜ PutDone (now (s .entry)) k v r (now (s .exit))
+        × (now (tickets .exit) ≡ laid (putTickets (now (s .entry)) k v) (now (tickets .entry))) ⌝ }
+{
+    let r = gather_put(s, k, v);
+    tickets::hand_out(tickets, r)
+}
+
+// Delete, and a ticket for each of its merges.
+pub fn delete_tickets(s: &mut [u32], k: u32, tickets: &mut [Ticket]) -> Changed
+    ensures { λ r. ⌜ DeleteDone (now (s .entry)) k r (now (s .exit))
+        × (now (tickets .exit) ≡ laid (deleteTickets (now (s .entry)) k) (now (tickets .entry))) ⌝ }
+{
+    let r = gather_delete(s, k);
+    tickets::hand_out(tickets, r)
 }

@@ -72,7 +72,7 @@ none-rules : (g : Geometry) (s : Store) → Valid g → Fits g s → ListRules g
 none-rules g s v f = record { facts = tt; chained = tt; first = tt; later = tt; ended = fits-within g s v f }
 
 -- the counts of an answer that takes them from a list
-counted : (a : ChangeAnswer) (ms : List Merge) → a .level1 ≡ countsOf 1 ms → a .level2 ≡ countsOf 2 ms → a .level3 ≡ countsOf 3 ms → (i : ℕ) → 1 ≤ i → i ≤ 3 → countsAt a i ≡ countsOf i ms
+pub counted : (a : ChangeAnswer) (ms : List Merge) → a .level1 ≡ countsOf 1 ms → a .level2 ≡ countsOf 2 ms → a .level3 ≡ countsOf 3 ms → (i : ℕ) → 1 ≤ i → i ≤ 3 → countsAt a i ≡ countsOf i ms
 counted a ms x y z zero l h = absurd (omega arith)
 counted a ms x y z (suc zero) l h = x
 counted a ms x y z (suc (suc zero)) l h = y

@@ -1,5 +1,6 @@
 pub mod Each
 pub mod Parts
+pub mod Rows
 pub mod Slots
 pub mod Ranks
 pub mod Blocks
@@ -11,6 +12,7 @@ pub mod Form
 pub mod Reason
 pub mod Steps
 pub mod Demand
+pub mod Tickets
 pub mod Formatted
 pub mod MapAfter
 pub mod Stretch

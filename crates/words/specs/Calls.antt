@@ -1,5 +1,5 @@
 -- Document 01, "Calls": each call as a function from the lent words and its arguments to its answer and the lent words afterwards.
-use Prim.Native.Nat.{ℕ, _-_, min}
+use Prim.Native.Nat.{ℕ, _+_, _-_, min}
 use mathlib.Core.Bool.{Bool, true, false}
 use mathlib.Core.List.{List, [], _∷_, _++_}
 use mathlib.Core.Option.{Option, none, some}
@@ -11,8 +11,10 @@ use Rattle.levels.specs.Record.{Rec, Block, Level, firstKey, lastKey}
 use Rattle.levels.specs.Map.{mapOf, liveCount, lookUp, next, stretch}
 use Rattle.levels.specs.Store.{Store, rows, blocksOf}
 use Rattle.levels.specs.Call.{Compaction, Merge}
-use Rattle.levels.specs.Put.{Change, refused, absent, entered, put, delete}
+use Rattle.levels.specs.Put.{Change, refused, absent, entered, put, delete, mergesOf}
 use Rattle.levels.specs.Count.{Counts, countsOf}
+use Rattle.levels.specs.declared.Ticket.{Ticket}
+use Rattle.levels.specs.Tickets.{ticketsOf}
 use Rattle.words.specs.Layout.{geometryAt, storeAt, storeWords, areaOf, writeBlocks, levelAt, placeOf, keysOf, paysOf}
 use Rattle.words.specs.Form.{reasonOf}
 
@@ -215,3 +217,14 @@ unfoldable pub deleteOf : List ℕ → ℕ → Outcome ChangeAnswer
 deleteOf ws k =
     let g = geometryAt ws in
     changeOutcome g ws (elim (eqb (reasonOf ws) 0) [ true ↦ delete g (storeAt g ws) k | false ↦ refused (reasonOf ws) ])
+
+-- Document 02, card 3: the tickets of the merges that a put and a delete make; there are none where the store is turned down
+unfoldable pub putTickets : List ℕ → ℕ → ℕ → List Ticket
+putTickets ws k v = let g = geometryAt ws in elim (eqb (reasonOf ws) 0) [ true ↦ ticketsOf g (mergesOf (put g (storeAt g ws) k v)) | false ↦ [] ]
+
+unfoldable pub deleteTickets : List ℕ → ℕ → List Ticket
+deleteTickets ws k = let g = geometryAt ws in elim (eqb (reasonOf ws) 0) [ true ↦ ticketsOf g (mergesOf (delete g (storeAt g ws) k)) | false ↦ [] ]
+
+-- the merges into levels 1 to 3 that an answer counts
+abbrev pub mergesCounted : ChangeAnswer → ℕ
+mergesCounted a = a .level1 .merges + a .level2 .merges + a .level3 .merges

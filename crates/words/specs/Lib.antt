@@ -1,6 +1,7 @@
 pub mod Layout
 pub mod Form
 pub mod Calls
+pub mod Rows
 pub mod Passed
 pub mod Demand
 pub mod History

@@ -1,5 +1,5 @@
 -- What the proofs of put and delete need: of a store that passes, each answer of the code is the definition's.
-use Prim.Native.Nat.{ℕ, suc, _+_, _-_}
+use Prim.Native.Nat.{ℕ, suc, _+_, _-_, _≤_}
 use mathlib.Core.Path.{_≡_, refl, sym, ap, _∙_, subst}
 use mathlib.Core.Bool.{Bool, true, false, not}
 use mathlib.Core.List.{List, []}
@@ -12,16 +12,20 @@ use Rattle.geometry.specs.Geometry.{keyLimitOf}
 use Rattle.levels.specs.Basics.{if_then_else_, isSome}
 use Rattle.levels.specs.Record.{Rec}
 use Rattle.levels.specs.Map.{decides, present, lookUp, isLive}
-use Rattle.levels.specs.Store.{rows}
-use Rattle.levels.specs.Put.{refused, absent, enter, put, delete, putRec, deleteRec}
+use Rattle.levels.specs.Store.{Store, rows}
+use Rattle.levels.specs.Put.{Change, refused, absent, enter, put, delete, putRec, deleteRec, mergesFor, mergesOf}
+use Rattle.levels.specs.Tickets.{ticketsOf}
 use Rattle.levels.specs.Count.{Counts, countsOf}
 use Rattle.levels.proofs.PutDelete.{enter-is, put-live, put-full, put-new, delete-live, delete-absent}
 use Rattle.words.specs.Layout.{liveAt, storeAt}
-use Rattle.words.specs.Calls.{Outcome, ChangeAnswer, changeOutcome}
+use Rattle.words.proofs.Rows.{Filed, filed-none, filed-by}
+use Rattle.words.specs.Calls.{Outcome, ChangeAnswer, changeOutcome, mergesCounted}
 use Rattle.search.specs.declared.Found.{Found}
 use Rattle.search.specs.Search.{foundOf}
 use Rattle.steps.specs.declared.Tally.{Tally}
+use Rattle.writer.specs.declared.Changed.{Changed}
 use Rattle.writer.specs.declared.Changed.the-variants as changed
+use Rattle.writer.specs.declared.Change as writer
 use Rattle.writer.specs.Answers.{changedAnswer}
 use Rattle.writer.specs.Change.{liveFound, Counted, Entered}
 
@@ -63,31 +67,52 @@ pub absent-outcome : (g : Geometry) (ws : List ℕ) (t : Tally) → Counted t []
 unfolding changeOutcome
 absent-outcome g ws t n = same-outcome false _ _ _ _ _ _ ws ws (n .one) (n .two) (n .three) refl
 
+-- a record entered, as the change of the definition, with its tickets
+enter-filed : (g : Geometry) (s : Store) (r : Rec) (was : Bool) (live : ℕ) (c : Change) (rows rows' : List (List ℕ)) → c ≡ enter g s r was live → Filed (ticketsOf g (mergesFor g s (r .key))) rows rows' → Filed (ticketsOf g (mergesOf c)) rows rows'
+unfolding mergesOf
+enter-filed g s r was live c rows rows' e f = filed-by _ _ rows rows' (ap (λ (d : Change). ticketsOf g (mergesOf d)) (e ∙ enter-is g s r was live)) f
+
 -- The cases of put and delete, of a store that passes.
-module _ (g : Geometry) (ws : List ℕ) (k : ℕ) where
-  pub put-over : (v : ℕ) (t : Tally) (out : List ℕ) → isLive k (rows (storeAt g ws)) ≡ true → Entered g ws (putRec k v) (liveAt ws) t out
-      → _≡_ {A = Outcome ChangeAnswer} (record { answer = changedAnswer (changed.Done (record { live = true; tally = t })); words = out }) (changeOutcome g ws (put g (storeAt g ws) k v))
-  unfolding storeAt
-  put-over v t out h e = enter-outcome g ws (putRec k v) true (liveAt ws) t out e ∙ ap (changeOutcome g ws) (sym (put-live g (storeAt g ws) k v h))
-
+module _ (g : Geometry) (ws : List ℕ) (k : ℕ) (rows0 : List (List ℕ)) where
   pub put-turned : (v : ℕ) → isLive k (rows (storeAt g ws)) ≡ false → liveAt ws ≡ keyLimitOf g
-      → _≡_ {A = Outcome ChangeAnswer} (record { answer = changedAnswer (changed.Refused 5); words = ws }) (changeOutcome g ws (put g (storeAt g ws) k v))
-  unfolding storeAt
-  put-turned v h l = refused-outcome g ws 5 ∙ ap (changeOutcome g ws) (sym (put-full g (storeAt g ws) k v h (eq-eqb (liveAt ws) (keyLimitOf g) l)))
-
-  pub put-added : (v : ℕ) (t : Tally) (out : List ℕ) → isLive k (rows (storeAt g ws)) ≡ false → liveAt ws ≢ keyLimitOf g → Entered g ws (putRec k v) (liveAt ws + 1) t out
-      → _≡_ {A = Outcome ChangeAnswer} (record { answer = changedAnswer (changed.Done (record { live = false; tally = t })); words = out }) (changeOutcome g ws (put g (storeAt g ws) k v))
-  unfolding storeAt
-  put-added v t out h l e =
-      let q : liveAt ws + 1 ≡ suc (liveAt ws) = omega arith in
-      enter-outcome g ws (putRec k v) false (suc (liveAt ws)) t out (subst (λ (n : ℕ). Entered g ws (putRec k v) n t out) q e)
-      ∙ ap (changeOutcome g ws) (sym (put-new g (storeAt g ws) k v h (ne-eqb (liveAt ws) (keyLimitOf g) l)))
-
-  pub delete-over : (t : Tally) (out : List ℕ) → isLive k (rows (storeAt g ws)) ≡ true → Entered g ws (deleteRec k) (liveAt ws - 1) t out
-      → _≡_ {A = Outcome ChangeAnswer} (record { answer = changedAnswer (changed.Done (record { live = true; tally = t })); words = out }) (changeOutcome g ws (delete g (storeAt g ws) k))
-  unfolding storeAt
-  delete-over t out h e = enter-outcome g ws (deleteRec k) true (liveAt ws - 1) t out e ∙ ap (changeOutcome g ws) (sym (delete-live g (storeAt g ws) k h))
+      → _≡_ {A = Outcome ChangeAnswer} (record { answer = changedAnswer (changed.Refused 5); words = ws }) (changeOutcome g ws (put g (storeAt g ws) k v)) × Filed (ticketsOf g (mergesOf (put g (storeAt g ws) k v))) rows0 rows0
+  unfolding storeAt mergesOf
+  put-turned v h l =
+      let q = put-full g (storeAt g ws) k v h (eq-eqb (liveAt ws) (keyLimitOf g) l) in
+      (refused-outcome g ws 5 ∙ ap (changeOutcome g ws) (sym q), filed-none _ rows0 (ap (λ (c : Change). ticketsOf g (mergesOf c)) q))
 
   pub delete-none : (t : Tally) → isLive k (rows (storeAt g ws)) ≡ false → Counted t []
-      → _≡_ {A = Outcome ChangeAnswer} (record { answer = changedAnswer (changed.Done (record { live = false; tally = t })); words = ws }) (changeOutcome g ws (delete g (storeAt g ws) k))
-  delete-none t h n = absent-outcome g ws t n ∙ ap (changeOutcome g ws) (sym (delete-absent g (storeAt g ws) k h))
+      → _≡_ {A = Outcome ChangeAnswer} (record { answer = changedAnswer (changed.Done (record { live = false; tally = t })); words = ws }) (changeOutcome g ws (delete g (storeAt g ws) k)) × Filed (ticketsOf g (mergesOf (delete g (storeAt g ws) k))) rows0 rows0
+  unfolding mergesOf
+  delete-none t h n =
+      let q = delete-absent g (storeAt g ws) k h in
+      (absent-outcome g ws t n ∙ ap (changeOutcome g ws) (sym q), filed-none _ rows0 (ap (λ (c : Change). ticketsOf g (mergesOf c)) q))
+
+  module _ (rows1 : List (List ℕ)) where
+    pub put-over : (v : ℕ) (t : Tally) (out : List ℕ) → isLive k (rows (storeAt g ws)) ≡ true → Entered g ws (putRec k v) (liveAt ws) t out × Filed (ticketsOf g (mergesFor g (storeAt g ws) k)) rows0 rows1
+        → _≡_ {A = Outcome ChangeAnswer} (record { answer = changedAnswer (changed.Done (record { live = true; tally = t })); words = out }) (changeOutcome g ws (put g (storeAt g ws) k v)) × Filed (ticketsOf g (mergesOf (put g (storeAt g ws) k v))) rows0 rows1
+    unfolding storeAt
+    put-over v t out h e =
+        let q = put-live g (storeAt g ws) k v h in
+        (enter-outcome g ws (putRec k v) true (liveAt ws) t out (e .0) ∙ ap (changeOutcome g ws) (sym q), enter-filed g (storeAt g ws) (putRec k v) true (liveAt ws) _ rows0 rows1 q (e .1))
+
+    pub put-added : (v : ℕ) (t : Tally) (out : List ℕ) → isLive k (rows (storeAt g ws)) ≡ false → liveAt ws ≢ keyLimitOf g → Entered g ws (putRec k v) (liveAt ws + 1) t out × Filed (ticketsOf g (mergesFor g (storeAt g ws) k)) rows0 rows1
+        → _≡_ {A = Outcome ChangeAnswer} (record { answer = changedAnswer (changed.Done (record { live = false; tally = t })); words = out }) (changeOutcome g ws (put g (storeAt g ws) k v)) × Filed (ticketsOf g (mergesOf (put g (storeAt g ws) k v))) rows0 rows1
+    unfolding storeAt
+    put-added v t out h l e =
+        let n : liveAt ws + 1 ≡ suc (liveAt ws) = omega arith in
+        let q = put-new g (storeAt g ws) k v h (ne-eqb (liveAt ws) (keyLimitOf g) l) in (
+          enter-outcome g ws (putRec k v) false (suc (liveAt ws)) t out (subst (λ (n : ℕ). Entered g ws (putRec k v) n t out) n (e .0)) ∙ ap (changeOutcome g ws) (sym q),
+          enter-filed g (storeAt g ws) (putRec k v) false (suc (liveAt ws)) _ rows0 rows1 q (e .1),
+        )
+
+    pub delete-over : (t : Tally) (out : List ℕ) → isLive k (rows (storeAt g ws)) ≡ true → Entered g ws (deleteRec k) (liveAt ws - 1) t out × Filed (ticketsOf g (mergesFor g (storeAt g ws) k)) rows0 rows1
+        → _≡_ {A = Outcome ChangeAnswer} (record { answer = changedAnswer (changed.Done (record { live = true; tally = t })); words = out }) (changeOutcome g ws (delete g (storeAt g ws) k)) × Filed (ticketsOf g (mergesOf (delete g (storeAt g ws) k))) rows0 rows1
+    unfolding storeAt
+    delete-over t out h e =
+        let q = delete-live g (storeAt g ws) k h in
+        (enter-outcome g ws (deleteRec k) true (liveAt ws - 1) t out (e .0) ∙ ap (changeOutcome g ws) (sym q), enter-filed g (storeAt g ws) (deleteRec k) true (liveAt ws - 1) _ rows0 rows1 q (e .1))
+
+-- the merges that an answer counts are few
+pub done-few : (c : Changed) (d : writer.Change) → c ≡ changed.Done d → mergesCounted (changedAnswer c) ≤ 512 → d .tally .one .merges + d .tally .two .merges + d .tally .three .merges ≤ 512
+done-few c d e h = subst (λ (x : Changed). mergesCounted (changedAnswer x) ≤ 512) e h

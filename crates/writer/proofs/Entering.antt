@@ -37,6 +37,8 @@ use Rattle.form.proofs.Ready.{checked-ready}
 use Rattle.top.specs.Top.{TopReady, Room, withTop}
 use Rattle.top.proofs.Laws.{with-top-words, top-count-back, top-back, words-ready, top-rises, set-live}
 use Rattle.steps.specs.declared.Tally.{Tally}
+use Rattle.levels.specs.Tickets.{ticketsOf}
+use Rattle.words.proofs.Rows.{Filed, filed-none, filed-by}
 use Rattle.cascade.specs.Cascade.{FullStore, MergedAll}
 use Rattle.writer.specs.Change.{roomAt, withEntered, Counted, Entered}
 
@@ -226,3 +228,10 @@ module _ (ws : List ℕ) (g : Geometry) (e : checkedOf ws ≡ Ready g) where
     words = w ∙ merged-entered g ws (holds ws g e) (r .key) us (all-left (r .key) us t h m) r live;
     counts = subst (Counted t) (sym (all-made (r .key) h)) (record { one = m .one; two = m .two; three = m .three });
   }
+
+  -- The tickets of its merges are filed: none, and all.
+  pub none-filed : (k : ℕ) (rows : List (List ℕ)) → hasRoom g ws k ≡ true → Filed (ticketsOf g (mergesFor g (storeAt g ws) k)) rows rows
+  none-filed k rows h = filed-none _ rows (ap (ticketsOf g) (none-made k h))
+
+  pub all-filed : (k : ℕ) (rows rows' : List (List ℕ)) → hasRoom g ws k ≡ false → Filed (ticketsOf g (mergesFrom g (storeAt g ws))) rows rows' → Filed (ticketsOf g (mergesFor g (storeAt g ws) k)) rows rows'
+  all-filed k rows rows' h f = filed-by _ _ rows rows' (ap (ticketsOf g) (all-made k h)) f

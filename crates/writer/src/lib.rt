@@ -3,10 +3,14 @@
 ghost use mathlib.Core.Path.{_≡_};
 ghost use mathlib.Core.Bool.{true};
 ghost use mathlib.Core.List.{[]};
+ghost use Prim.Native.Nat.{_≤_};
 ghost use Rattle.slices.specs.Ranks.{rankOf};
-ghost use Rattle.levels.specs.Put.{put, delete};
+ghost use Rattle.levels.specs.Put.{put, delete, mergesFor, mergesOf};
+ghost use Rattle.levels.specs.Inside.{mergesMost};
+ghost use Rattle.levels.specs.Tickets.{ticketsOf, laid};
 ghost use Rattle.words.specs.Layout.{topRecs, keysOf, storeAt};
-ghost use Rattle.words.specs.Calls.{Outcome, ChangeAnswer, changeOutcome};
+ghost use Rattle.words.specs.Calls.{Outcome, ChangeAnswer, changeOutcome, mergesCounted};
+ghost use Rattle.words.specs.Rows.{rowsOf};
 ghost use Rattle.entry.specs.declared.Opened.the-variants.{Ready};
 ghost use Rattle.form.specs.Checked.{checkedOf};
 ghost use Rattle.top.specs.Top.{TopReady};
@@ -30,16 +34,17 @@ pub enum Changed {
     Refused(u32),
 }
 
-// v for k, over what k had, in a store that passes.
-pub fn put_ready(s: &mut [u32], g: Geometry, k: u32, v: u32) -> Changed
+// v for k, over what k had, in a store that passes; the tickets of its merges, as many as there are rows.
+pub fn put_ready(s: &mut [u32], g: Geometry, k: u32, v: u32, rows: &mut [[u32; 4]]) -> Changed
     requires { ⌜ checkedOf (now s) ≡ Ready g ⌝ }
     ensures { λ r. ⌜ _≡_ {A = Outcome ChangeAnswer} (record { answer = changedAnswer r; words = now (s .exit) })
-        (changeOutcome g (now (s .entry)) (put g (storeAt g (now (s .entry))) k v)) ⌝ }
+        (changeOutcome g (now (s .entry)) (put g (storeAt g (now (s .entry))) k v))
+        × (now (rows .exit) ≡ laid (rowsOf (ticketsOf g (mergesOf (put g (storeAt g (now (s .entry))) k v)))) (now (rows .entry))) ⌝ }
 {
     let was = is_live(reader::find_key(s, g, k as usize));
     let live = s[6];
     if was {
-        let t = enter_record(s, g, k, false, v, live);
+        let t = enter_record(s, g, k, false, v, live, rows);
         return Changed::Done(Change {
             live: true,
             tally: t,
@@ -48,23 +53,24 @@ pub fn put_ready(s: &mut [u32], g: Geometry, k: u32, v: u32) -> Changed
     if live as usize == g.key_limit() {
         return Changed::Refused(5);
     }
-    let t = enter_record(s, g, k, false, v, live + 1);
+    let t = enter_record(s, g, k, false, v, live + 1, rows);
     Changed::Done(Change {
         live: false,
         tally: t,
     })
 }
 
-// k out of the map, of a store that passes.
-pub fn delete_ready(s: &mut [u32], g: Geometry, k: u32) -> Changed
+// k out of the map, of a store that passes; the tickets of its merges, as many as there are rows.
+pub fn delete_ready(s: &mut [u32], g: Geometry, k: u32, rows: &mut [[u32; 4]]) -> Changed
     requires { ⌜ checkedOf (now s) ≡ Ready g ⌝ }
     ensures { λ r. ⌜ _≡_ {A = Outcome ChangeAnswer} (record { answer = changedAnswer r; words = now (s .exit) })
-        (changeOutcome g (now (s .entry)) (delete g (storeAt g (now (s .entry))) k)) ⌝ }
+        (changeOutcome g (now (s .entry)) (delete g (storeAt g (now (s .entry))) k))
+        × (now (rows .exit) ≡ laid (rowsOf (ticketsOf g (mergesOf (delete g (storeAt g (now (s .entry))) k)))) (now (rows .entry))) ⌝ }
 {
     let was = is_live(reader::find_key(s, g, k as usize));
     if was {
         let live = s[6];
-        let t = enter_record(s, g, k, true, 0, live - 1);
+        let t = enter_record(s, g, k, true, 0, live - 1, rows);
         return Changed::Done(Change {
             live: true,
             tally: t,
@@ -103,16 +109,25 @@ fn no_tally() -> Tally
 }
 
 // A record into level 0, after the merges that make room for it there.
-fn enter_record(s: &mut [u32], g: Geometry, k: u32, mark: bool, v: u32, live: u32) -> Tally
+fn enter_record(
+    s: &mut [u32],
+    g: Geometry,
+    k: u32,
+    mark: bool,
+    v: u32,
+    live: u32,
+    rows: &mut [[u32; 4]],
+) -> Tally
     requires { ⌜ checkedOf (now s) ≡ Ready g ⌝ }
-    ensures { λ r. ⌜ Entered g (now (s .entry)) (record { key = k; tombstone = mark; pay = v }) live r (now (s .exit)) ⌝ }
+    ensures { λ r. ⌜ Entered g (now (s .entry)) (record { key = k; tombstone = mark; pay = v }) live r (now (s .exit))
+        × (now (rows .exit) ≡ laid (rowsOf (ticketsOf g (mergesFor g (storeAt g (now (s .entry))) k))) (now (rows .entry))) ⌝ }
 {
     let at = top::locate(s, g, k);
     if has_room(s, g, at) {
         place_record(s, g, at, k, mark, v, live);
         return no_tally();
     }
-    let t = cascade::merge_all(s, g);
+    let t = cascade::merge_all(s, g, rows);
     let after = top::locate(s, g, k);
     place_record(s, g, after, k, mark, v, live);
     t
@@ -137,4 +152,20 @@ fn place_record(s: &mut [u32], g: Geometry, at: Rank, k: u32, mark: bool, v: u32
 {
     top::enter(s, g, at, k, mark, v);
     s[6] = live;
+}
+
+// The merges that a put or delete has made.
+pub fn merges(changed: Changed) -> usize
+    requires { ⌜ mergesCounted (changedAnswer changed) ≤ mergesMost ⌝ }
+    ensures { λ n. ⌜ n ≡ mergesCounted (changedAnswer changed) ⌝ }
+{
+    match changed {
+        Changed::Refused(_) => 0,
+        Changed::Done(change) => {
+            let one = change.tally.one;
+            let two = change.tally.two;
+            let three = change.tally.three;
+            one.merges + two.merges + three.merges
+        }
+    }
 }

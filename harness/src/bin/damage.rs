@@ -12,8 +12,9 @@ use harness::search::Search;
 use std::process::ExitCode;
 use std::time::{Duration, Instant};
 
-/// Damaged stores, and calls, that a run must at least have.
+/// Damaged stores, and calls, that a run must at least have, and tickets filled.
 const ENOUGH: u64 = 100_000;
+const ENOUGH_TICKETS: u64 = 1_000;
 
 fn main() -> ExitCode {
     match Asked::read() {
@@ -37,14 +38,16 @@ fn search(seed: u64, first: u64, time: Duration) -> ExitCode {
             println!("{}\n{report}", search.counts);
             return ExitCode::FAILURE;
         }
-        let enough = search.counts.damaged >= ENOUGH && search.counts.calls >= ENOUGH;
+        let counts = &search.counts;
+        let enough = counts.damaged >= ENOUGH
+            && counts.calls >= ENOUGH
+            && counts.tickets.filled >= ENOUGH_TICKETS;
         if time.is_zero() || start.elapsed() >= time && enough {
             break;
         }
         if start.elapsed() >= 2 * time {
             println!(
-                "{}\nfewer than {ENOUGH} damaged stores or calls",
-                search.counts
+                "{counts}\nfewer than {ENOUGH} damaged stores or calls, or {ENOUGH_TICKETS} tickets"
             );
             return ExitCode::FAILURE;
         }

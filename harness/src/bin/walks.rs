@@ -1,9 +1,10 @@
 //! `walks SECONDS [SEED]`: looks for a difference between the verified store, the
-//! reference and a plain map in histories of puts and deletes with stretches between
-//! them, for so many seconds, and on till it has seen enough of them. Ends with 1 at
-//! the first difference, or if ten times the time is not enough.
+//! reference and a plain map in histories of puts and deletes, half of them with
+//! tickets, with stretches between them, for so many seconds, and on till it has seen
+//! enough of both. Ends with 1 at the first difference, or if ten times the time is not
+//! enough.
 //! `walks --repeat SEED HISTORY` runs one history; `walks --self-test` plants faults
-//! in stretches and sees each of them reported.
+//! in stretches and tickets and sees each of them reported.
 
 use harness::asked::Asked;
 use harness::calls::{Library, Package};
@@ -13,7 +14,7 @@ use std::process::ExitCode;
 use std::time::{Duration, Instant};
 
 /// Stretches that a run must at least have of those that wrote records and said that
-/// more follow.
+/// more follow, and tickets.
 const ENOUGH: u64 = 1_000;
 
 fn main() -> ExitCode {
@@ -38,12 +39,13 @@ fn walks(seed: u64, first: u64, time: Duration) -> ExitCode {
             println!("{}\n{report}", walks.counts);
             return ExitCode::FAILURE;
         }
-        let enough = walks.counts.stretches.cut >= ENOUGH;
+        let counts = &walks.counts;
+        let enough = counts.stretches.cut >= ENOUGH && counts.tickets.filled >= ENOUGH;
         if time.is_zero() || start.elapsed() >= time && enough {
             break;
         }
         if start.elapsed() >= 10 * time {
-            println!("{}\nfewer than {ENOUGH} stretches with more", walks.counts);
+            println!("{counts}\nfewer than {ENOUGH} stretches with more or tickets");
             return ExitCode::FAILURE;
         }
     }
@@ -52,10 +54,11 @@ fn walks(seed: u64, first: u64, time: Duration) -> ExitCode {
     ExitCode::SUCCESS
 }
 
-/// Plants each fault of a sound store's stretches and runs histories till it is reported.
+/// Plants each fault of a sound store's stretches and tickets and runs histories till it is
+/// reported.
 fn self_test() -> ExitCode {
     let mut missed = 0;
-    for fault in Fault::STRETCHES {
+    for fault in Fault::HISTORIES {
         let store = Planted {
             store: Library,
             fault,
@@ -73,7 +76,7 @@ fn self_test() -> ExitCode {
             }
         }
     }
-    let planted = Fault::STRETCHES.len();
+    let planted = Fault::HISTORIES.len();
     println!("{planted} faults planted, {missed} not reported");
     ExitCode::from(u8::from(missed > 0))
 }

@@ -5,7 +5,7 @@ use super::form::wasteful;
 use super::shape::{Shape, COUNTS, CURSOR, MOST_SLOTS};
 use super::top;
 use super::weave::{Side, Weave, MOST_BLOCKS};
-use crate::calls::Counts;
+use crate::calls::{Counts, Ticket};
 
 /// The slots of one level in key order.
 struct List {
@@ -69,12 +69,17 @@ impl<'a> Work<'a> {
         }
     }
 
-    /// All merges of a call that finds level 0 full.
-    pub fn merge_all(mut self, counts: &mut [Counts; 3]) {
+    /// All merges of a call that finds level 0 full, with tickets for the first ones.
+    pub fn merge_all(mut self, counts: &mut [Counts; 3], tickets: &mut [Ticket]) {
+        let mut tickets = tickets.iter_mut();
         let mut level = 0;
         loop {
+            let ticket = self.merge(level);
             counts[level].merges += 1;
-            counts[level].merge_writes += self.merge(level) as u32;
+            counts[level].merge_writes += ticket.written;
+            if let Some(lent) = tickets.next() {
+                *lent = ticket;
+            }
             if level > 0 {
                 counts[level - 1].compaction_writes += self.compact(level) as u32;
             }
@@ -166,8 +171,8 @@ impl<'a> Work<'a> {
         best
     }
 
-    /// Steps 1 to 4 of a merge from level `upper`; answers the blocks written.
-    fn merge(&mut self, upper: usize) -> usize {
+    /// Steps 1 to 4 of a merge from level `upper`; answers its ticket.
+    fn merge(&mut self, upper: usize) -> Ticket {
         let (shape, w) = (self.shape, self.shape.window[upper]);
         let run = self.choose(upper, w);
         self.mark();
@@ -189,7 +194,7 @@ impl<'a> Work<'a> {
         let start = run.start.saturating_sub(1);
         lower.splice(start, run.end + usize::from(gone), weave.placed());
         self.cursor = weave.cursor;
-        let writes = weave.writes + usize::from(joined.is_some());
+        let written = weave.writes + usize::from(joined.is_some());
         match above.last_mut() {
             None => top::remove(self.s, shape, run.first, w),
             Some(list) => match joined {
@@ -197,7 +202,12 @@ impl<'a> Work<'a> {
                 Some(slot) => list.splice(run.first - 1, run.first + w + 1, &[slot]),
             },
         }
-        writes
+        Ticket {
+            level: upper as u32,
+            first: run.first as u32,
+            overlap: (run.end - run.start) as u32,
+            written: written as u32,
+        }
     }
 
     /// Step 2's new block, if the neighbours of the run hold B or fewer.

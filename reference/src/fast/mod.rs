@@ -14,7 +14,7 @@ mod top;
 mod walk;
 mod weave;
 
-use crate::calls::{About, Changed, Counts, Formatted, Found, Next, Stretched};
+use crate::calls::{About, Changed, Counts, Formatted, Found, Next, Stretched, Ticket};
 use merge::Work;
 use shape::Shape;
 use stretch::Lent;
@@ -143,6 +143,16 @@ pub fn about(s: &[u32]) -> About {
 
 /// Put k, v.
 pub fn put(s: &mut [u32], key: u32, payload: u32) -> Changed {
+    put_tickets(s, key, payload, &mut [])
+}
+
+/// Delete k.
+pub fn delete(s: &mut [u32], key: u32) -> Changed {
+    delete_tickets(s, key, &mut [])
+}
+
+/// Put k, v, with a ticket for each merge.
+pub fn put_tickets(s: &mut [u32], key: u32, payload: u32, tickets: &mut [Ticket]) -> Changed {
     let shape = match form::check(s) {
         Err(refusal) => return refused(refusal),
         Ok(shape) => shape,
@@ -154,11 +164,11 @@ pub fn put(s: &mut [u32], key: u32, payload: u32) -> Changed {
         }
         s[shape::LIVE] += 1;
     }
-    changed(live_before, enter(s, &shape, key, 0, payload))
+    changed(live_before, enter(s, &shape, (key, 0, payload), tickets))
 }
 
-/// Delete k.
-pub fn delete(s: &mut [u32], key: u32) -> Changed {
+/// Delete k, with a ticket for each merge.
+pub fn delete_tickets(s: &mut [u32], key: u32, tickets: &mut [Ticket]) -> Changed {
     let shape = match form::check(s) {
         Err(refusal) => return refused(refusal),
         Ok(shape) => shape,
@@ -167,7 +177,7 @@ pub fn delete(s: &mut [u32], key: u32) -> Changed {
         return Changed::default();
     }
     s[shape::LIVE] -= 1;
-    changed(true, enter(s, &shape, key, 1, 0))
+    changed(true, enter(s, &shape, (key, 1, 0), tickets))
 }
 
 /// A refused put or delete.
@@ -187,9 +197,14 @@ fn changed(live_before: bool, levels: [Counts; 3]) -> Changed {
     }
 }
 
-/// A record into level 0, after the merges that make room for it; `tombstone` is
-/// 0 or 1.
-fn enter(s: &mut [u32], shape: &Shape, key: u32, tombstone: u32, payload: u32) -> [Counts; 3] {
+/// A record, of key, tombstone 0 or 1 and payload, into level 0, after the merges that
+/// make room for it.
+fn enter(
+    s: &mut [u32],
+    shape: &Shape,
+    (key, tombstone, payload): (u32, u32, u32),
+    tickets: &mut [Ticket],
+) -> [Counts; 3] {
     let mut counts = [Counts::default(); 3];
     let spot = match top::locate(s, shape, key) {
         Ok(index) => {
@@ -202,7 +217,7 @@ fn enter(s: &mut [u32], shape: &Shape, key: u32, tombstone: u32, payload: u32) -
         top::insert(s, shape, spot, key, tombstone, payload);
         return counts;
     }
-    Work::open(s, shape).merge_all(&mut counts);
+    Work::open(s, shape).merge_all(&mut counts, tickets);
     let spot = top::locate(s, shape, key).unwrap_or_else(|index| index);
     top::insert(s, shape, spot, key, tombstone, payload);
     counts

@@ -424,7 +424,7 @@ fn listed(geometry: Geometry, words: &[u32]) -> Vec<u32> {
 }
 
 /// The deepest level above K(i), looked at from the top.
-fn deepest(geometry: Geometry, work: &Work) -> Option<usize> {
+pub fn deepest(geometry: Geometry, work: &Work) -> Option<usize> {
     let mut found = None;
     for level in 1..=geometry.levels() {
         if work.list(level).len() > geometry.capacity(level) {
@@ -531,13 +531,9 @@ fn run_records(work: &Work, merge: &Merge) -> std::ops::Range<usize> {
     start..start + length
 }
 
-/// The run overlaps fewest blocks, lowest of equals, by trying all pairs.
-fn chosen(geometry: Geometry, merge: &Merge, above: &[Span], below: &[Span]) -> Checked {
-    let w = geometry.window(merge.upper);
-    ensure!(
-        merge.w == w && merge.a == above.len() && merge.n == below.len(),
-        "w, a or n"
-    );
+/// The run that overlaps fewest blocks, lowest of equals, by trying all pairs: its
+/// overlap and its first block.
+pub fn fewest(above: &[Span], below: &[Span], w: usize) -> Option<(usize, usize)> {
     let mut best: Option<(usize, usize)> = None;
     for first in 0..=above.len() - w {
         let (low, high) = (above[first].first, above[first + w - 1].last);
@@ -547,6 +543,17 @@ fn chosen(geometry: Geometry, merge: &Merge, above: &[Span], below: &[Span]) -> 
             best = Some((overlap, first));
         }
     }
+    best
+}
+
+/// The run of a merge is that one.
+fn chosen(geometry: Geometry, merge: &Merge, above: &[Span], below: &[Span]) -> Checked {
+    let w = geometry.window(merge.upper);
+    ensure!(
+        merge.w == w && merge.a == above.len() && merge.n == below.len(),
+        "w, a or n"
+    );
+    let best = fewest(above, below, w);
     ensure!(
         best == Some((merge.q, merge.run)),
         "run {} with {}, not {best:?}",

@@ -15,12 +15,13 @@ mod refusals;
 mod scripts;
 mod steps;
 mod stretch;
+mod tickets;
 mod workloads;
 
-use crate::block::{write_slot, Record};
+use crate::block::Record;
+use crate::cascade::lay_out;
 use crate::geometry::Geometry;
-use crate::layout::{COUNTS, CURSOR, LIVE};
-use crate::level::View;
+use crate::layout::CURSOR;
 
 /// The seed of the random tests.
 fn seed() -> u64 {
@@ -61,29 +62,10 @@ fn sets(keys: &[u32], origin: u32) -> Vec<Record> {
 /// at slots 5, 6, 7 .., whatever the form check says of it; live is counted.
 fn build(numbers: [u32; 6], zero: &[Record], levels: &[&[Vec<Record>]]) -> Vec<u32> {
     let geometry = Geometry::new(numbers).expect("a legal geometry");
+    let flash: Vec<_> = levels.iter().map(|blocks| blocks.to_vec()).collect();
+    let mut slots = (5..geometry.slots() as u32).rev().collect();
     let mut words = vec![0; geometry.length()];
-    words[..6].copy_from_slice(&numbers);
     words[CURSOR] = 3;
-    words[COUNTS] = zero.len() as u32;
-    for (index, record) in zero.iter().enumerate() {
-        let (page, bit) = (index / geometry.block(), index % geometry.block());
-        words[geometry.tombstones_at() + page] |= u32::from(record.tombstone) << bit;
-        words[geometry.keys_at() + index] = record.key;
-        words[geometry.payloads_at() + index] = record.payload;
-    }
-    let mut slot = 5;
-    for (level, blocks) in (1..).zip(levels) {
-        words[COUNTS + level] = blocks.len() as u32;
-        for (index, records) in blocks.iter().enumerate() {
-            write_slot(geometry, &mut words, slot, records);
-            words[geometry.list_at(level) + index] = slot;
-            slot += 1;
-        }
-    }
-    words[LIVE] = View {
-        geometry,
-        words: &words,
-    }
-    .count_live() as u32;
+    lay_out(geometry, &mut words, zero, &flash, &mut slots);
     words
 }

@@ -3,13 +3,18 @@
 
 use super::seed;
 use crate::generate::call_list;
-use crate::script::{run, Bench, Line, LineReader};
+use crate::script::{run, Bench, Line, LineReader, Said};
 use std::io::BufReader;
 
 /// What the program prints.
 fn printed(input: &[u8]) -> String {
+    printed_by(Bench::answer, input)
+}
+
+/// What one of the two programs prints.
+fn printed_by(said: Said, input: &[u8]) -> String {
     let mut output = Vec::new();
-    run(input, &mut output).expect("no trouble with memory");
+    run(said, input, &mut output).expect("no trouble with memory");
     String::from_utf8(output).expect("plain text")
 }
 
@@ -178,7 +183,8 @@ fn generated_lists() {
         }
         assert_eq!(printed(&list), expected);
         let mut output = Vec::new();
-        run(BufReader::with_capacity(7, &list[..]), &mut output).expect("memory");
+        let input = BufReader::with_capacity(7, &list[..]);
+        run(Bench::answer, input, &mut output).expect("memory");
         assert_eq!(output, expected.as_bytes());
         assert!(lines.len() == 4000 || lines.len() == 3999 && list.last() == Some(&b'\n'));
     }
@@ -186,4 +192,50 @@ fn generated_lists() {
     for kind in ["?", "f 0", "f 2", "f 3", "p 0", "p 5", "d 0", "g 0"] {
         assert!(seen.contains_key(kind), "{kind}");
     }
+}
+
+/// The figures of geometry A with their tickets: the first merge takes page 0, the second
+/// page 1. An overwriting, a refused put and an unreadable line have none.
+#[test]
+fn traced() {
+    let keys = [10, 20, 30, 40, 50, 60, 70, 80];
+    let puts: String = keys.iter().map(|key| format!("p {key} 1\n")).collect();
+    let input =
+        format!("f 4 1 2 4 1 40\n{puts}p 90 1\np 15 1\np 25 1\np 35 1\np 45 1\n?\np 45 2\nd 1");
+    let output = [
+        "f 0 17\n",
+        &"p 0 0 0 0\n".repeat(8),
+        "p 0 0 1 0\nt 0 0 0 1\n",
+        &"p 0 0 0 0\n".repeat(3),
+        "p 0 0 1 0\nt 0 1 0 1\n?\np 0 1 0 0\nd 0 0 0 0\n",
+    ];
+    assert_eq!(printed_by(Bench::trace, input.as_bytes()), output.concat());
+    assert_eq!(printed_by(Bench::trace, b"p 1 2\n"), "p 1 0 0 0\n");
+}
+
+/// Generated lists: without its tickets a trace is what the call list program prints, and
+/// their written column adds up to the line before.
+#[test]
+fn traces_of_generated_lists() {
+    let mut tickets = 0;
+    for number in 0..4 {
+        let list = call_list(seed().wrapping_mul(100).wrapping_add(number), 4000, true);
+        let traced = printed_by(Bench::trace, &list);
+        let (mut rest, mut due) = (String::new(), 0);
+        for line in traced.lines() {
+            let number = |at| line.split(' ').nth(at).and_then(|text| text.parse().ok());
+            if line.starts_with('t') {
+                tickets += 1;
+                due -= number(4).unwrap_or(0i64);
+                continue;
+            }
+            assert_eq!(due, 0, "before {line}");
+            if line.starts_with(['p', 'd']) {
+                due = number(3).unwrap_or(0);
+            }
+            rest += &format!("{line}\n");
+        }
+        assert_eq!((rest, due), (printed(&list), 0));
+    }
+    assert!(tickets > 300, "{tickets}");
 }

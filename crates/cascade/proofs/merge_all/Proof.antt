@@ -1,14 +1,15 @@
-use mathlib.Core.Path.{sym}
-use Rattle.cascade.proofs.Whole.{first-ready, below-ready, back-ready, merged-all}
+use mathlib.Core.Path.{sym, _∙_}
+use Rattle.cascade.proofs.Whole.{first-ready, below-ready, back-ready, merged-tickets, merged-all}
 use borrow.Author.Needs.{needs}
 use Rattle.cascade.proofs.merge_all.Statement.{statement}
 use Rattle.cascade.proofs.merge_all.Tie as tie
 use Rattle.cascade.proofs.merge_all.Reads as reads
 use Rattle.cascade.proofs.merge_all.Lts as lts
+use Rattle.cascade.proofs.file_row.Reads as file-row-reads
 use Rattle.cascade.proofs.load_run.Reads as load-run-reads
 use Rattle.cascade.proofs.merge_below.Reads as merge-below-reads
-use Rattle.steps.proofs.merge_step.Reads as merge-step-reads
 use Rattle.lists.proofs.store_back.Reads as store-back-reads
+use Rattle.steps.proofs.merge_step.Reads as merge-step-reads
 
 load-run-requires : tie.Need-load-run-requires
 load-run-requires c κs = search needs
@@ -16,25 +17,33 @@ load-run-requires c κs = search needs
 merge-step-requires : tie.Need-merge-step-requires
 merge-step-requires c κs = first-ready _ _ (c .before .before .before .before .before .before .before .before .before .before .pre) _ _ _ _ (c .before .before .before .before .load-run .ensures)
 
+file-row-requires : tie.Need-file-row-requires
+file-row-requires c κs = search needs
+
 merge-below-requires : tie.Need-merge-below-requires
 merge-below-requires c κs =
-    let l = c .before .before .before .before .before .before .before .before .before .before .before .load-run .ensures in
-    below-ready _ _ (c .before .before .before .before .before .before .before .before .before .before .before .before .before .before .before .before .before .pre) _ _ _ _ l _ _ _ _ _ (c .before .before .before .before .before .before .merge-step .ensures _ (sym (l .stands .store)))
+    let l = c .before .before .before .before .before .before .before .before .before .before .before .before .before .before .before .before .before .load-run .ensures in
+    below-ready _ _ (c .before .before .before .before .before .before .before .before .before .before .before .before .before .before .before .before .before .before .before .before .before .before .before .pre) _ _ _ _ l _ _ _ _ _ (c .before .before .before .before .before .before .before .before .before .before .before .before .merge-step .ensures _ (sym (l .stands .store)) .0)
 
 store-back-requires : tie.Need-store-back-requires
 store-back-requires c κs =
-    let l = c .before .before .before .before .before .before .before .before .before .before .before .before .before .before .before .before .before .before .load-run .ensures in
-    let a = c .before .before .before .before .before .before .before .before .before .before .before .before .before .merge-step .ensures _ (sym (l .stands .store)) in
-    back-ready _ _ (c .before .before .before .before .before .before .before .before .before .before .before .before .before .before .before .before .before .before .before .before .before .before .before .before .pre) _ _ _ _ l _ _ _ _ _ a _ _ _ _ _ (c .before .before .before .before .before .before .merge-below .ensures _ (sym (a .stands .store)))
+    let l = c .before .before .before .before .before .before .before .before .before .before .before .before .before .before .before .before .before .before .before .before .before .before .before .before .before .load-run .ensures in
+    let a = c .before .before .before .before .before .before .before .before .before .before .before .before .before .before .before .before .before .before .before .before .merge-step .ensures _ (sym (l .stands .store)) .0 in
+    back-ready _ _ (c .before .before .before .before .before .before .before .before .before .before .before .before .before .before .before .before .before .before .before .before .before .before .before .before .before .before .before .before .before .before .before .pre) _ _ _ _ l _ _ _ _ _ a _ _ _ _ _ (c .before .before .before .before .before .before .before .merge-below .ensures _ (sym (a .stands .store)) .0)
 
 same-length : tie.Need-same-length
-same-length c = search needs
+same-length c = c .before .before .before .store-back .kept .0 ∙ (c .before .before .before .before .before .before .before .before .before .before .before .merge-below .kept .0 ∙ c .before .before .before .before .before .before .before .before .before .before .before .before .before .before .before .before .before .before .before .before .before .before .before .before .merge-step .kept .0)
+
+same-length-2 : tie.Need-same-length-2
+same-length-2 c = search needs
 
 returns : tie.Need-returns
 returns c =
-    let l = c .before .before .before .before .before .before .before .before .before .before .before .before .before .before .before .before .before .before .before .before .before .before .load-run .ensures in
-    let a = c .before .before .before .before .before .before .before .before .before .before .before .before .before .before .before .before .before .merge-step .ensures _ (sym (l .stands .store)) in
-    merged-all _ _ (c .before .before .before .before .before .before .before .before .before .before .before .before .before .before .before .before .before .before .before .before .before .before .before .before .before .before .before .before .pre) _ _ _ _ l _ _ _ _ _ a _ _ _ _ _ (c .before .before .before .before .before .before .before .before .before .before .merge-below .ensures _ (sym (a .stands .store))) _ (c .before .before .before .store-back .ensures)
+    let k = c .before .before .before .before .before .before .before .before .before .before .before .before .before .before .before .before .before .before .before .before .before .before .before .before .before .before .before .before .before .before .before .before .before .before .before .pre in
+    let l = c .before .before .before .before .before .before .before .before .before .before .before .before .before .before .before .before .before .before .before .before .before .before .before .before .before .before .before .before .before .load-run .ensures in
+    let m = c .before .before .before .before .before .before .before .before .before .before .before .before .before .before .before .before .before .before .before .before .before .before .before .before .merge-step .ensures _ (sym (l .stands .store)) in
+    let b = c .before .before .before .before .before .before .before .before .before .before .before .merge-below .ensures _ (sym (m .0 .stands .store)) in
+    (merged-all _ _ k _ _ _ _ l _ _ _ _ _ (m .0) _ _ _ _ _ (b .0) _ (c .before .before .before .store-back .ensures), merged-tickets _ _ k _ _ _ _ l _ _ _ _ _ (m .0) _ _ _ _ (m .1) (c .before .before .before .before .before .before .before .before .before .before .before .before .before .before .before .before .before .before .before .file-row .ensures) (b .1))
 
 pub merge-all-spec : {M : Type 1} → statement M
 merge-all-spec =
@@ -42,7 +51,9 @@ merge-all-spec =
     (tie.spec
     load-run-requires
     merge-step-requires
+    file-row-requires
     merge-below-requires
     store-back-requires
     same-length
+    same-length-2
     returns)

@@ -25,7 +25,7 @@ same-length-2 : tie.Need-same-length-2
 same-length-2 c = search needs
 
 returns-2 : tie.Need-returns-2
-returns-2 c = (omega (arith, c .before .before .before .before .hear .ensures .1 .0), line-ends _ _ _ _ _ _ _ (sym (c .before .before .before .before .before .before .before .before .is-start .ensures) ∙ c .before .before .before .before .before .before .before .if1 .left) (c .before .before .before .before .hear .ensures .1 .1) refl)
+returns-2 c = (omega (arith, c .before .before .before .before .hear .ensures .1 .1 .0), line-ends _ _ _ _ _ _ _ (sym (c .before .before .before .before .before .before .before .before .is-start .ensures) ∙ c .before .before .before .before .before .before .before .if1 .left) (c .before .before .before .before .hear .ensures .1 .1 .1) refl)
 
 pub finish-spec : {M : Type 1} → statement M
 finish-spec =

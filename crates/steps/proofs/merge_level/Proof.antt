@@ -27,8 +27,7 @@ same-length : tie.Need-same-length
 same-length c = search needs
 
 returns : tie.Need-returns
-returns c =
-    merged-top _ _ _ _ _ _ _ (c .before .before .before .before .before .before .before .before .before .before .before .before .before .before .pre) _ (c .before .before .before .before .before .before .before .before .before .marks .ensures) (c .before .before .before .before .before .before .before .if1 .taken) _ _ _ _ (c .relist .ensures) (c .before .before .before .merge-top .ensures)
+returns c = merged-top _ _ _ _ _ _ _ (c .before .before .before .before .before .before .before .before .before .before .before .before .before .before .before .before .pre) _ (c .before .before .before .before .before .before .before .before .before .before .before .marks .ensures) (c .before .before .before .before .before .before .before .before .before .if1 .taken) _ _ _ _ _ (c .relist .ensures) (c .before .before .before .before .before .merge-top .ensures)
 
 merge-two-requires : tie.Need-merge-two-requires
 merge-two-requires c κs =
@@ -43,8 +42,8 @@ same-length-2 c = search needs
 
 returns-2 : tie.Need-returns-2
 returns-2 c =
-    let k = c .before .before .before .before .before .before .before .before .before .before .before .before .before .before .before .before .pre in
-    merged-below _ _ _ _ _ _ _ k _ (c .before .before .before .before .before .before .before .before .before .before .before .marks .ensures) 0 (c .before .before .before .before .before .before .before .before .if2 .taken) _ _ _ _ (k .stands .first) (k .stands .second) _ _ _ _ _ (c .relist-two .ensures) (c .before .before .before .merge-two .ensures)
+    let k = c .before .before .before .before .before .before .before .before .before .before .before .before .before .before .before .before .before .pre in
+    merged-below _ _ _ _ _ _ _ k _ (c .before .before .before .before .before .before .before .before .before .before .before .before .marks .ensures) 0 (c .before .before .before .before .before .before .before .before .before .if2 .taken) _ _ _ _ (k .stands .first) (k .stands .second) _ _ _ _ _ _ (c .relist-two .ensures) (c .before .before .before .before .merge-two .ensures)
 
 merge-two-requires-2 : tie.Need-merge-two-requires-2
 merge-two-requires-2 c κs =
@@ -59,8 +58,8 @@ same-length-3 c = search needs
 
 returns-3 : tie.Need-returns-3
 returns-3 c =
-    let k = c .before .before .before .before .before .before .before .before .before .before .before .before .before .before .before .before .pre in
-    merged-below _ _ _ _ _ _ _ k _ (c .before .before .before .before .before .before .before .before .before .before .before .marks .ensures) 1 (omega (arith, level-low _ _ _ _ (k .valid) (k .facts), k .valid .ranged .h-high, c .before .before .before .before .before .before .before .before .if2 .left, c .before .before .before .before .before .before .before .before .before .if1 .left)) _ _ _ _ (k .stands .second) (k .stands .third) _ _ _ _ _ (c .relist-two2 .ensures) (c .before .before .before .merge-two2 .ensures)
+    let k = c .before .before .before .before .before .before .before .before .before .before .before .before .before .before .before .before .before .pre in
+    merged-below _ _ _ _ _ _ _ k _ (c .before .before .before .before .before .before .before .before .before .before .before .before .marks .ensures) 1 (omega (arith, level-low _ _ _ _ (k .valid) (k .facts), k .valid .ranged .h-high, c .before .before .before .before .before .before .before .before .before .if2 .left, c .before .before .before .before .before .before .before .before .before .before .if1 .left)) _ _ _ _ (k .stands .second) (k .stands .third) _ _ _ _ _ _ (c .relist-two2 .ensures) (c .before .before .before .before .merge-two2 .ensures)
 
 pub merge-level-spec : {M : Type 1} → statement M
 merge-level-spec =

@@ -6,8 +6,8 @@ use Rattle.writer.proofs.delete_ready.Statement.{statement}
 use Rattle.writer.proofs.delete_ready.Tie as tie
 use Rattle.writer.proofs.delete_ready.Reads as reads
 use Rattle.writer.proofs.delete_ready.Lts as lts
-use Rattle.writer.proofs.enter_record.Reads as enter-record-reads
 use Rattle.reader.proofs.find_key.Reads as find-key-reads
+use Rattle.writer.proofs.enter_record.Reads as enter-record-reads
 use Rattle.writer.proofs.is_live.Reads as is-live-reads
 use Rattle.writer.proofs.no_tally.Reads as no-tally-reads
 
@@ -29,17 +29,20 @@ enter-record-requires c κs = search needs
 same-length : tie.Need-same-length
 same-length c = search needs
 
+same-length-2 : tie.Need-same-length-2
+same-length-2 c = search needs
+
 returns : tie.Need-returns
-returns c = delete-over _ _ _ _ _ (live-is _ _ _ _ _ (c .before .before .before .before .before .before .before .find-key .ensures) (c .before .before .before .before .before .before .is-live .ensures) (c .before .before .before .before .before .if1 .taken)) (c .before .before .enter-record .ensures)
+returns c = delete-over _ _ _ _ _ _ _ (live-is _ _ _ _ _ (c .before .before .before .before .before .before .before .before .before .find-key .ensures) (c .before .before .before .before .before .before .before .before .is-live .ensures) (c .before .before .before .before .before .before .before .if1 .taken)) (c .before .before .before .enter-record .ensures)
 
 no-tally-requires : tie.Need-no-tally-requires
 no-tally-requires c κs = search needs
 
-same-length-2 : tie.Need-same-length-2
-same-length-2 c = search needs
+same-length-3 : tie.Need-same-length-3
+same-length-3 c = search needs
 
 returns-2 : tie.Need-returns-2
-returns-2 c = delete-none _ _ _ _ (live-is _ _ _ _ _ (c .before .before .before .find-key .ensures) (c .before .before .is-live .ensures) (c .before .if1 .left)) (c .no-tally .ensures)
+returns-2 c = delete-none _ _ _ _ _ (live-is _ _ _ _ _ (c .before .before .before .find-key .ensures) (c .before .before .is-live .ensures) (c .before .if1 .left)) (c .no-tally .ensures)
 
 pub delete-ready-spec : {M : Type 1} → statement M
 delete-ready-spec =
@@ -51,7 +54,8 @@ delete-ready-spec =
     sub-enter-record
     enter-record-requires
     same-length
+    same-length-2
     returns
     no-tally-requires
-    same-length-2
+    same-length-3
     returns-2)

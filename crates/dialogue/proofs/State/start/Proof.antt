@@ -13,7 +13,7 @@ start-requires c κs = search needs
 
 returns : tie.Need-returns
 unfolding run
-returns c = λ words. record { fits = omega arith; store = refl; begun = c .start .ensures }
+returns c = λ words. record { tickets = refl; few = c .before .pre; fits = omega arith; store = refl; begun = c .start .ensures }
 
 pub start-spec : {M : Type 1} → statement M
 start-spec = tie.close (tie.spec start-requires returns)

@@ -2,11 +2,11 @@ use Prim.Native.Nat.{_≤_}
 use lib.ListN.{length}
 use native.Mathlib.Omega.{arith}
 use borrow.Author.Needs.{needs}
-use Rattle.calls.proofs.Parts.{within}
-use Rattle.calls.proofs.write_out.Statement.{statement}
-use Rattle.calls.proofs.write_out.Tie as tie
-use Rattle.calls.proofs.write_out.Reads as reads
-use Rattle.calls.proofs.write_out.Lts as lts
+use Rattle.typing.proofs.Parts.{within}
+use Rattle.typing.proofs.write_out.Statement.{statement}
+use Rattle.typing.proofs.write_out.Tie as tie
+use Rattle.typing.proofs.write_out.Reads as reads
+use Rattle.typing.proofs.write_out.Lts as lts
 use Rattle.io.proofs.count.Reads as count-reads
 use Rattle.libc.proofs.write.Reads as write-reads
 use Rattle.os.proofs.errno.Reads as errno-reads
