@@ -106,7 +106,8 @@
  *
  * A call is without a merge if its answer counts none. Words 0 to 5 change in format alone. Of each of its two arrays
  * stretch writes the first `written` entries, as many as it answers, and leaves the others as they were. Of their list
- * put_tickets and delete_tickets write the first tickets, one for each merge that the answer counts, as many as there are.
+ * put_tickets and delete_tickets write one ticket for each merge that the answer counts, from the first on, as far as the
+ * list goes, and leave the others as they were.
  *
  * No block in use is written over: each merge, and each compacting of a level, writes to places that no list named when
  * it began. A block that leaves its level keeps its words until its place is written to again. So a call with one merge
@@ -136,7 +137,8 @@
  *                      264 and 136, 2.5 to 3.1 in one of 40. The slowest put of a run took 2.0 to 11.0; one that the
  *                      operating system interrupts takes longer
  *     delete           as put; not timed
- *     put_tickets      as put, and some 0.2 microseconds more, with merges 0.3 to 2; delete_tickets was not timed
+ *     put_tickets      as put, and 0.15 to 0.35 microseconds (not form checks) more; with merges 0.2 to 1.4 in stores of up
+ *                      to 1160 places, up to some 4 in larger ones; delete_tickets was not timed
  *     format           no form check: it writes every word once
  *     words            a few multiplications
  *
@@ -274,7 +276,7 @@ typedef struct {
  * What a merge did. It took a run of w * g^level blocks out of `level`, 0 to h - 1, into the level below it. first: the
  * number of the run's first block in its level, from 0, before the run left it; in level 0, whose records stand in pages of
  * b, the number of the page. overlap: the blocks of the level below whose range of keys meets the run's; no other run of
- * that level meets fewer, and it is at most w * g^(level + 1). written: the blocks that it wrote, at most w * g^level +
+ * `level` meets fewer, and it is at most w * g^(level + 1). written: the blocks that it wrote, at most w * g^level +
  * overlap + 1, out of level 0 at most w + overlap; what compacting a level wrote afterwards is not in it.
  */
 typedef struct {
@@ -343,9 +345,9 @@ mewilovang_changed mewilovang_delete(uint32_t *store, size_t words, uint32_t key
  * Put and delete, and a ticket for each merge that the call makes, in the order of the merges: what a slow call did. Store
  * and answer are those of put and delete, whatever `room` is. If there are more merges than tickets, the further ones are
  * only counted; tickets that are not reached keep their content, and so do all where the call is turned down or merges
- * nothing. The tickets filled are the smaller of `room` and the merges that the answer counts for the three levels. If all
- * fitted, the blocks written of the tickets with level i add up to the answer's `written` for level i + 1. No call makes
- * more than 512 merges; the tests' stores make up to six.
+ * nothing. The number of tickets filled is the smaller of `room` and of the merges that the answer counts for the three
+ * levels. If all fitted, the blocks written of the tickets with level i add up to the answer's `written` for level i + 1. No
+ * call makes more than 512 merges; the tests' stores make up to six.
  */
 mewilovang_changed mewilovang_put_tickets(uint32_t *store, size_t words, uint32_t key, uint32_t payload,
                                           mewilovang_ticket *tickets, size_t room);

@@ -5,7 +5,7 @@
 //! those of other geometries and cold calls in between. A figure of a block comes
 //! from medians over its rounds; how far the blocks lie apart is the noise.
 
-use crate::calls::{Answer, Call, Held, Library, Oracle, Store};
+use crate::calls::{Answer, Call, Held, Library, Oracle, Store, TICKET};
 use crate::cold::{Cold, Work};
 use crate::log::Log;
 use reference::fast as baseline;
@@ -27,6 +27,8 @@ const APART: usize = 4;
 const STRETCHES_APART: usize = 64;
 /// Next calls in a row, which stand for as many as there are records.
 pub const IN_A_ROW: usize = 8;
+/// Tickets that are lent to a put.
+pub const TICKETS: usize = 8;
 
 /// A store with N keys and all levels in steady state, and its keys: filled by puts
 /// of random keys, then calls that overwrite or replace a key, as many as all levels
@@ -175,6 +177,13 @@ fn turns(random: &mut Random, mut keys: Vec<u32>, count: usize) -> Vec<Turn> {
     (0..count).map(turn).collect()
 }
 
+/// The same puts of the library without and with tickets.
+#[derive(Default)]
+pub struct Pair {
+    pub plain: Times,
+    pub ticketed: Times,
+}
+
 /// Some rounds, one after the other: the times of the library and of the fast
 /// baseline.
 #[derive(Default)]
@@ -182,6 +191,7 @@ pub struct Block {
     pub rounds: usize,
     pub library: Subject,
     pub fast: Subject,
+    pub pair: Pair,
 }
 
 /// The blocks of rounds of one geometry, its cold calls, and its log.
@@ -232,6 +242,8 @@ impl Rounds {
             let words = self.list(&mut block.library, library);
             let right = self.list(&mut block.fast, fast);
             assert!(words == right, "the words differ after the puts");
+            let pair = self.tickets(&mut block.pair);
+            assert!(pair == [&words[..]; 2], "the words differ with tickets");
             block.rounds += 1;
         }
         self.blocks.push(block);
@@ -272,6 +284,37 @@ impl Rounds {
             subject.merges.push(answer.merges());
         }
         lent.store
+    }
+
+    /// One round of the puts without and with tickets, each on a copy of its own, in
+    /// turn: for two puts the plain one first, for the next two the one with tickets.
+    /// Answers the words of both afterwards.
+    fn tickets(&self, pair: &mut Pair) -> [Vec<u32>; 2] {
+        let mut plain = Held::store(self.store.clone());
+        let mut ticketed = plain.clone();
+        ticketed.tickets = vec![0; TICKETS * TICKET];
+        let put = |lent: &mut Held, call: Call, number: usize, times: &mut Times| {
+            let (time, answer) = self.clock.timed(|| library(black_box(lent), call));
+            assert!(answer.reason() == 0, "a put of a live key or one with room");
+            times.add(number, time);
+        };
+        for (number, turn) in self.puts.iter().enumerate() {
+            for lent in [&mut plain, &mut ticketed] {
+                if let Some(key) = turn.deleted {
+                    library(lent, Call::Delete(key));
+                }
+            }
+            let one = Call::Put(turn.put, number as u32);
+            let other = Call::PutTickets(turn.put, number as u32, TICKETS);
+            if number / 2 % 2 == 1 {
+                put(&mut ticketed, other, number, &mut pair.ticketed);
+            }
+            put(&mut plain, one, number, &mut pair.plain);
+            if number / 2 % 2 == 0 {
+                put(&mut ticketed, other, number, &mut pair.ticketed);
+            }
+        }
+        [plain.store, ticketed.store]
     }
 
     /// The reading calls before put `number`.

@@ -84,13 +84,15 @@ pub enum Fault {
     TicketWritesAfter,
     /// A call that is turned down for 4 clears its first ticket.
     RefusedTickets,
+    /// So does a put that is turned down for 5.
+    FullTickets,
     /// A put with tickets writes its payload with the lowest bit turned over.
     TicketPutWord,
 }
 
 impl Fault {
     /// Every fault.
-    pub const ALL: [Fault; 40] = {
+    pub const ALL: [Fault; 41] = {
         use Fault::*;
         [
             CheckLenient,
@@ -132,12 +134,13 @@ impl Fault {
             TicketNoRoom,
             TicketWritesAfter,
             RefusedTickets,
+            FullTickets,
             TicketPutWord,
         ]
     };
 
     /// Those of stretches and of tickets of a sound store.
-    pub const HISTORIES: [Fault; 20] = {
+    pub const HISTORIES: [Fault; 21] = {
         use Fault::*;
         [
             StretchLast,
@@ -159,6 +162,7 @@ impl Fault {
             TicketCounts,
             TicketNoRoom,
             TicketWritesAfter,
+            FullTickets,
             TicketPutWord,
         ]
     };
@@ -287,7 +291,8 @@ impl Fault {
                 told[at..].copy_from_slice(&before[at..]);
             }
             (TicketWritesAfter, _) if merges > room => *lent.tickets.add(before.len()) ^= 1,
-            (RefusedTickets, Answer::Changed([4, ..])) => {
+            (RefusedTickets, Answer::Changed([4, ..]))
+            | (FullTickets, Answer::Changed([5, ..])) => {
                 rest.iter_mut().take(TICKET).for_each(|word| *word = 0);
             }
             _ => {}

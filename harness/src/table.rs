@@ -1,6 +1,6 @@
 //! The tables of `bench`.
 
-use crate::measure::{mean, median, words_read, Block, Rounds, IN_A_ROW};
+use crate::measure::{mean, median, words_read, Block, Rounds, Times, IN_A_ROW, TICKETS};
 use reference::geometry::Geometry;
 use std::fmt::Write;
 
@@ -40,7 +40,7 @@ impl Range {
 }
 
 /// The figures of a block, by name: times in microseconds, and ratios.
-const NAMES: [&str; 20] = [
+const NAMES: [&str; 24] = [
     "plain pass",
     "check",
     "check / plain pass",
@@ -61,13 +61,18 @@ const NAMES: [&str; 20] = [
     "stretch / fast stretch",
     "nexts / stretch",
     "stretch again / check",
+    "put in turn",
+    "put with tickets / put",
+    "merging put in turn",
+    "merging put with tickets / put",
 ];
 /// Where the ratios of the first table begin and end, the rest of the second, and
-/// the parts of check; and what the table of stretches has.
+/// the parts of check; and what the tables of stretches and of tickets have.
 const FIRST: std::ops::Range<usize> = 0..7;
 const SECOND: std::ops::Range<usize> = 7..12;
 const PARTS: std::ops::Range<usize> = 12..16;
 const STRETCHES: [usize; 6] = [1, 16, 6, 19, 17, 18];
+const TICKETED: std::ops::Range<usize> = 20..24;
 
 /// The aims, at most so much.
 const AIMS: [(usize, f64); 4] = [(3, 1.2), (4, 1.1), (5, 2.0), (6, 2.5)];
@@ -96,11 +101,12 @@ fn figures(block: &Block) -> [f64; NAMES.len()] {
     let (fast_check, fast_rules) = (fast.check.mean(), fast.rules.mean());
     let stretch = library.stretch.mean();
     let puts = library.put.medians();
-    let of = |merging: bool| {
+    let of = |puts: &[f64], merging: bool| {
         let both = puts.iter().zip(&library.merges);
         let some = both.filter(|&(_, &merges)| (merges > 0) == merging);
         mean(&some.map(|(&time, _)| time).collect::<Vec<_>>())
     };
+    let [plain, ticketed] = [&block.pair.plain, &block.pair.ticketed].map(Times::medians);
     [
         pass / 1000.0,
         check / 1000.0,
@@ -110,8 +116,8 @@ fn figures(block: &Block) -> [f64; NAMES.len()] {
         mean(&puts) / check,
         stretch / check,
         library.next.mean() / check,
-        of(false) / check,
-        of(true) / check,
+        of(&puts, false) / check,
+        of(&puts, true) / check,
         puts.iter().copied().fold(0.0, f64::max) / check,
         mean(&puts) / fast.put.mean(),
         rules / 1000.0,
@@ -122,6 +128,10 @@ fn figures(block: &Block) -> [f64; NAMES.len()] {
         stretch / fast.stretch.mean(),
         library.nexts.mean() / stretch,
         library.again.mean() / check,
+        mean(&plain) / 1000.0,
+        mean(&ticketed) / mean(&plain),
+        of(&plain, true) / 1000.0,
+        of(&ticketed, true) / of(&plain, true),
     ]
 }
 
@@ -279,6 +289,12 @@ pub fn print(rows: &[Row]) {
             cells
         },
     );
+    let above = format!(
+        "The same puts on two copies of the store in turn, without tickets and with {TICKETS}: microseconds without, and with\n\
+        tickets as a share of it; of all puts, then of those with a merge."
+    );
+    let head = "put,tickets/put,merging put,tickets/put";
+    table(&above, head, rows, |row| row.cells(TICKETED));
     let above = format!(
         "Cold calls, in microseconds: before each, 64 MB of other memory gone over and 65,536 random words sorted.\n\
         {} calls of each kind: lowest and highest, then the middle. Last: the middle check as a multiple of the warm one.",

@@ -5,11 +5,13 @@ use mathlib.Core.Bool.{Bool, true, false}
 use mathlib.Core.List.{List, [], _∷_, _++_, append-assoc, append-nil, flatten}
 use borrow.Author.Tests.{ne-eqb}
 use lib.Dec.{eqb}
-use Rattle.words.specs.Calls.{putOf, deleteOf}
-use Rattle.lines.specs.declared.Line.the-variants.{Put, Delete}
+use lib.ListN.{take}
+use Rattle.words.specs.Calls.{putOf, deleteOf, putTickets, deleteTickets}
+use Rattle.lines.specs.declared.Line.{Line}
+use Rattle.lines.specs.declared.Line.the-variants.{Format, Put, Delete, Get, Unreadable}
 use Rattle.lines.specs.Bytes.{lineEnd, letterP, letterD}
 use Rattle.lines.specs.Lines.{firstField, furtherFields, named, lineOf, unreadableLine}
-use Rattle.dialogue.specs.Said.{Said, changedLine, saidOf}
+use Rattle.dialogue.specs.Said.{Said, changedLine, ticketLines, saidOf}
 use Rattle.dialogue.specs.Dialogue.{joined, linesOf, answersTo, dialogue, Session, Heard, opening, after, heard, endedOn, ended, heardParts, inParts}
 
 -- the session after an answer, and after a byte more of the line that has begun
@@ -79,6 +81,20 @@ put-alone ws k v = append-nil (changedLine letterP (putOf ws k v .answer))
 
 pub delete-alone : (ws : List ℕ) (k : ℕ) → saidOf 0 ws (Delete k) .bytes ≡ changedLine letterD (deleteOf ws k .answer)
 delete-alone ws k = append-nil (changedLine letterD (deleteOf ws k .answer))
+
+-- With tickets it is the same line and then theirs, and the store is the same.
+pub put-traced : (m : ℕ) (ws : List ℕ) (k v : ℕ) → saidOf m ws (Put k v) .bytes ≡ saidOf 0 ws (Put k v) .bytes ++ ticketLines (take m (putTickets ws k v))
+put-traced m ws k v = ap (λ (bs : List ℕ). bs ++ ticketLines (take m (putTickets ws k v))) (sym (put-alone ws k v))
+
+pub delete-traced : (m : ℕ) (ws : List ℕ) (k : ℕ) → saidOf m ws (Delete k) .bytes ≡ saidOf 0 ws (Delete k) .bytes ++ ticketLines (take m (deleteTickets ws k))
+delete-traced m ws k = ap (λ (bs : List ℕ). bs ++ ticketLines (take m (deleteTickets ws k))) (sym (delete-alone ws k))
+
+pub same-store : (m : ℕ) (ws : List ℕ) (l : Line) → saidOf m ws l .store ≡ saidOf 0 ws l .store
+same-store m ws (Format b w d g h p) = refl
+same-store m ws (Put k v) = refl
+same-store m ws (Delete k) = refl
+same-store m ws (Get k) = refl
+same-store m ws Unreadable = refl
 
 -- The dialogue with the tickets of at most m merges for a call.
 module _ (m : ℕ) where

@@ -14,7 +14,7 @@ use Rattle.levels.specs.Tickets.{laid}
 use Rattle.levels.proofs.Lists.{map-take}
 use Rattle.words.specs.Calls.{Outcome, ChangeAnswer, mergesCounted}
 use Rattle.words.specs.Rows.{rowOf, rowsOf}
-use Rattle.words.proofs.Rows.{laid-length, laid-short}
+use Rattle.levels.proofs.Laying.{laid-length, laid-short}
 use Rattle.writer.specs.declared.Changed.{Changed}
 use Rattle.writer.specs.Answers.{changedAnswer}
 use Rattle.tickets.specs.Gathering.{ticketFrom}

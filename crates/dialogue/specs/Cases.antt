@@ -7,7 +7,7 @@ use mathlib.Core.Bool.{Bool}
 use mathlib.Core.List.{List, [], _∷_, _++_}
 use Rattle.levels.specs.Basics.{if_then_else_}
 use Rattle.levels.specs.Bench.{sameNumbers}
-use Rattle.levels.specs.Count.{underOf, overlapOf}
+use Rattle.levels.specs.Count.{aboveOf, underOf, runOf, overlapOf}
 use Rattle.levels.specs.Put.{mergesOf}
 use Rattle.levels.specs.Tickets.{ticketOf}
 use Rattle.words.specs.Calls.{putTickets, deleteTickets}
@@ -20,7 +20,7 @@ use Rattle.dialogue.specs.Dialogue.{linesOf, answersTo, dialogue}
 -- the dialogue, computed; `computed` opens the definitions of the calls with all that they name
 unfoldable pub heardWhole : ℕ → List ℕ → Said
 unfolding
-    computed firstField furtherFields valueFrom spoken named lineOf decimalWithin decimal field formatLine getLine changeLine unreadableLine formatSaid linesOf answersTo dialogue underOf overlapOf mergesOf ticketOf putTickets deleteTickets
+    computed firstField furtherFields valueFrom spoken named lineOf decimalWithin decimal field formatLine getLine changeLine unreadableLine formatSaid linesOf answersTo dialogue aboveOf underOf runOf overlapOf mergesOf ticketOf putTickets deleteTickets
 heardWhole m input = dialogue m input
 
 -- What is printed for an input, whole, without tickets or with at most 64 for a call; or lines that another line leaves the store of
@@ -68,10 +68,11 @@ pub merge-cases-hold : failing mergeCases ≡ []
 unfolding failing holds mergeCases
 merge-cases-hold = refl
 
--- the same with its tickets: out of level 0, the run's first page is the first, it overlaps no block, and one block is written
+-- The same with its tickets, worked out by hand. Put 90: page 0, no block below, one written. Put 95: 15 to 50 overlaps 10 to 40, and the
+-- other page, 60 to 90, nothing. Put 68: 15 to 50 and 65 to 95 each overlap one block, so the lower goes, and two blocks are written.
 unfoldable pub traceCases : List Case
 traceCases =
-    traces "the ninth put's ticket" "f 4 1 2 4 1 40\np 10 1\np 20 1\np 30 1\np 40 1\np 50 1\np 60 1\np 70 1\np 80 1\np 90 1\n" "f 0 17\np 0 0 0 0\np 0 0 0 0\np 0 0 0 0\np 0 0 0 0\np 0 0 0 0\np 0 0 0 0\np 0 0 0 0\np 0 0 0 0\np 0 0 1 0\nt 0 0 0 1\n"
+    traces "three merges and their tickets" "f 4 1 2 4 1 40\np 10 1\np 20 1\np 30 1\np 40 1\np 50 1\np 60 1\np 70 1\np 80 1\np 90 1\np 15 1\np 25 1\np 35 1\np 95 1\np 65 1\np 66 1\np 67 1\np 68 1\n" "f 0 17\np 0 0 0 0\np 0 0 0 0\np 0 0 0 0\np 0 0 0 0\np 0 0 0 0\np 0 0 0 0\np 0 0 0 0\np 0 0 0 0\np 0 0 1 0\nt 0 0 0 1\np 0 0 0 0\np 0 0 0 0\np 0 0 0 0\np 0 0 1 0\nt 0 1 0 1\np 0 0 0 0\np 0 0 0 0\np 0 0 0 0\np 0 0 2 0\nt 0 0 1 2\n"
     ∷ traces "calls without a merge have no ticket" "f 4 1 2 4 1 40\np 10 1\nd 20\nd 10\ng 10\n" "f 0 17\np 0 0 0 0\nd 0 0 0 0\nd 0 1 0 0\ng 0 0 0\n"
     ∷ []
 

@@ -36,6 +36,7 @@ pub mod Entry
 pub mod CallMerges
 pub mod MergesFew
 pub mod MergeBounds
+pub mod Laying
 pub mod Tickets
 pub mod Insert
 pub mod PutDelete

@@ -17,7 +17,7 @@ use Rattle.levels.specs.Record.{Rec, records, cleanTombstones}
 use Rattle.levels.specs.Map.{find, decides, present, lookUp, isLive, mapOf, liveCount, firstFrom, next}
 use Rattle.levels.specs.Store.{Store, rows}
 use Rattle.levels.specs.Call.{Merge, afterMerges}
-use Rattle.levels.specs.Put.{Change, refused, absent, entered, insert, mergesFor, withRecord, enter, put, delete, putRec, deleteRec, without}
+use Rattle.levels.specs.Put.{Change, refused, absent, entered, insert, mergesFor, mergesOf, withRecord, enter, put, delete, putRec, deleteRec, without}
 use Rattle.levels.specs.Rising.{Risings}
 use Rattle.levels.specs.Sound.{Fits, Sound}
 use Rattle.levels.specs.Inside.{Inside}
@@ -183,6 +183,24 @@ delete-live g s k e = rw (e, delete)
 pub delete-absent : (g : Geometry) (s : Store) (k : ℕ) → isLive k (rows s) ≡ false → delete g s k ≡ absent
 unfolding delete
 delete-absent g s k e = rw (e, delete)
+
+-- where level 0 has the key, or room, neither makes a merge
+pub put-still : (g : Geometry) (s : Store) (k v : ℕ) → (isSome (find k (s .top)) || ltb (length (s .top)) (topCapacityOf g)) ≡ true → mergesOf (put g s k v) ≡ []
+unfolding enter mergesOf
+put-still g s k v e = go (isLive k (rows s)) (eqb (s .live) (keyLimitOf g)) refl refl
+  where
+    go : (live full : Bool) → isLive k (rows s) ≡ live → eqb (s .live) (keyLimitOf g) ≡ full → mergesOf (put g s k v) ≡ []
+    go true full p q = ap mergesOf (put-live g s k v p) ∙ for-none g s k e
+    go false true p q = ap mergesOf (put-full g s k v p q)
+    go false false p q = ap mergesOf (put-new g s k v p q) ∙ for-none g s k e
+
+pub delete-still : (g : Geometry) (s : Store) (k : ℕ) → (isSome (find k (s .top)) || ltb (length (s .top)) (topCapacityOf g)) ≡ true → mergesOf (delete g s k) ≡ []
+unfolding enter mergesOf
+delete-still g s k e = go (isLive k (rows s)) refl
+  where
+    go : (live : Bool) → isLive k (rows s) ≡ live → mergesOf (delete g s k) ≡ []
+    go true p = ap mergesOf (delete-live g s k p) ∙ for-none g s k e
+    go false p = ap mergesOf (delete-absent g s k p)
 
 -- one key's lookup, and every other key's, in one
 pick : (j k : ℕ) (ms ls : List (List Rec)) (a : Option Rec) → lookUp k ms ≡ a → ((j : ℕ) → k ≢ j → lookUp j ms ≡ lookUp j ls) → lookUp j ms ≡ (if eqb j k then a else lookUp j ls)

@@ -1,4 +1,4 @@
--- Bytes that document 01's call list and document 02's trace name, by their ASCII codes, and small helpers that no rule names.
+-- Bytes that document 01's call list names, and the t of the lines of tickets, by their ASCII codes, and small helpers that no rule names.
 use Prim.Native.Nat.{ℕ, _+_, _≤_}
 use mathlib.Core.Path.{_≡_}
 use Prim.Native.Char.{code}

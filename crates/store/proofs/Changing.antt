@@ -15,7 +15,8 @@ use Rattle.words.specs.Calls.{Outcome, ChangeAnswer, mapAt, changeOutcome, putO
 use Rattle.words.specs.Rows.{rowsOf}
 use Rattle.words.specs.Demand.{Demand, ownPut, ownDelete}
 use Rattle.words.proofs.Steps.{put-of, delete-of, put-passes, delete-passes}
-use Rattle.words.proofs.Rows.{laid-length, Filed, filed-none, filed-by}
+use Rattle.levels.proofs.Laying.{laid-length}
+use Rattle.words.proofs.Rows.{Filed, filed-none, filed-by}
 use Rattle.words.proofs.Tickets.{put-tickets, delete-tickets, put-tickets-few, delete-tickets-few, put-tickets-counted, delete-tickets-counted}
 use Rattle.words.proofs.Demand.{put-demand, delete-demand}
 use Rattle.words.proofs.MapAfter.{put-enters, delete-takes-out, put-refused-words, delete-refused-words, put-full-only}

@@ -10,7 +10,7 @@ use Rattle.levels.specs.declared.Ticket.{Ticket}
 use Rattle.levels.specs.Inside.{mergesMost}
 use Rattle.levels.specs.Tickets.{laid}
 use Rattle.words.specs.Rows.{rowOf, rowsOf}
-use Rattle.words.proofs.Rows.{laid-all}
+use Rattle.levels.proofs.Laying.{laid-all}
 use Rattle.tickets.specs.declared.Gathered.{Gathered}
 use Rattle.tickets.specs.Gathering.{ticketFrom, ticketsIn}
 

@@ -56,11 +56,11 @@ pub fn gather(changed: Changed, rows: &[[u32; 4]], n: usize) -> Gathered
 }
 
 // The ticket of merge i, from 0.
-fn ticket_at(r: Gathered, i: usize) -> Ticket
+fn ticket_at(made: Gathered, i: usize) -> Ticket
     requires { ⌜ i < mergesMost ⌝ }
-    ensures { λ t. ⌜ t ≡ ticketAt r i ⌝ }
+    ensures { λ t. ⌜ t ≡ ticketAt made i ⌝ }
 {
-    r.tickets[i]
+    made.tickets[i]
 }
 
 // Entry i of a list is x afterwards, if there is an entry i.

@@ -1,5 +1,5 @@
-// The call list programs' reading and writing: standard input to its end, a line for each line of it. What is printed is the
-// dialogue's; here bytes are only read, fed and written.
+// The call list programs' reading and writing: standard input to its end, and the answers to its lines to standard output. What is
+// printed is the dialogue's; here bytes are only read, fed and written.
 
 ghost use Prim.Native.Nat.{_*_, _≤_};
 ghost use lib.ListN.{length};

@@ -1,18 +1,19 @@
 -- Document 02, card 3: the tickets of a put and of a delete, on any words.
 use Prim.Native.Nat.{ℕ, suc, _≤_, _<_, min}
 use mathlib.Core.Path.{_≡_, refl, sym, ap, subst, _∙_}
-use mathlib.Core.Bool.{Bool, true, false}
+use mathlib.Core.Bool.{Bool, true, false, _||_}
 use mathlib.Core.List.{List, []}
 use mathlib.Core.Option.{Option, none, some}
 use native.Mathlib.Nat.{min-le-left, min-le-right}
 use native.Mathlib.Omega.{arith}
-use lib.Dec.{eqb}
+use lib.Dec.{eqb, ltb}
 use lib.ListN.{length, take, getD, length-map}
 use borrow.Author.Tests.{eqb-true, eq-eqb}
 use Rattle.geometry.specs.declared.Geometry.{Geometry}
-use Rattle.geometry.specs.Geometry.{Valid}
+use Rattle.geometry.specs.Geometry.{Valid, topCapacityOf}
 use Rattle.levels.specs.declared.Ticket.{Ticket}
-use Rattle.levels.specs.Map.{isLive}
+use Rattle.levels.specs.Basics.{isSome}
+use Rattle.levels.specs.Map.{isLive, find}
 use Rattle.levels.specs.Store.{Store, rows}
 use Rattle.levels.specs.Call.{Merge}
 use Rattle.levels.specs.Put.{Change, refused, absent, entered, put, delete, mergesOf}
@@ -31,7 +32,7 @@ use Rattle.words.specs.Calls.{ChangeAnswer, changeOutcome, putOf, delete
 use Rattle.words.specs.Demand.{MergeDemand, Own, mergesOwn, countsAt, Demand}
 use Rattle.words.proofs.Reason.{reason-passed}
 use Rattle.words.proofs.Demand.{counted, put-demand, delete-demand}
-use Rattle.words.proofs.Rows.{laid-all, laid-at, laid-behind}
+use Rattle.levels.proofs.Laying.{laid-all, laid-at, laid-behind}
 
 -- "A ticket for each merge", in the order of the merges
 pub put-tickets : (ws : List ℕ) (k v : ℕ) → reasonOf ws ≡ 0 → putTickets ws k v ≡ ticketsOf (geometryAt ws) (mergesOf (put (geometryAt ws) (storeAt (geometryAt ws) ws) k v))
@@ -145,6 +146,19 @@ pub delete-absent : (ws : List ℕ) (k : ℕ) → isLive k (rows (storeAt (geome
 unfolding deleteTickets mergesOf
 delete-absent ws k e =
     call-still (geometryAt ws) ws (delete (geometryAt ws) (storeAt (geometryAt ws) ws) k) (reasonOf ws) (ap mergesOf (change.delete-absent (geometryAt ws) (storeAt (geometryAt ws) ws) k e)) (eqb (reasonOf ws) 0)
+
+-- nor does an overwriting in level 0, or a call that finds room there
+pub put-still : (ws : List ℕ) (k v : ℕ) → let g = geometryAt ws in let s = storeAt g ws in (isSome (find k (s .top)) || ltb (length (s .top)) (topCapacityOf g)) ≡ true → putTickets ws k v ≡ []
+unfolding putTickets
+put-still ws k v e =
+    let g : Geometry = geometryAt ws in
+    call-still g ws (put g (storeAt g ws) k v) (reasonOf ws) (change.put-still g (storeAt g ws) k v e) (eqb (reasonOf ws) 0)
+
+pub delete-still : (ws : List ℕ) (k : ℕ) → let g = geometryAt ws in let s = storeAt g ws in (isSome (find k (s .top)) || ltb (length (s .top)) (topCapacityOf g)) ≡ true → deleteTickets ws k ≡ []
+unfolding deleteTickets
+delete-still ws k e =
+    let g : Geometry = geometryAt ws in
+    call-still g ws (delete g (storeAt g ws) k) (reasonOf ws) (change.delete-still g (storeAt g ws) k e) (eqb (reasonOf ws) 0)
 
 -- "The overlap and the write bound of each merge are then read from its ticket": of all words
 pub put-tickets-keep : (ws : List ℕ) (k v : ℕ) → Every (TicketKeeps (geometryAt ws)) (putTickets ws k v)
