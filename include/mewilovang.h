@@ -136,9 +136,10 @@
  *     put              1 and its merges. On average 1.0 to 1.2 in stores of 1160 places and more, 1.4 to 1.5 in those of
  *                      264 and 136, 2.5 to 3.1 in one of 40. The slowest put of a run took 2.0 to 11.0; one that the
  *                      operating system interrupts takes longer
- *     delete           as put; not timed
- *     put_tickets      as put, and 0.15 to 0.35 microseconds (not form checks) more; with merges 0.2 to 1.4 in stores of up
- *                      to 1160 places, up to some 4 in larger ones; delete_tickets was not timed
+ *     delete           1 and its merges. On average 1.0 to 1.2, 1.2 to 1.4 and 1.8 to 2.2 in the same stores as put
+ *     put_tickets      as put, and 0.15 to 0.35 microseconds (not form checks) more; with merges 0.2 to 1.6 in stores of up
+ *                      to 1160 places, up to some 6 in larger ones
+ *     delete_tickets   as delete, and 0.2 to 1 microsecond more in stores of up to 264 places, merges with it
  *     format           no form check: it writes every word once
  *     words            a few multiplications
  *

@@ -143,6 +143,8 @@ pub struct Subject {
     pub again: Times,
     pub nexts: Times,
     pub put: Times,
+    /// Of live keys.
+    pub delete: Times,
     /// The merges of each put.
     pub merges: Vec<u32>,
 }
@@ -177,11 +179,11 @@ fn turns(random: &mut Random, mut keys: Vec<u32>, count: usize) -> Vec<Turn> {
     (0..count).map(turn).collect()
 }
 
-/// The same puts of the library without and with tickets.
+/// The same puts and deletes of the library, without tickets and with.
 #[derive(Default)]
-pub struct Pair {
-    pub plain: Times,
-    pub ticketed: Times,
+pub struct Pairs {
+    pub put: [Times; 2],
+    pub delete: [Times; 2],
 }
 
 /// Some rounds, one after the other: the times of the library and of the fast
@@ -191,7 +193,7 @@ pub struct Block {
     pub rounds: usize,
     pub library: Subject,
     pub fast: Subject,
-    pub pair: Pair,
+    pub pairs: Pairs,
 }
 
 /// The blocks of rounds of one geometry, its cold calls, and its log.
@@ -242,8 +244,8 @@ impl Rounds {
             let words = self.list(&mut block.library, library);
             let right = self.list(&mut block.fast, fast);
             assert!(words == right, "the words differ after the puts");
-            let pair = self.tickets(&mut block.pair);
-            assert!(pair == [&words[..]; 2], "the words differ with tickets");
+            let both = self.tickets(&mut block.pairs);
+            assert!(both == [&words[..]; 2], "the words differ with tickets");
             block.rounds += 1;
         }
         self.blocks.push(block);
@@ -275,7 +277,10 @@ impl Rounds {
                 self.stretch(subject, &mut lent, number, &call);
             }
             if let Some(key) = turn.deleted {
-                call(&mut lent, Call::Delete(key));
+                let delete = Call::Delete(key);
+                let (time, answer) = self.clock.timed(|| call(black_box(&mut lent), delete));
+                assert!(answer.reason() == 0, "a delete of a live key");
+                subject.delete.add(number / 2, time);
             }
             let put = Call::Put(turn.put, number as u32);
             let (time, answer) = self.clock.timed(|| call(black_box(&mut lent), put));
@@ -286,35 +291,45 @@ impl Rounds {
         lent.store
     }
 
-    /// One round of the puts without and with tickets, each on a copy of its own, in
-    /// turn: for two puts the plain one first, for the next two the one with tickets.
-    /// Answers the words of both afterwards.
-    fn tickets(&self, pair: &mut Pair) -> [Vec<u32>; 2] {
-        let mut plain = Held::store(self.store.clone());
+    /// One round of the puts and deletes without tickets and with, each on a copy of its
+    /// own, in turn. Answers the words of both copies afterwards.
+    fn tickets(&self, pairs: &mut Pairs) -> [Vec<u32>; 2] {
+        let plain = Held::store(self.store.clone());
         let mut ticketed = plain.clone();
         ticketed.tickets = vec![0; TICKETS * TICKET];
-        let put = |lent: &mut Held, call: Call, number: usize, times: &mut Times| {
-            let (time, answer) = self.clock.timed(|| library(black_box(lent), call));
-            assert!(answer.reason() == 0, "a put of a live key or one with room");
-            times.add(number, time);
-        };
+        let mut lent = [plain, ticketed];
         for (number, turn) in self.puts.iter().enumerate() {
-            for lent in [&mut plain, &mut ticketed] {
-                if let Some(key) = turn.deleted {
-                    library(lent, Call::Delete(key));
-                }
+            // Two turns, one with a delete: without tickets first, and in the next two with.
+            let first = number / 2 % 2;
+            if let Some(key) = turn.deleted {
+                let deletes = [Call::Delete(key), Call::DeleteTickets(key, TICKETS)];
+                self.in_turn(&mut lent, deletes, first, number / 2, &mut pairs.delete);
             }
-            let one = Call::Put(turn.put, number as u32);
-            let other = Call::PutTickets(turn.put, number as u32, TICKETS);
-            if number / 2 % 2 == 1 {
-                put(&mut ticketed, other, number, &mut pair.ticketed);
-            }
-            put(&mut plain, one, number, &mut pair.plain);
-            if number / 2 % 2 == 0 {
-                put(&mut ticketed, other, number, &mut pair.ticketed);
-            }
+            let (key, payload) = (turn.put, number as u32);
+            let puts = [
+                Call::Put(key, payload),
+                Call::PutTickets(key, payload, TICKETS),
+            ];
+            self.in_turn(&mut lent, puts, first, number, &mut pairs.put);
         }
-        [plain.store, ticketed.store]
+        lent.map(|held| held.store)
+    }
+
+    /// Two calls, each on its own store: the one of this number first.
+    fn in_turn(
+        &self,
+        lent: &mut [Held; 2],
+        calls: [Call; 2],
+        first: usize,
+        place: usize,
+        times: &mut [Times; 2],
+    ) {
+        for which in [first, 1 - first] {
+            let held = &mut lent[which];
+            let (time, answer) = self.clock.timed(|| library(black_box(held), calls[which]));
+            assert!(answer.reason() == 0, "a live key or one with room");
+            times[which].add(place, time);
+        }
     }
 
     /// The reading calls before put `number`.

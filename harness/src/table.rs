@@ -40,7 +40,7 @@ impl Range {
 }
 
 /// The figures of a block, by name: times in microseconds, and ratios.
-const NAMES: [&str; 24] = [
+const NAMES: [&str; 26] = [
     "plain pass",
     "check",
     "check / plain pass",
@@ -65,6 +65,8 @@ const NAMES: [&str; 24] = [
     "put with tickets / put",
     "merging put in turn",
     "merging put with tickets / put",
+    "delete with tickets / delete",
+    "delete, mean / check",
 ];
 /// Where the ratios of the first table begin and end, the rest of the second, and
 /// the parts of check; and what the tables of stretches and of tickets have.
@@ -72,7 +74,8 @@ const FIRST: std::ops::Range<usize> = 0..7;
 const SECOND: std::ops::Range<usize> = 7..12;
 const PARTS: std::ops::Range<usize> = 12..16;
 const STRETCHES: [usize; 6] = [1, 16, 6, 19, 17, 18];
-const TICKETED: std::ops::Range<usize> = 20..24;
+const TICKETED: std::ops::Range<usize> = 20..25;
+const DELETE: usize = 25;
 
 /// The aims, at most so much.
 const AIMS: [(usize, f64); 4] = [(3, 1.2), (4, 1.1), (5, 2.0), (6, 2.5)];
@@ -106,7 +109,8 @@ fn figures(block: &Block) -> [f64; NAMES.len()] {
         let some = both.filter(|&(_, &merges)| (merges > 0) == merging);
         mean(&some.map(|(&time, _)| time).collect::<Vec<_>>())
     };
-    let [plain, ticketed] = [&block.pair.plain, &block.pair.ticketed].map(Times::medians);
+    let [plain, ticketed] = block.pairs.put.each_ref().map(Times::medians);
+    let [delete, with_tickets] = block.pairs.delete.each_ref().map(Times::mean);
     [
         pass / 1000.0,
         check / 1000.0,
@@ -132,6 +136,8 @@ fn figures(block: &Block) -> [f64; NAMES.len()] {
         mean(&ticketed) / mean(&plain),
         of(&plain, true) / 1000.0,
         of(&ticketed, true) / of(&plain, true),
+        with_tickets / delete,
+        library.delete.mean() / check,
     ]
 }
 
@@ -254,11 +260,13 @@ pub fn print(rows: &[Row]) {
     AIMS.iter()
         .for_each(|&(at, most)| aims[at] = format!("{most:.2}"));
     line("aim at most", &aims);
-    let head = "next/check,put still,put merging,put worst,put/fast put,N,words read,rounds";
+    let head =
+        "next/check,put still,put merging,put worst,put/fast put,delete/check,N,words read,rounds";
     let above = "Put as a share of check: still are the puts without a merge, merging those with, worst the\n\
         slowest. Put/fast put: the mean put as a share of the fast baseline's. Words: what check must read.";
     table(above, head, rows, |row| {
         let mut cells = row.cells(SECOND);
+        cells.extend(row.cells(DELETE..DELETE + 1));
         cells.extend([row.geometry.key_limit(), row.words, row.rounds].map(|n| n.to_string()));
         cells
     });
@@ -290,10 +298,10 @@ pub fn print(rows: &[Row]) {
         },
     );
     let above = format!(
-        "The same puts on two copies of the store in turn, without tickets and with {TICKETS}: microseconds without, and with\n\
-        tickets as a share of it; of all puts, then of those with a merge."
+        "The same puts and deletes on two copies of the store in turn, without tickets and with {TICKETS}: microseconds without,\n\
+        and with tickets as a share of it; of all puts, of those with a merge, of the deletes."
     );
-    let head = "put,tickets/put,merging put,tickets/put";
+    let head = "put,tickets/put,merging put,tickets/put,tickets/del";
     table(&above, head, rows, |row| row.cells(TICKETED));
     let above = format!(
         "Cold calls, in microseconds: before each, 64 MB of other memory gone over and 65,536 random words sorted.\n\
