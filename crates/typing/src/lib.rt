@@ -1,6 +1,7 @@
 // The call list programs' reading and writing: standard input to its end, and the answers to its lines to standard output. What is
 // printed is the dialogue's; here bytes are only read, fed and written.
 
+ghost use mathlib.Core.Path.{_≡_};
 ghost use Prim.Native.Nat.{_*_, _≤_};
 ghost use lib.ListN.{length};
 ghost use Rattle.dialogue.specs.Said.{ticketsMost, longestAnswer};
@@ -37,11 +38,12 @@ fn write_out(bytes: &[u8]) -> bool {
 }
 
 // The input is read, as many bytes at once as there is room for, until a read gives nothing; for each of them there must be room for
-// an answer. No contract can speak of what is read and written. A read that fails ends the program without an answer to the line that
-// has begun, because half a line may say what the whole line does not. Rattle wants a bound on every loop; this one is more reads
-// than any run makes.
+// an answer. No contract can speak of what is read and written: this one says that both buffers come back whole, and nothing of their
+// bytes. A read that fails ends the program without an answer to the line that has begun, because half a line may say what the whole
+// line does not. Rattle wants a bound on every loop; this one is more reads than any run makes.
 pub fn run(tickets: usize, input: &mut [u8], out: &mut [u8])
     requires { ⌜ (tickets ≤ ticketsMost) × ((1 ≤ length (now input)) × (longestAnswer tickets * length (now input) ≤ length (now out))) ⌝ }
+    ensures { λ _. ⌜ (length (now (input .exit)) ≡ length (now (input .entry))) × (length (now (out .exit)) ≡ length (now (out .entry))) ⌝ }
 {
     let mut space = [0u32; dialogue::BENCH_WORDS];
     let words: &mut [u32] = &mut space;
