@@ -1,4 +1,4 @@
--- The tickets that a call has gathered.
+-- Document 02, card 3: the tickets that a call has gathered.
 use Prim.Native.Nat.{ℕ}
 use mathlib.Core.List.{List}
 use lib.ListN.{take, getD}

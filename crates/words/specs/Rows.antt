@@ -1,4 +1,4 @@
--- Tickets as rows of four numbers: how the code gathers them, before they are handed out.
+-- Document 02, card 3: tickets as rows of four numbers, in which the code gathers them before they are handed out.
 use Prim.Native.Nat.{ℕ}
 use mathlib.Core.List.{List, [], _∷_, _++_, map}
 use lib.ListN.{take, drop}
