@@ -206,8 +206,8 @@ extern "C" {
  */
 #define MEWILOVANG_VERSION_MAJOR 1
 #define MEWILOVANG_VERSION_MINOR 3
-#define MEWILOVANG_VERSION_PATCH 0
-#define MEWILOVANG_VERSION "1.3.0"
+#define MEWILOVANG_VERSION_PATCH 1
+#define MEWILOVANG_VERSION "1.3.1"
 
 /*
  * The bytes of stack to have free for each call, from its return address down; the arguments and the answer stand in your

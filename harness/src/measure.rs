@@ -236,7 +236,7 @@ impl Rounds {
     }
 
     /// A block of rounds for about this time, then some cold calls, then a block of the
-    /// log. Both implementations must leave the same words.
+    /// log. Both implementations must merge at the same puts and leave the same words.
     pub fn block(&mut self, time: Duration, work: &mut Work) {
         let start = Instant::now();
         let mut block = Block::default();
@@ -244,6 +244,10 @@ impl Rounds {
             let words = self.list(&mut block.library, library);
             let right = self.list(&mut block.fast, fast);
             assert!(words == right, "the words differ after the puts");
+            assert!(
+                block.library.merges == block.fast.merges,
+                "other puts merge"
+            );
             let both = self.tickets(&mut block.pairs);
             assert!(both == [&words[..]; 2], "the words differ with tickets");
             block.rounds += 1;

@@ -40,7 +40,7 @@ impl Range {
 }
 
 /// The figures of a block, by name: times in microseconds, and ratios.
-const NAMES: [&str; 26] = [
+const NAMES: [&str; 27] = [
     "plain pass",
     "check",
     "check / plain pass",
@@ -53,6 +53,7 @@ const NAMES: [&str; 26] = [
     "put, merging / check",
     "put, worst / check",
     "put / fast put",
+    "merging put / fast merging put",
     "rules",
     "rules / fast",
     "live",
@@ -71,11 +72,11 @@ const NAMES: [&str; 26] = [
 /// Where the ratios of the first table begin and end, the rest of the second, and
 /// the parts of check; and what the tables of stretches and of tickets have.
 const FIRST: std::ops::Range<usize> = 0..7;
-const SECOND: std::ops::Range<usize> = 7..12;
-const PARTS: std::ops::Range<usize> = 12..16;
-const STRETCHES: [usize; 6] = [1, 16, 6, 19, 17, 18];
-const TICKETED: std::ops::Range<usize> = 20..25;
-const DELETE: usize = 25;
+const SECOND: std::ops::Range<usize> = 7..13;
+const PARTS: std::ops::Range<usize> = 13..17;
+const STRETCHES: [usize; 6] = [1, 17, 6, 20, 18, 19];
+const TICKETED: std::ops::Range<usize> = 21..26;
+const DELETE: usize = 26;
 
 /// The aims, at most so much.
 const AIMS: [(usize, f64); 4] = [(3, 1.2), (4, 1.1), (5, 2.0), (6, 2.5)];
@@ -93,51 +94,92 @@ const LOG: [&str; 3] = [
     "log check / fast check",
 ];
 
-/// The figures of one block.
+/// The figures of one block, table by table.
 fn figures(block: &Block) -> [f64; NAMES.len()] {
+    let tables = [
+        &first(block)[..],
+        &second(block),
+        &parts(block),
+        &stretches(block),
+        &pairs(block),
+    ];
+    tables.concat().try_into().expect("a figure for each name")
+}
+
+/// What the aims speak of.
+fn first(block: &Block) -> [f64; FIRST.end] {
     let (library, fast) = (&block.library, &block.fast);
-    let (pass, check, rules) = (
-        library.pass.mean(),
-        library.check.mean(),
-        library.rules.mean(),
-    );
-    let (fast_check, fast_rules) = (fast.check.mean(), fast.rules.mean());
-    let stretch = library.stretch.mean();
-    let puts = library.put.medians();
-    let of = |puts: &[f64], merging: bool| {
-        let both = puts.iter().zip(&library.merges);
-        let some = both.filter(|&(_, &merges)| (merges > 0) == merging);
-        mean(&some.map(|(&time, _)| time).collect::<Vec<_>>())
-    };
-    let [plain, ticketed] = block.pairs.put.each_ref().map(Times::medians);
-    let [delete, with_tickets] = block.pairs.delete.each_ref().map(Times::mean);
+    let (pass, check) = (library.pass.mean(), library.check.mean());
     [
         pass / 1000.0,
         check / 1000.0,
         check / pass,
-        check / fast_check,
+        check / fast.check.mean(),
         library.look_up.mean() / check,
-        mean(&puts) / check,
-        stretch / check,
+        library.put.mean() / check,
+        library.stretch.mean() / check,
+    ]
+}
+
+/// Next, and the puts by kind.
+fn second(block: &Block) -> [f64; SECOND.end - SECOND.start] {
+    let library = &block.library;
+    let (check, puts) = (library.check.mean(), library.put.medians());
+    let fast_puts = block.fast.put.medians();
+    [
         library.next.mean() / check,
-        of(&puts, false) / check,
-        of(&puts, true) / check,
+        of(block, &puts, false) / check,
+        of(block, &puts, true) / check,
         puts.iter().copied().fold(0.0, f64::max) / check,
-        mean(&puts) / fast.put.mean(),
+        mean(&puts) / mean(&fast_puts),
+        of(block, &puts, true) / of(block, &fast_puts, true),
+    ]
+}
+
+/// The mean of the puts with a merge, or of those without: the same puts of both
+/// implementations, since they merge at the same ones.
+fn of(block: &Block, puts: &[f64], merging: bool) -> f64 {
+    let both = puts.iter().zip(&block.library.merges);
+    let some = both.filter(|&(_, &merges)| (merges > 0) == merging);
+    mean(&some.map(|(&time, _)| time).collect::<Vec<_>>())
+}
+
+/// Check in parts.
+fn parts(block: &Block) -> [f64; PARTS.end - PARTS.start] {
+    let both = [&block.library, &block.fast];
+    let [check, fast_check] = both.map(|subject| subject.check.mean());
+    let [rules, fast_rules] = both.map(|subject| subject.rules.mean());
+    [
         rules / 1000.0,
         rules / fast_rules,
         (check - rules) / 1000.0,
         (check - rules) / (fast_check - fast_rules),
+    ]
+}
+
+/// Stretches of all records.
+fn stretches(block: &Block) -> [f64; 4] {
+    let library = &block.library;
+    let stretch = library.stretch.mean();
+    [
         stretch / 1000.0,
-        stretch / fast.stretch.mean(),
+        stretch / block.fast.stretch.mean(),
         library.nexts.mean() / stretch,
-        library.again.mean() / check,
+        library.again.mean() / library.check.mean(),
+    ]
+}
+
+/// Puts and deletes without tickets and with, and deletes.
+fn pairs(block: &Block) -> [f64; TICKETED.end - TICKETED.start + 1] {
+    let [plain, ticketed] = block.pairs.put.each_ref().map(Times::medians);
+    let [delete, with_tickets] = block.pairs.delete.each_ref().map(Times::mean);
+    [
         mean(&plain) / 1000.0,
         mean(&ticketed) / mean(&plain),
-        of(&plain, true) / 1000.0,
-        of(&ticketed, true) / of(&plain, true),
+        of(block, &plain, true) / 1000.0,
+        of(block, &ticketed, true) / of(block, &plain, true),
         with_tickets / delete,
-        library.delete.mean() / check,
+        block.library.delete.mean() / block.library.check.mean(),
     ]
 }
 
@@ -248,61 +290,84 @@ fn table(above: &str, head: &str, rows: &[Row], cells: impl Fn(&Row) -> Vec<Stri
 pub fn print(rows: &[Row]) {
     println!("Full stores, live = N, level 0 in steady state. Lowest and highest of the blocks of");
     println!("rounds, times in microseconds. All but the cold calls are warm.");
+    print_first(rows);
+    print_second(rows);
+    print_parts(rows);
+    print_stretches(rows);
+    print_tickets(rows);
+    print_cold(rows);
+    print_logs(rows);
+    rows.iter()
+        .filter(|row| row.geometry.slots() == 8192)
+        .for_each(print_aims);
+}
+
+/// What the aims speak of, with the aims.
+fn print_first(rows: &[Row]) {
     let head = "plain pass,check,check/pass,check/fast,look up/check,put mean/check,stretch/check";
-    table(
-        "What the aims speak of. Put: the mean of all puts. Stretch: of all N records.",
-        head,
-        rows,
-        |row| row.cells(FIRST),
-    );
+    let above = "What the aims speak of. Put: the mean of all puts. Stretch: of all N records.";
+    table(above, head, rows, |row| row.cells(FIRST));
     let mut aims = [const { String::new() }; FIRST.end];
     aims[PASSES.0] = format!("{}, {}", PASSES.1, PASSES.2);
     AIMS.iter()
         .for_each(|&(at, most)| aims[at] = format!("{most:.2}"));
     line("aim at most", &aims);
-    let head =
-        "next/check,put still,put merging,put worst,put/fast put,delete/check,N,words read,rounds";
+}
+
+/// Next, puts by kind and deletes, and how much was measured.
+fn print_second(rows: &[Row]) {
+    let head = "next/check,put still,put merging,put worst,put/fast put,merging/fast,\
+        delete/check,N,words read,rounds";
     let above = "Put as a share of check: still are the puts without a merge, merging those with, worst the\n\
-        slowest. Put/fast put: the mean put as a share of the fast baseline's. Words: what check must read.";
+        slowest. Put/fast put: the mean put as a share of the fast baseline's; merging/fast: the mean of those\n\
+        with a merge as a share of the fast baseline's same puts. Words: what check must read.";
     table(above, head, rows, |row| {
         let mut cells = row.cells(SECOND);
         cells.extend(row.cells(DELETE..DELETE + 1));
         cells.extend([row.geometry.key_limit(), row.words, row.rounds].map(|n| n.to_string()));
         cells
     });
+}
+
+/// Check in parts, and the merges.
+fn print_parts(rows: &[Row]) {
     let above = "Check in parts, in microseconds and as a share of the fast baseline's: all rules but live (timed\n\
         with a breach in the last block), and the count of live keys. Then the puts with merges, and their merges.";
-    table(
-        above,
-        "rules,rules/fast,live,live/fast,merging,merges",
-        rows,
-        |row| {
-            let mut cells = row.cells(PARTS);
-            cells.extend([row.merging.to_string(), row.merges.to_string()]);
-            cells
-        },
-    );
+    let head = "rules,rules/fast,live,live/fast,merging,merges";
+    table(above, head, rows, |row| {
+        let mut cells = row.cells(PARTS);
+        cells.extend([row.merging.to_string(), row.merges.to_string()]);
+        cells
+    });
+}
+
+/// Stretches of all records.
+fn print_stretches(rows: &[Row]) {
     let above = format!(
         "A stretch of all N records after other calls, with arrays of N entries: microseconds, a multiple of check, a\n\
         share of the fast baseline's. Again: the same stretch at once again. Nexts/stretch: one next for each record\n\
         instead, reckoned from {IN_A_ROW} in a row."
     );
-    table(
-        &above,
-        "N,check,stretch,stretch/check,again/check,stretch/fast,nexts/stretch",
-        rows,
-        |row| {
-            let mut cells = vec![row.geometry.key_limit().to_string()];
-            cells.extend(STRETCHES.map(|at| row.figures[at].text()));
-            cells
-        },
-    );
+    let head = "N,check,stretch,stretch/check,again/check,stretch/fast,nexts/stretch";
+    table(&above, head, rows, |row| {
+        let mut cells = vec![row.geometry.key_limit().to_string()];
+        cells.extend(STRETCHES.map(|at| row.figures[at].text()));
+        cells
+    });
+}
+
+/// Puts and deletes without tickets and with.
+fn print_tickets(rows: &[Row]) {
     let above = format!(
         "The same puts and deletes on two copies of the store in turn, without tickets and with {TICKETS}: microseconds without,\n\
         and with tickets as a share of it; of all puts, of those with a merge, of the deletes."
     );
     let head = "put,tickets/put,merging put,tickets/put,tickets/del";
     table(&above, head, rows, |row| row.cells(TICKETED));
+}
+
+/// Cold calls.
+fn print_cold(rows: &[Row]) {
     let above = format!(
         "Cold calls, in microseconds: before each, 64 MB of other memory gone over and 65,536 random words sorted.\n\
         {} calls of each kind: lowest and highest, then the middle. Last: the middle check as a multiple of the warm one.",
@@ -310,12 +375,13 @@ pub fn print(rows: &[Row]) {
     );
     let head = "check,middle,fast check,middle,put,middle,check/warm";
     table(&above, head, rows, Row::cold_cells);
+}
+
+/// Check on logs.
+fn print_logs(rows: &[Row]) {
     let above = "A full store as a log leaves it: keys rise, and the oldest goes for each new one, so the levels do not interleave.\n\
         Left out where level h has no block in such a store.";
     table(above, "check,check/pass,check/fast", rows, Row::log_cells);
-    rows.iter()
-        .filter(|row| row.geometry.slots() == 8192)
-        .for_each(print_aims);
 }
 
 /// The aims of one geometry.

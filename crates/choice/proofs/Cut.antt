@@ -2,7 +2,7 @@
 use Prim.Native.Nat.{ℕ, suc, _+_, _-_, _≤_, _<_}
 use mathlib.Core.Path.{_≡_, refl, sym, ap, _∙_}
 use mathlib.Core.Bool.{Bool, true, false}
-use mathlib.Core.List.{List, [], _∷_, map}
+use mathlib.Core.List.{[], _∷_, map}
 use native.Mathlib.Omega.{arith}
 use lib.Dec.{ltb}
 use lib.ListN.{length, take, drop, length-map, length-drop}
@@ -12,13 +12,12 @@ use Rattle.slices.specs.Ranks.{Rising, countBelow}
 use Rattle.levels.specs.Record.{Block, Level, firstKey, lastKey}
 use Rattle.levels.specs.Choose.{loOf, hiOf, below, notAbove, cutAt}
 use Rattle.choice.specs.declared.Stretch.{Stretch}
-use Rattle.choice.specs.Fences.{Fence, fenceOf, fencesFrom, fencesOf, Ordered, countAtMost, firstKeys, lastKeys, stretchOf}
+use Rattle.choice.specs.Fences.{Fence, fenceOf, Ordered, countAtMost, firstKeys, lastKeys, stretchOf}
 use Rattle.slices.proofs.Ranks.{count-in, count-none, count-high, count-drop, rising-drop}
 use Rattle.levels.proofs.Lists.{map-take, map-drop}
 use Rattle.choice.proofs.Lists.{map-of-map}
 use Rattle.choice.proofs.Levels.{low-fences, high-fences}
 use Rattle.choice.proofs.Order.{lasts-rise, firsts-rise, stretch-order, ordered-take, ordered-drop}
-use Rattle.choice.proofs.Keys.{run-from}
 
 -- The longest start of a level whose blocks have a rising key below a bound has as many blocks as there are such keys.
 -- F gives that start: `below` and `notAbove` do.
@@ -126,9 +125,3 @@ module _ (w first : ℕ) (above under : Level) (u : Ordered 0 (map fenceOf under
     cut-behind =
         let n : s .start + (s .end - s .start) ≡ s .end = omega (arith, ends-in-order) in
         rw (length-over, cut-start) (drop-drop (s .end - s .start) (s .start) under ∙ ap (λ (k : ℕ). drop k under) n)
-
--- The stretch of a run whose fences are kept as lists of keys is that of the blocks.
-pub stretch-fences : (firsts lasts starts ends : List ℕ) (a n first w : ℕ) (above under : Level)
-    → fencesOf firsts lasts a ≡ map fenceOf above → fencesOf starts ends n ≡ map fenceOf under → first + w ≤ a
-    → stretchOf (fencesFrom firsts lasts first w) (fencesOf starts ends n) ≡ stretchOf (take w (drop first (map fenceOf above))) (map fenceOf under)
-stretch-fences firsts lasts starts ends a n first w above under e d h = rw (← run-from firsts lasts a first w h, e, d)

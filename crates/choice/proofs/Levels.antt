@@ -7,8 +7,8 @@ use lib.Dec.{leb}
 use lib.ListN.{length, take, length-map}
 use Rattle.levels.specs.Basics.{if_then_else_}
 use Rattle.levels.specs.Record.{Level, records, rising, lastKey}
-use Rattle.levels.specs.Choose.{runs, loOf, hiOf, countMeets, overlap, choose}
-use Rattle.choice.specs.Fences.{fenceOf, fencesOf, Ordered, fenceRuns, lowOf, highOf, countOver, fenceOverlap, overlapsOf, chooseFences, choiceOf}
+use Rattle.levels.specs.Choose.{Least, runs, loOf, hiOf, countMeets, overlap, choose}
+use Rattle.choice.specs.Fences.{fenceOf, fencesOf, Ordered, fenceRuns, lowOf, highOf, countOver, fenceOverlap, overlapsOf, chooseFences, choiceOf, withStretch}
 use Rattle.levels.proofs.Lists.{map-take}
 use Rattle.levels.proofs.Rising.{test-rising}
 use Rattle.levels.proofs.Levels as levels
@@ -46,15 +46,16 @@ unfolding fenceOverlap
 overlap-fences under run = rw (low-fences run, high-fences run, count-fences (loOf run) (hiOf run) under)
 
 -- the choice by the first and last keys of the blocks is document 01's choice
-pub choose-fences : (w : ℕ) (above under : Level) → choose w above under ≡ chooseFences w (map fenceOf above) (map fenceOf under)
+pub choose-fences : (w : ℕ) (above under : Level) → choose w above under ≡ chooseFences w (map fenceOf above) (map fenceOf under) .run
 unfolding chooseFences overlapsOf
 choose-fences w above under =
     rw (runs-fences w above, map-of-map (fenceOverlap (map fenceOf under)) (map fenceOf) (overlap under) (overlap-fences under) (runs w above))
 
 -- the same, for lists of keys that hold the fences of the two levels
 pub choice-fences : (firsts lasts starts ends : List ℕ) (a n w : ℕ) (above under : Level) → fencesOf firsts lasts a ≡ map fenceOf above → fencesOf starts ends n ≡ map fenceOf under
-    → choiceOf (chooseFences w (fencesOf firsts lasts a) (fencesOf starts ends n)) ≡ choiceOf (choose w above under)
-choice-fences firsts lasts starts ends a n w above under e d = rw (e, d) (ap choiceOf (sym (choose-fences w above under)))
+    → choiceOf (chooseFences w (fencesOf firsts lasts a) (fencesOf starts ends n)) ≡ choiceOf (withStretch w (map fenceOf above) (map fenceOf under) (choose w above under))
+unfolding chooseFences
+choice-fences firsts lasts starts ends a n w above under e d = rw (e, d) (ap (λ (l : Least). choiceOf (withStretch w (map fenceOf above) (map fenceOf under) l)) (sym (choose-fences w above under)))
 
 -- Blocks in key order.
 

@@ -1,15 +1,13 @@
 -- Step 1 of a merge over key fences: the choice of the run needs the first and the last key of each block, and no words of the places.
-use Prim.Native.Nat.{ℕ, suc, _+_, _≤_, _<_}
+use Prim.Native.Nat.{ℕ, suc, _+_, _-_, _≤_}
 use mathlib.Core.Bool.{_&&_}
-use mathlib.Core.List.{List, [], _∷_, _++_, map}
+use mathlib.Core.List.{List, [], _∷_, map}
 use lib.Dec.{leb, ltb}
 use lib.ListN.{length, take, drop, getD}
 use Rattle.slices.specs.Ranks.{countBelow}
-use Rattle.geometry.specs.declared.Geometry.{Geometry}
-use Rattle.levels.specs.Basics.{if_then_else_}
-use Rattle.levels.specs.Record.{Block, firstKey, lastKey, new, pages}
+use Rattle.levels.specs.Basics.{if_then_else_, each}
+use Rattle.levels.specs.Record.{Block, firstKey, lastKey}
 use Rattle.levels.specs.Choose.{Least, leastOf}
-use Rattle.words.specs.Layout.{word, recordCount, each, blockAt, topRecs}
 use Rattle.choice.specs.declared.Choice.{Choice}
 use Rattle.choice.specs.declared.Stretch.{Stretch}
 
@@ -70,18 +68,6 @@ fenceOverlap under run = countOver (lowOf run) (highOf run) under
 unfoldable pub overlapsOf : ℕ → List Fence → List Fence → List ℕ
 overlapsOf w above under = map (fenceOverlap under) (fenceRuns w above)
 
--- the run that overlaps the fewest blocks below, of equals the one with the lowest keys
-unfoldable pub chooseFences : ℕ → List Fence → List Fence → Least
-chooseFences w above under = leastOf (overlapsOf w above under)
-
--- the same as the code has it
-abbrev pub choiceOf : Least → Choice
-choiceOf l = record { first = l .at; overlap = l .value }
-
--- a later run with its overlap replaces the choice so far only if it overlaps fewer
-abbrev pub better : Choice → ℕ → ℕ → Choice
-better c i q = if ltb q (c .overlap) then record { first = i; overlap = q } else c
-
 -- how many numbers of a list are at most a key: those below the number after it
 abbrev pub countAtMost : ℕ → List ℕ → ℕ
 countAtMost key xs = countBelow (suc key) xs
@@ -97,19 +83,26 @@ lastKeys fs = map (λ (f : Fence). f .last) fs
 unfoldable pub stretchOf : List Fence → List Fence → Stretch
 stretchOf run under = record { start = countBelow (lowOf run) (lastKeys under); end = countAtMost (highOf run) (firstKeys under) }
 
--- A list whose first n entries are f(0) .. f(n − 1), the others as before.
-unfoldable pub fill : (ℕ → ℕ) → ℕ → List ℕ → List ℕ
-fill f n xs = each f 0 n ++ drop n xs
+-- a run by its index and its overlap, with the stretch below it
+pub record Fewest : Type 0 where
+  pub run : Least
+  pub below : Stretch
 
--- the fence of the i-th block of a place list, and of page i of level 0
-unfoldable pub listedFence : Geometry → List ℕ → List ℕ → ℕ → Fence
-listedFence g ws list i = fenceOf (blockAt g ws (word list i))
+abbrev pub withStretch : ℕ → List Fence → List Fence → Least → Fewest
+withStretch w above under l = record { run = l; below = stretchOf (take w (drop (l .at) above)) under }
 
-unfoldable pub pageFence : Geometry → List ℕ → ℕ → Fence
-pageFence g ws i = fenceOf (getD (pages (g .b) (topRecs g ws)) i (new []))
+-- the run that overlaps the fewest blocks below, of equals the one with the lowest keys; and the stretch below it
+unfoldable pub chooseFences : ℕ → List Fence → List Fence → Fewest
+chooseFences w above under = withStretch w above under (leastOf (overlapsOf w above under))
 
--- a place whose block can be read: it is one of the P places, and its block has 1 to B records
-pub record Readable (g : Geometry) (ws : List ℕ) (place : ℕ) : Type 0 where
-  pub inside : place < g .p
-  pub filled : 1 ≤ recordCount g ws place
-  pub fits : recordCount g ws place ≤ g .b
+-- the same as the code has it
+abbrev pub choiceOf : Fewest → Choice
+choiceOf c = record { first = c .run .at; overlap = c .run .value; below = c .below }
+
+-- the run from block i on, by the stretch below it
+abbrev pub runOver : ℕ → Stretch → Choice
+runOver i y = record { first = i; overlap = y .end - y .start; below = y }
+
+-- a later run replaces the choice so far only if it overlaps fewer
+abbrev pub fewer : Choice → Choice → Choice
+fewer best later = if ltb (later .overlap) (best .overlap) then later else best

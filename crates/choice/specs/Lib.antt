@@ -1,1 +1,2 @@
 pub mod Fences
+pub mod Pass

@@ -21,7 +21,7 @@ use Rattle.chunks.specs.declared.Chunk.{Chunk}
 use Rattle.chunks.specs.Chunks.{zerosAt, chunkRecs}
 use Rattle.levels.proofs.Basics.{and-left, and-right}
 use Rattle.levels.proofs.Laid.{has-append}
-use Rattle.words.proofs.Each.{all-each-at}
+use Rattle.levels.proofs.Each.{all-each-at}
 use Rattle.words.proofs.Slots.{slots-take}
 use Rattle.words.proofs.Blocks.{block-size}
 use Rattle.words.proofs.Lists.{level-length}

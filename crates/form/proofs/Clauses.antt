@@ -9,16 +9,16 @@ use lib.Dec.{eqb}
 use lib.ListN.{length, replicate}
 use Rattle.geometry.specs.declared.Geometry.{Geometry}
 use Rattle.geometry.specs.Geometry.{within}
-use Rattle.levels.specs.Basics.{all, orElse}
+use Rattle.levels.specs.Basics.{all, orElse, each}
 use Rattle.levels.specs.Record.{Rec, records, rising, hasTombstone, cleanTombstones}
 use Rattle.levels.specs.Map.{find, overlay, view, unmarked, mapOf, liveCount, decides}
 use Rattle.levels.specs.Store.{rows}
 use Rattle.levels.proofs.Basics.{or-none}
 use Rattle.levels.proofs.Overlay.{overlay-nil}
 use Rattle.levels.proofs.Every.{all-joined}
-use Rattle.words.proofs.Each.{each-add, map-each, all-each}
+use Rattle.levels.proofs.Each.{each-add, map-each, all-each}
 use Rattle.words.proofs.Form.{clauses-formed, formed-clauses}
-use Rattle.words.specs.Layout.{liveAt, topRecs, recordCount, levelAt, each, storeAt}
+use Rattle.words.specs.Layout.{liveAt, topRecs, recordCount, levelAt, storeAt}
 use Rattle.words.specs.Form.{liveExact, blocksFilled, keysRise, bottomUnmarked, blocksUnusedZero, tombstonesClean, pairsKept, levelsKept, formed}
 use Rattle.entry.specs.Entry.{Sized}
 use Rattle.directory.specs.Directory.{recordsOf, levelFormed}

@@ -8,11 +8,11 @@ use lib.ListN.{length, drop}
 use lib.Seq.{take-at, drop-at}
 use Rattle.geometry.specs.declared.Geometry.{Geometry}
 use Rattle.geometry.specs.Geometry.{capacityOf, listStart}
-use Rattle.levels.specs.Basics.{all}
+use Rattle.levels.specs.Basics.{all, each}
 use Rattle.levels.proofs.Every.{all-joined}
-use Rattle.words.specs.Layout.{word, each, countAt, listAt, listedAt}
+use Rattle.words.specs.Layout.{word, countAt, listAt, listedAt}
 use Rattle.words.specs.Form.{isZero, listedPlaces}
-use Rattle.words.proofs.Each.{length-each, each-add, each-part}
+use Rattle.levels.proofs.Each.{length-each, each-add, each-part}
 use Rattle.chunks.specs.Chunks.{zerosAt}
 use Rattle.form.proofs.Tests.{range}
 

@@ -17,7 +17,7 @@ use Rattle.geometry.proofs.Bounds.{capacity-zero-high}
 use Rattle.levels.specs.Basics.{all, ceilDiv}
 use Rattle.words.specs.Layout.{word, topCountAt, countAt, listedAt}
 use Rattle.words.specs.Form.{liveFits, cursorInside, topFits, countsFit, placesInside, placesOnce, listsUnusedZero}
-use Rattle.words.proofs.Each.{all-each-at}
+use Rattle.levels.proofs.Each.{all-each-at}
 use Rattle.words.proofs.Form.{count-low, count-empty}
 use Rattle.entry.specs.Entry.{Sized}
 use Rattle.directory.specs.Directory.{Within}

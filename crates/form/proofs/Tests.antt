@@ -4,9 +4,8 @@ use mathlib.Core.Path.{_≡_, sym, ap, _∙_, refl}
 use mathlib.Core.Bool.{Bool, true, false, _&&_, and-true}
 use mathlib.Core.List.{List, [], _∷_}
 use native.Mathlib.Omega.{arith}
-use Rattle.levels.specs.Basics.{all}
-use Rattle.words.specs.Layout.{each}
-use Rattle.words.proofs.Each.{all-each-at}
+use Rattle.levels.specs.Basics.{all, each}
+use Rattle.levels.proofs.Each.{all-each-at}
 
 -- two tests that imply each other are one test
 pub test-same : (a b : Bool) → (a ≡ true → b ≡ true) → (b ≡ true → a ≡ true) → a ≡ b

@@ -18,7 +18,7 @@ use Rattle.levels.proofs.Every.{all-joined}
 use Rattle.words.specs.Layout.{word, slotsAt, pageSlots, topSlots, topRecs, topCountAt}
 use Rattle.words.specs.Form.{blank, topUnusedZero}
 use Rattle.chunks.specs.Chunks.{zerosAt, chunkRecs}
-use Rattle.words.proofs.Each.{each-add}
+use Rattle.levels.proofs.Each.{each-add}
 use Rattle.words.proofs.Slots.{slots-length, slots-take}
 use Rattle.directory.specs.Directory.{chunkAt, recordsFrom, recordsOf, keptOf, leanLevel, levelFormed}
 use Rattle.directory.proofs.Laws.{tidyChunk, tidyFrom, formed-is}

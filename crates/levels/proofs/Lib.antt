@@ -1,5 +1,6 @@
 pub mod Basics
 pub mod Lists
+pub mod Each
 pub mod Rising
 pub mod Overlay
 pub mod View

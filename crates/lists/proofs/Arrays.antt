@@ -13,7 +13,7 @@ use Rattle.levels.specs.Record.{Level}
 use Rattle.levels.specs.Store.{Store}
 use Rattle.levels.specs.Sound.{Fits}
 use Rattle.words.specs.Layout.{countAt, listedAt, levelAt, placeOf}
-use Rattle.words.proofs.Each.{getD-each}
+use Rattle.levels.proofs.Each.{getD-each}
 use Rattle.words.proofs.Lists.{level-places}
 use Rattle.words.proofs.State.{Holds, count-held, levels-held}
 use Rattle.words.specs.Form.{roomOf}

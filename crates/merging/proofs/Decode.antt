@@ -11,8 +11,9 @@ use lib.ListN.{length, getD}
 use lib.Seq.{drop-cons}
 use Rattle.geometry.specs.declared.Geometry.{Geometry}
 use Rattle.geometry.specs.Geometry.{placeStart}
+use Rattle.levels.specs.Basics.{each}
 use Rattle.levels.specs.Record.{Rec, new}
-use Rattle.words.specs.Layout.{slotsAt, recordCount, markWordAt, blockSlots, blockAt, each}
+use Rattle.words.specs.Layout.{slotsAt, recordCount, markWordAt, blockSlots, blockAt}
 use Rattle.blocks.specs.Blocks.{layoutOf}
 use Rattle.blocks.proofs.Laws.{start-place}
 use Rattle.sides.specs.declared.Chunk.{Chunk}

@@ -7,11 +7,12 @@ use lib.ListN.{getD, length, take, drop}
 use Rattle.geometry.specs.declared.Geometry.{Geometry}
 use Rattle.geometry.specs.Geometry.{Valid, capacityOf, marksStart, keysStart, paysStart, placesStart, storeLength}
 use Rattle.geometry.specs.Room.{placesMost, listRoom}
+use Rattle.levels.specs.Basics.{each}
 use Rattle.levels.specs.Record.{Block, Level, new}
 use Rattle.levels.specs.Rising.{Rising}
 use Rattle.levels.specs.Merge.{merge}
 use Rattle.levels.specs.Place.{Settled, placesOf}
-use Rattle.words.specs.Layout.{word, slotsAt, recordCount, markWordAt, blockAt, each, bit, areaOf, writeBlocks}
+use Rattle.words.specs.Layout.{word, slotsAt, recordCount, markWordAt, blockAt, bit, areaOf, writeBlocks}
 use Rattle.blocks.specs.Blocks.{Marks, emptyBuffer}
 use Rattle.stream.specs.declared.Progress.{Progress}
 use Rattle.stream.specs.declared.Inputs.{Inputs}

@@ -10,31 +10,27 @@ use Rattle.levels.specs.Choose.{Least, choose, cutAt}
 use Rattle.levels.proofs.Cut.{cut-lengths}
 use Rattle.choice.specs.declared.Choice.{Choice}
 use Rattle.choice.specs.declared.Stretch.{Stretch}
-use Rattle.choice.specs.Fences.{Fence, Fenced, Ordered, fenceOf, fencesFrom, fencesOf, chooseFences, choiceOf, stretchOf, fill, listedFence}
+use Rattle.choice.specs.Fences.{Fenced, Ordered, fenceOf, fencesOf, chooseFences, choiceOf, stretchOf}
+use Rattle.fences.specs.Reading.{fill, listedFence}
 use Rattle.choice.proofs.Levels.{choose-fences, choice-fences}
-use Rattle.choice.proofs.Choose.{chosen-inside, chosen-overlap, chosen-run}
-use Rattle.choice.proofs.Cut.{cut-before, cut-over, cut-behind, cut-start, cut-end, stretch-fences}
+use Rattle.choice.proofs.Choose.{chosen-inside, chosen-overlap}
+use Rattle.choice.proofs.Cut.{cut-before, cut-over, cut-behind, cut-start, cut-end}
 use Rattle.choice.proofs.Keys.{level-fenced}
-use Rattle.choice.proofs.Words.{listed-fences}
+use Rattle.fences.proofs.Words.{listed-fences}
 use Rattle.pair.specs.declared.Picked.{Picked}
 use Rattle.pair.specs.Contract.{levelOf, Chosen, Readables}
 
--- the run that is chosen by fences lies in its level
-pub picked-inside : (firsts lasts : List ℕ) (a w : ℕ) (under : List Fence) (c : Choice) → c ≡ choiceOf (chooseFences w (fencesOf firsts lasts a) under) → 1 ≤ w → w ≤ a → c .first + w ≤ a
-picked-inside firsts lasts a w under c e p h = rw (ap (λ (x : Choice). x .first) e) (chosen-run firsts lasts a w under p h)
-
 -- what is found by fences is the choice by blocks
-pub picked : (firsts lasts starts ends : List ℕ) (a n w : ℕ) → 1 ≤ w → w ≤ a
-    → (c : Choice) → c ≡ choiceOf (chooseFences w (fencesOf firsts lasts a) (fencesOf starts ends n))
-    → (y : Stretch) → y ≡ stretchOf (fencesFrom firsts lasts (c .first) w) (fencesOf starts ends n)
+pub picked : (firsts lasts starts ends : List ℕ) (a n w : ℕ) (c : Choice) → c ≡ choiceOf (chooseFences w (fencesOf firsts lasts a) (fencesOf starts ends n))
     → (above under : Level) → fencesOf firsts lasts a ≡ map fenceOf above → fencesOf starts ends n ≡ map fenceOf under
-    → Chosen w above under (record { first = c .first; overlap = c .overlap; start = y .start; end = y .end })
-picked firsts lasts starts ends a n w p h c ec y ey above under ea eu =
-    let d = ec ∙ choice-fences firsts lasts starts ends a n w above under ea eu in
+    → Chosen w above under (record { first = c .first; overlap = c .overlap; start = c .below .start; end = c .below .end })
+picked firsts lasts starts ends a n w c e above under ea eu =
+    let d = e ∙ choice-fences firsts lasts starts ends a n w above under ea eu in
+    let first : c .first ≡ choose w above under .at = ap (λ (x : Choice). x .first) d in
     record {
-      first = ap (λ (x : Choice). x .first) d;
+      first = first;
       overlap = ap (λ (x : Choice). x .overlap) d;
-      stretch = ey ∙ stretch-fences firsts lasts starts ends a n (c .first) w above under ea eu (picked-inside firsts lasts a w (fencesOf starts ends n) c ec p h);
+      stretch = ap (λ (x : Choice). x .below) d ∙ ap (λ (k : ℕ). stretchOf (take w (drop k (map fenceOf above))) (map fenceOf under)) (sym first);
     }
 
 -- lists of keys filled from the blocks of a place list
@@ -51,7 +47,7 @@ module _ (w : ℕ) (above under : Level) (r : Picked) (k : Chosen w above under 
   fits : w ≤ length (map fenceOf above)
   fits = rw (length-map above fenceOf) h
 
-  at-fences : chooseFences w (map fenceOf above) (map fenceOf under) .at ≡ r .first
+  at-fences : chooseFences w (map fenceOf above) (map fenceOf under) .run .at ≡ r .first
   at-fences = sym (k .first ∙ ap (λ (l : Least). l .at) (choose-fences w above under))
 
   pub run-inside : r .first + w ≤ length above

@@ -11,6 +11,7 @@ use lib.Seq.{take-all, take-at, drop-at}
 use Rattle.geometry.specs.declared.Geometry.{Geometry}
 use Rattle.geometry.specs.Geometry.{Valid, windowOf, capacityOf, topCapacityOf, marksStart, keysStart, paysStart, storeLength}
 use Rattle.geometry.proofs.Laws.{window-low, level-high}
+use Rattle.levels.specs.Basics.{each}
 use Rattle.levels.specs.Record.{Block, Level, records, rising, new, pages}
 use Rattle.levels.specs.Rising.{Rising}
 use Rattle.levels.proofs.Rising.{test-rising}
@@ -20,15 +21,16 @@ use Rattle.levels.specs.Merge.{merge}
 use Rattle.levels.specs.Place.{Allocation, settle}
 use Rattle.levels.proofs.Overlap.{window-fits}
 use Rattle.levels.proofs.Pages.{pack-full}
-use Rattle.words.specs.Layout.{word, each, slotsAt, pageSlots, topSlots, topRecs, topCountAt}
+use Rattle.words.specs.Layout.{word, slotsAt, pageSlots, topSlots, topRecs, topCountAt}
 use Rattle.words.proofs.Slots.{slots-length}
 use Rattle.words.proofs.Top.{top-slots-length}
-use Rattle.choice.specs.Fences.{Ordered, Fenced, fenceOf, fencesOf, fill, pageFence}
+use Rattle.choice.specs.Fences.{Ordered, Fenced, fenceOf, fencesOf}
+use Rattle.fences.specs.Reading.{fill, pageFence}
 use Rattle.choice.proofs.Keys.{level-fenced}
 use Rattle.levels.proofs.Levels.{Filled}
 use Rattle.choice.proofs.Levels.{level-ordered}
-use Rattle.words.proofs.Each.{length-each, getD-each, each-take, each-drop}
-use Rattle.choice.proofs.Words.{page-fences}
+use Rattle.levels.proofs.Each.{length-each, getD-each, each-take, each-drop}
+use Rattle.fences.proofs.Words.{page-fences}
 use Rattle.blocks.specs.Blocks.{Marks}
 use Rattle.merging.specs.declared.Cut.{Cut}
 use Rattle.merging.specs.declared.Merged.{Merged}

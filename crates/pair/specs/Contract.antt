@@ -15,7 +15,8 @@ use Rattle.levels.specs.Merge.{merge, close}
 use Rattle.levels.specs.Place.{Allocation, Settled, settle, placesOf}
 use Rattle.words.specs.Layout.{word, blockAt, areaOf, writeBlocks, topRecs, topCountAt}
 use Rattle.choice.specs.declared.Stretch.{Stretch}
-use Rattle.choice.specs.Fences.{Ordered, Readable, fenceOf, stretchOf}
+use Rattle.choice.specs.Fences.{Ordered, fenceOf, stretchOf}
+use Rattle.fences.specs.Reading.{Readable}
 use Rattle.blocks.specs.Blocks.{Marks}
 use Rattle.merging.specs.declared.Cut.{Cut}
 use Rattle.merging.specs.Contract.{ListedBlock}

@@ -74,15 +74,13 @@ fn pick(
 {
     let mut starts = [0u32; FENCES];
     let mut ends = [0u32; FENCES];
-    choice::fence_blocks(s, g, lower, n, &mut starts, &mut ends);
+    fences::fence_blocks(s, g, lower, n, &mut starts, &mut ends);
     let run = choice::choose_run(firsts, lasts, a, &starts, &ends, n, w);
-    let first = run.first;
-    let y = choice::below_run(firsts, lasts, first, w, &starts, &ends, n);
     Picked {
-        first: first,
+        first: run.first,
         overlap: run.overlap,
-        start: y.start,
-        end: y.end,
+        start: run.below.start,
+        end: run.below.end,
     }
 }
 
@@ -101,7 +99,7 @@ fn choose_listed(
 {
     let mut firsts = [0u32; FENCES];
     let mut lasts = [0u32; FENCES];
-    choice::fence_blocks(s, g, upper, a, &mut firsts, &mut lasts);
+    fences::fence_blocks(s, g, upper, a, &mut firsts, &mut lasts);
     pick(s, lower, g, &firsts, &lasts, a, n, w)
 }
 
@@ -119,7 +117,7 @@ fn choose_pages(
 {
     let mut firsts = [0u32; FENCES];
     let mut lasts = [0u32; FENCES];
-    choice::fence_pages(s, g, a, &mut firsts, &mut lasts);
+    fences::fence_pages(s, g, a, &mut firsts, &mut lasts);
     pick(s, lower, g, &firsts, &lasts, a, n, w)
 }
 

@@ -12,7 +12,7 @@ use borrow.Author.Tests.{ltb-true}
 use Rattle.geometry.specs.declared.Geometry.{Geometry}
 use Rattle.geometry.specs.Geometry.{Valid, capacityOf, topCapacityOf, windowOf, marksStart, listStart, placesStart}
 use Rattle.geometry.proofs.Laws.{store-length-low, level-high}
-use Rattle.levels.specs.Basics.{all}
+use Rattle.levels.specs.Basics.{all, each}
 use Rattle.levels.specs.Record.{Rec, Level, records, rising, pages}
 use Rattle.levels.specs.Choose.{choose, cutAt}
 use Rattle.levels.specs.Place.{Settled}
@@ -28,7 +28,7 @@ use Rattle.levels.proofs.Compaction.{pages-full}
 use Rattle.levels.proofs.Rising.{rising-test}
 use Rattle.levels.proofs.Rows.{risings-at}
 use Rattle.levels.proofs.Entry.{inside-fit, blocks-at}
-use Rattle.words.specs.Layout.{word, topCountAt, topSlots, topRecs, each, areaOf, topWords, writeBlocks, topLength}
+use Rattle.words.specs.Layout.{word, topCountAt, topSlots, topRecs, areaOf, topWords, writeBlocks, topLength}
 use Rattle.words.specs.Form.{topUnusedZero}
 use Rattle.words.proofs.Slots.{padRecs, pad-blank}
 use Rattle.words.proofs.Top.{top-words-length, top-marks, top-read}
@@ -53,7 +53,7 @@ use Rattle.steps.specs.Running.{counted, mergedCounts, OneLeft, PageRead
 use Rattle.steps.proofs.Standing.{inside-short, listed-block, listed-level, but-top-read}
 use Rattle.steps.proofs.Compacting.{listed-new}
 use Rattle.steps.proofs.Merging.{start-due, start-inside, due-free, due-room, merged-few, merged-grown, merged-words, merged-ticket}
-use Rattle.words.proofs.Each.{all-each-at}
+use Rattle.levels.proofs.Each.{all-each-at}
 
 -- Words that hold t, whose level 0 has room, are ready for level 0's edits.
 module _ (g : Geometry) (ws : List ℕ) (t : Store) (v : Valid g) (k : HoldsBut g ws t) (fits : length (t .top) ≤ topCapacityOf g) where

@@ -10,7 +10,7 @@ use lib.ListN.{length, take, drop, set}
 use lib.Seq.{take-at, drop-at, take-nil, drop-nil, take-add, drop-drop, take-append-seam}
 use Rattle.geometry.specs.declared.Geometry.{Geometry}
 use Rattle.geometry.specs.Geometry.{Valid, capacityOf, topCapacityOf, marksStart, listStart, blockWidth}
-use Rattle.levels.specs.Basics.{all}
+use Rattle.levels.specs.Basics.{all, each}
 use Rattle.levels.specs.Record.{Rec, Level, records, rising, pages}
 use Rattle.levels.specs.Store.{Store}
 use Rattle.levels.specs.Sound.{Fits, Sound}
@@ -18,7 +18,7 @@ use Rattle.levels.proofs.Basics.{and-left}
 use Rattle.levels.proofs.Compaction.{pages-records}
 use Rattle.levels.proofs.Levels.{records-append}
 use Rattle.levels.proofs.Pages.{pages-step}
-use Rattle.words.specs.Layout.{word, topCountAt, topSlots, topRecs, each, headerWords, topWords, listWords, storeWords, part, topLength}
+use Rattle.words.specs.Layout.{word, topCountAt, topSlots, topRecs, headerWords, topWords, listWords, storeWords, part, topLength}
 use Rattle.words.specs.Form.{topUnusedZero}
 use Rattle.words.proofs.Parts.{part-mid}
 use Rattle.words.proofs.Slots.{padRecs, pad-blank}

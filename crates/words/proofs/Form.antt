@@ -12,7 +12,7 @@ use borrow.Author.Tests.{leb-true, leb-false, ltb-true, eqb-true, not-true, le-l
 use Rattle.geometry.specs.declared.Geometry.{Geometry}
 use Rattle.geometry.specs.Geometry.{Valid, within, capacityOf, capacitySum, flashCapacityOf, topCapacityOf, marksStart, listStart, storeLength}
 use Rattle.geometry.proofs.Laws.{place-inside, list-inside, store-length-low}
-use Rattle.levels.specs.Basics.{if_then_else_, all}
+use Rattle.levels.specs.Basics.{if_then_else_, all, each}
 use Rattle.levels.specs.Record.{Rec, Block, Level}
 use Rattle.levels.specs.Waste.{pairRule, needsCompact}
 use Rattle.levels.specs.Place.{placesOf}
@@ -20,10 +20,10 @@ use Rattle.levels.specs.Store.{Store}
 use Rattle.levels.specs.Every.{Every, allBlocks}
 use Rattle.levels.specs.Sound.{BlockFits, Fits, Tight, Sound}
 use Rattle.levels.proofs.Every.{every-turn, every-both, every-map, every-of-all, all-of-every}
-use Rattle.words.specs.Layout.{word, geometryAt, topCountAt, countAt, topSlots, topRecs, listedAt, recordCount, markWordAt, blockSlots, blockAt, levelAt, each, storeAt, pad, placeOf, headerWords, listWords, blockWords, areaOf, storeWords, part, placeWords}
+use Rattle.words.specs.Layout.{word, geometryAt, topCountAt, countAt, topSlots, topRecs, listedAt, recordCount, markWordAt, blockSlots, blockAt, levelAt, storeAt, pad, placeOf, headerWords, listWords, blockWords, areaOf, storeWords, part, placeWords}
 use Rattle.words.specs.Form.{allListed, listedPlaces, blank, liveExact, liveFits, cursorInside, topFits, roomOf, countsFit, placesInside, placesOnce, blocksFilled, keysRise, bottomUnmarked, topUnusedZero, listsUnusedZero, blocksUnusedZero, tombstonesClean, pairsKept, levelsKept, clauses, formed}
 use Rattle.words.specs.Passed.{Laid}
-use Rattle.words.proofs.Each.{length-each, getD-each, all-each, all-each-at}
+use Rattle.levels.proofs.Each.{length-each, getD-each, all-each, all-each-at}
 use Rattle.words.proofs.Parts.{part-cons}
 use Rattle.words.proofs.Slots.{mark-low, padRecs, pad-blank}
 use Rattle.words.proofs.Blocks.{place-words, place-below, block-size, count-read, mark-read, slots-read, block-written}

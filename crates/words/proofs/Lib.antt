@@ -1,4 +1,3 @@
-pub mod Each
 pub mod Parts
 pub mod Rows
 pub mod Slots

@@ -29,10 +29,17 @@ impl List {
 
 /// Step 1: the run's first block, and Y, which is where the run's keys would go in
 /// if it overlaps nothing.
-struct Run {
-    first: usize,
-    start: usize,
-    end: usize,
+pub struct Run {
+    pub first: usize,
+    pub start: usize,
+    pub end: usize,
+}
+
+impl Run {
+    /// How many blocks Y has.
+    fn overlap(&self) -> usize {
+        self.end - self.start
+    }
 }
 
 /// A store while its levels merge.
@@ -139,32 +146,40 @@ impl<'a> Work<'a> {
         (self.fences(slots[0]).0, self.fences(slots[w - 1]).1)
     }
 
-    /// Step 1. The keys of the runs rise, so both ends of Y only move up.
-    fn choose(&self, upper: usize, w: usize) -> Run {
+    /// Every run with its Y, by going once over both lists: `start` is the number of blocks below
+    /// whose last key is below the run's first key, `end` the number of blocks
+    /// below whose first key is not above its last. The keys of the runs rise, so neither ever goes back.
+    pub fn runs(&self, upper: usize, w: usize) -> impl Iterator<Item = Run> + '_ {
         let below = self.lists[upper].slots();
         let blocks = match upper {
             0 => self.shape.capacity[0],
             _ => self.lists[upper - 1].n,
         };
+        let (mut start, mut end) = (0, 0);
+        (0..=blocks - w).map(move |first| {
+            let (low, high) = self.run_fences(upper, first, w);
+            while start < below.len() && self.fences(below[start]).1 < low {
+                start += 1;
+            }
+            while end < below.len() && self.fences(below[end]).0 <= high {
+                end += 1;
+            }
+            Run { first, start, end }
+        })
+    }
+
+    /// Step 1. A run that overlaps no block ends the choice: no run overlaps fewer.
+    fn choose(&self, upper: usize, w: usize) -> Run {
         let mut best = Run {
             first: 0,
             start: 0,
             end: usize::MAX,
         };
-        let (mut start, mut end) = (0, 0);
-        for first in 0..=blocks - w {
-            let (low, high) = self.run_fences(upper, first, w);
-            while start < below.len() && self.fences(below[start]).1 < low {
-                start += 1;
+        for run in self.runs(upper, w) {
+            if run.overlap() < best.overlap() {
+                best = run;
             }
-            end = end.max(start);
-            while end < below.len() && self.fences(below[end]).0 <= high {
-                end += 1;
-            }
-            if end - start < best.end - best.start {
-                best = Run { first, start, end };
-            }
-            if start == end {
+            if best.overlap() == 0 {
                 break;
             }
         }
@@ -205,7 +220,7 @@ impl<'a> Work<'a> {
         Ticket {
             level: upper as u32,
             first: run.first as u32,
-            overlap: (run.end - run.start) as u32,
+            overlap: run.overlap() as u32,
             written: written as u32,
         }
     }

@@ -6,9 +6,9 @@
 
 mod form;
 mod live;
-mod merge;
+pub(crate) mod merge;
 mod search;
-mod shape;
+pub(crate) mod shape;
 mod stretch;
 mod top;
 mod walk;

@@ -3,18 +3,21 @@
 
 use super::lists::formatted;
 use super::seed;
+use crate::block::Span;
 use crate::borders::borders;
 use crate::breach::Breach;
 use crate::calls::{self, Changed};
 use crate::damage::damaged;
-use crate::fast;
+use crate::fast::{self, merge, shape::Shape};
 use crate::fault::{set, Fault};
 use crate::generate::{legal_geometries, Choices, Stream};
 use crate::geometry::Geometry;
+use crate::layout::COUNTS;
 use crate::random::Random;
 use crate::readings::one_word;
 use crate::script::Line;
 use crate::unreachable;
+use crate::work;
 
 /// The same store for both.
 struct Both {
@@ -250,6 +253,51 @@ fn same_on_damaged_stores() {
     }
     println!("reasons {reasons:?}");
     assert!(reasons.iter().all(|&stores| stores > 0));
+}
+
+/// Document 02's card 4, at each run of `w` neighbours: "the lower end is [..] the number of
+/// blocks below whose last key is below the run's first key, the upper one the number whose
+/// first key isn't above its last".
+fn ends_are_counts(fast: &merge::Work, upper: usize, w: usize, above: &[Span], below: &[Span]) {
+    let count = |met: &dyn Fn(&Span) -> bool| below.iter().filter(|&block| met(block)).count();
+    let runs: Vec<_> = fast.runs(upper, w).collect();
+    assert_eq!(runs.len(), above.len() - w + 1);
+    for (at, (run, blocks)) in runs.iter().zip(above.windows(w)).enumerate() {
+        let (first, last) = (blocks[0].first, blocks[w - 1].last);
+        assert_eq!(run.first, at);
+        assert_eq!(run.start, count(&|block| block.last < first));
+        assert_eq!(run.end, count(&|block| block.first <= last));
+    }
+    let forward = |two: &[merge::Run]| two[0].start <= two[1].start && two[0].end <= two[1].end;
+    assert!(runs.windows(2).all(forward), "an end goes back");
+}
+
+/// The same for all runs out of every level of random stores, with a random window.
+#[test]
+fn ends_of_the_choice() {
+    let mut random = Random::new(seed() ^ 0x5555);
+    let choices = [Choices::new(2500), Choices::new(16384)];
+    let mut levels = [0; 3];
+    for round in 0..1500 {
+        let geometry = choices[usize::from(round % 8 == 0)].pick(&mut random);
+        let mut words = unreachable::store(&mut random, geometry);
+        // The pages of level 0 are there only where it is full.
+        let full = words[COUNTS] as usize == geometry.level_zero_records();
+        let plain = work::Work::open(&mut words).expect("a store");
+        let spans: Vec<_> = (0..=geometry.levels()).map(|i| plain.spans(i)).collect();
+        let shape = Shape::new(geometry.numbers()).expect("a legal geometry");
+        let fast = merge::Work::open(&mut words, &shape);
+        for upper in usize::from(!full)..geometry.levels() {
+            let (above, below) = (&spans[upper], &spans[upper + 1]);
+            if !above.is_empty() {
+                let w = random.between(1, above.len());
+                ends_are_counts(&fast, upper, w, above, below);
+                levels[upper] += 1;
+            }
+        }
+    }
+    println!("levels {levels:?}");
+    assert!(levels.iter().all(|&levels| levels > 50));
 }
 
 /// Every legal geometry of few slots and its neighbours: format answers the same.

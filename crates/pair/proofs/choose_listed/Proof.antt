@@ -5,7 +5,7 @@ use Rattle.pair.proofs.choose_listed.Statement.{statement}
 use Rattle.pair.proofs.choose_listed.Tie as tie
 use Rattle.pair.proofs.choose_listed.Reads as reads
 use Rattle.pair.proofs.choose_listed.Lts as lts
-use Rattle.choice.proofs.fence_blocks.Reads as fence-blocks-reads
+use Rattle.fences.proofs.fence_blocks.Reads as fence-blocks-reads
 use Rattle.pair.proofs.pick.Reads as pick-reads
 
 slice-aggregate-fence-blocks : tie.Need-slice-aggregate-fence-blocks

@@ -5,7 +5,7 @@ use Rattle.pair.proofs.choose_pages.Statement.{statement}
 use Rattle.pair.proofs.choose_pages.Tie as tie
 use Rattle.pair.proofs.choose_pages.Reads as reads
 use Rattle.pair.proofs.choose_pages.Lts as lts
-use Rattle.choice.proofs.fence_pages.Reads as fence-pages-reads
+use Rattle.fences.proofs.fence_pages.Reads as fence-pages-reads
 use Rattle.pair.proofs.pick.Reads as pick-reads
 
 slice-aggregate-fence-pages : tie.Need-slice-aggregate-fence-pages

@@ -1,14 +1,12 @@
 use native.Mathlib.Omega.{arith}
-use Rattle.choice.proofs.Keys.{fenced-run}
-use Rattle.pair.proofs.Chosen.{listed-are, listed-fenced, picked, picked-inside}
+use Rattle.pair.proofs.Chosen.{listed-are, listed-fenced, picked}
 use borrow.Author.Needs.{needs}
 use Rattle.pair.proofs.pick.Statement.{statement}
 use Rattle.pair.proofs.pick.Tie as tie
 use Rattle.pair.proofs.pick.Reads as reads
 use Rattle.pair.proofs.pick.Lts as lts
-use Rattle.choice.proofs.below_run.Reads as below-run-reads
 use Rattle.choice.proofs.choose_run.Reads as choose-run-reads
-use Rattle.choice.proofs.fence_blocks.Reads as fence-blocks-reads
+use Rattle.fences.proofs.fence_blocks.Reads as fence-blocks-reads
 
 slice-aggregate-fence-blocks : tie.Need-slice-aggregate-fence-blocks
 slice-aggregate-fence-blocks c = search needs
@@ -37,24 +35,11 @@ choose-run-requires c κs =
     let e = c .before .before .before .before .fence-blocks .ensures in
     (p .1 .1 .0, (p .1 .1 .1 .0, (p .1 .1 .1 .1 .0, listed-fenced _ _ _ _ k _ _ _ _ (e .0) (e .1) (omega (arith, c .before .before .before .before .fence-blocks .kept, k .high)) (omega (arith, c .before .before .before .before .fence-blocks .kept, k .high)))))
 
-slice-aggregate-below-run : tie.Need-slice-aggregate-below-run
-slice-aggregate-below-run c = search needs
-
-slice-aggregate-below-run-2 : tie.Need-slice-aggregate-below-run-2
-slice-aggregate-below-run-2 c = search needs
-
-below-run-requires : tie.Need-below-run-requires
-below-run-requires c κs =
-    let p = c .before .before .before .before .before .before .before .before .before .before .before .before .before .before .pre in
-    let k = p .1 .1 .1 .1 .1 in
-    let e = c .before .before .before .before .before .before .before .fence-blocks .ensures in
-    (p .1 .1 .0, (fenced-run _ _ _ _ _ (p .1 .1 .1 .1 .0) (picked-inside _ _ _ _ _ _ (c .before .before .choose-run .ensures) (p .1 .1 .0) (p .1 .1 .1 .0)), listed-fenced _ _ _ _ k _ _ _ _ (e .0) (e .1) (omega (arith, c .before .before .before .before .before .before .before .fence-blocks .kept, k .high)) (omega (arith, c .before .before .before .before .before .before .before .fence-blocks .kept, k .high))))
-
 returns : tie.Need-returns
 returns c =
-    let p = c .before .before .before .before .before .before .before .before .before .before .before .before .before .before .before .pre in
-    let e = c .before .before .before .before .before .before .before .before .fence-blocks .ensures in
-    λ above q. picked _ _ _ _ _ _ _ (p .1 .1 .0) (p .1 .1 .1 .0) _ (c .before .before .before .choose-run .ensures) _ (c .below-run .ensures) above _ q (listed-are _ _ _ _ (p .1 .1 .1 .1 .1) _ _ _ _ (e .0) (e .1))
+    let p = c .before .before .before .before .before .before .before .before .before .before .before .before .pre in
+    let e = c .before .before .before .before .before .fence-blocks .ensures in
+    λ above q. picked _ _ _ _ _ _ _ _ (c .choose-run .ensures) above _ q (listed-are _ _ _ _ (p .1 .1 .1 .1 .1) _ _ _ _ (e .0) (e .1))
 
 pub pick-spec : {M : Type 1} → statement M
 pick-spec =
@@ -66,7 +51,4 @@ pick-spec =
     slice-aggregate-choose-run
     slice-aggregate-choose-run-2
     choose-run-requires
-    slice-aggregate-below-run
-    slice-aggregate-below-run-2
-    below-run-requires
     returns)

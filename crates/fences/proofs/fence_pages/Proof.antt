@@ -4,13 +4,13 @@ use native.Mathlib.Omega.{arith}
 use lib.ListN.{length, length-set}
 use borrow.Author.Needs.{needs}
 use Rattle.words.specs.Layout.{word}
-use Rattle.choice.specs.Fences.{fill}
-use Rattle.choice.proofs.Lists.{fill-none, fill-step}
-use Rattle.choice.proofs.Words.{page-room, pages-firsts, pages-lasts}
-use Rattle.choice.proofs.fence_pages.Statement.{statement}
-use Rattle.choice.proofs.fence_pages.Tie as tie
-use Rattle.choice.proofs.fence_pages.Reads as reads
-use Rattle.choice.proofs.fence_pages.Lts as lts
+use Rattle.fences.specs.Reading.{fill}
+use Rattle.fences.proofs.Lists.{fill-none, fill-step}
+use Rattle.fences.proofs.Words.{page-room, pages-firsts, pages-lasts}
+use Rattle.fences.proofs.fence_pages.Statement.{statement}
+use Rattle.fences.proofs.fence_pages.Tie as tie
+use Rattle.fences.proofs.fence_pages.Reads as reads
+use Rattle.fences.proofs.fence_pages.Lts as lts
 use Rattle.geometry.proofs.Geometry.block_records.Reads as block-records-reads
 use Rattle.geometry.proofs.Geometry.keys_start.Reads as keys-start-reads
 

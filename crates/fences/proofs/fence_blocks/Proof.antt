@@ -4,13 +4,14 @@ use native.Mathlib.Omega.{arith}
 use lib.ListN.{length, length-set}
 use borrow.Author.Needs.{needs}
 use Rattle.words.specs.Layout.{word}
-use Rattle.choice.specs.Fences.{Fence, fill, listedFence}
-use Rattle.choice.proofs.Lists.{fill-none, fill-step}
-use Rattle.choice.proofs.Words.{listed-words, place-room}
-use Rattle.choice.proofs.fence_blocks.Statement.{statement}
-use Rattle.choice.proofs.fence_blocks.Tie as tie
-use Rattle.choice.proofs.fence_blocks.Reads as reads
-use Rattle.choice.proofs.fence_blocks.Lts as lts
+use Rattle.choice.specs.Fences.{Fence}
+use Rattle.fences.specs.Reading.{fill, listedFence}
+use Rattle.fences.proofs.Lists.{fill-none, fill-step}
+use Rattle.fences.proofs.Words.{listed-words, place-room}
+use Rattle.fences.proofs.fence_blocks.Statement.{statement}
+use Rattle.fences.proofs.fence_blocks.Tie as tie
+use Rattle.fences.proofs.fence_blocks.Reads as reads
+use Rattle.fences.proofs.fence_blocks.Lts as lts
 use Rattle.geometry.proofs.Geometry.place_start.Reads as place-start-reads
 
 abbrev Inv-loop : tie.InvT-loop

@@ -9,14 +9,16 @@ use lib.Seq.{take-all}
 use Rattle.geometry.specs.declared.Geometry.{Geometry}
 use Rattle.geometry.specs.Geometry.{Valid, capacityOf, topCapacityOf, keysStart, placeStart, blockWidth, storeLength}
 use Rattle.geometry.proofs.Laws.{keys-end, pays-end, list-inside, places-first, place-inside, place-word-inside}
+use Rattle.levels.specs.Basics.{each}
 use Rattle.levels.specs.Record.{Rec, Block, firstKey, lastKey, new, pages}
-use Rattle.words.specs.Layout.{word, each, keysOf, slotsAt, pageSlots, topSlots, topRecs, topCountAt, blockSlots, blockAt, recordCount}
-use Rattle.choice.specs.Fences.{Fence, fenceOf, fenceAt, fencesFrom, fencesOf, fill, listedFence, pageFence, Readable}
+use Rattle.words.specs.Layout.{word, keysOf, slotsAt, pageSlots, topSlots, topRecs, topCountAt, blockSlots, blockAt, recordCount}
+use Rattle.choice.specs.Fences.{Fence, fenceOf, fenceAt, fencesFrom, fencesOf}
+use Rattle.fences.specs.Reading.{fill, listedFence, pageFence, Readable}
 use Rattle.levels.proofs.Lists.{map-take, map-drop}
 use Rattle.levels.proofs.Compaction.{pages-at, pages-full}
-use Rattle.words.proofs.Each.{length-each, each-add, each-take, each-drop, getD-each, each-same, each-getD, map-each}
+use Rattle.levels.proofs.Each.{length-each, each-add, each-take, each-drop, getD-each, each-same, each-getD, map-each}
 use Rattle.words.proofs.Top.{top-length}
-use Rattle.choice.proofs.Lists.{fill-same, fill-inside}
+use Rattle.fences.proofs.Lists.{fill-same, fill-inside}
 
 -- Keys by index.
 
