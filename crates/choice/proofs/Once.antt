@@ -7,8 +7,9 @@ use mathlib.Core.List.{List, [], _∷_, map}
 use native.Mathlib.Omega.{arith}
 use lib.Dec.{leb, ltb}
 use lib.ListN.{length, getD, take, drop, length-map, length-drop}
-use borrow.Author.Tests.{leb-true, leb-false, le-leb}
+use borrow.Author.Tests.{leb-true}
 use Rattle.levels.specs.Basics.{if_then_else_}
+use Rattle.levels.proofs.Choice.{run-of, runs-of}
 use Rattle.choice.specs.declared.Stretch.{Stretch}
 use Rattle.choice.specs.Fences.{Fence, Ordered, fenceRuns, lowOf, highOf, firstKeys, lastKeys, stretchOf}
 use Rattle.choice.specs.Pass.{movesOf, moveOn, NotPast}
@@ -53,23 +54,14 @@ abbrev pub Forward : (Stretch → ℕ) → ℕ → ℕ → List Stretch → Type
 Forward end n at [] = Unit {0}
 Forward end n at (s ∷ ss) = (at ≤ end s) × ((end s ≤ n) × Forward end n (end s) ss)
 
--- how many runs of w neighbours there are
+-- how many runs of w neighbours there are, and which is run i
 pub runs-length : (w : ℕ) (fs : List Fence) → 1 ≤ w → length (fenceRuns w fs) ≡ suc (length fs) - w
 unfolding fenceRuns
-runs-length w [] p = omega arith
-runs-length w (f ∷ fs) p = go (leb w (suc (length fs))) refl (runs-length w fs p)
-  where
-    go : (t : Bool) → leb w (suc (length fs)) ≡ t → length (fenceRuns w fs) ≡ suc (length fs) - w
-        → length (if t then take w (f ∷ fs) ∷ fenceRuns w fs else []) ≡ suc (length (f ∷ fs)) - w
-    go true e ih = omega (arith, leb-true w (suc (length fs)) e)
-    go false e ih = omega (arith, leb-false w (suc (length fs)) e)
+runs-length w fs p = runs-of w (fenceRuns w) refl (λ e es. refl) p fs
 
--- and which is run i
 pub runs-at : (w : ℕ) (fs : List Fence) (i : ℕ) → 1 ≤ w → i + w ≤ length fs → getD (fenceRuns w fs) i [] ≡ take w (drop i fs)
 unfolding fenceRuns
-runs-at w [] i p h = absurd (omega arith)
-runs-at w (f ∷ fs) zero p h = rw (le-leb w (suc (length fs)) (omega arith))
-runs-at w (f ∷ fs) (suc i) p h = rw (le-leb w (suc (length fs)) (omega arith)) (runs-at w fs i p (omega arith))
+runs-at w fs i p h = run-of w (fenceRuns w) refl (λ e es. refl) p fs i h
 
 -- The pass starts with both ends at the level's start, and goes on from run to run.
 

@@ -99,10 +99,10 @@ chooseFences w above under = withStretch w above under (leastOf (overlapsOf w ab
 abbrev pub choiceOf : Fewest → Choice
 choiceOf c = record { first = c .run .at; overlap = c .run .value; below = c .below }
 
--- the run from block i on, by the stretch below it
+-- Card 4: a run by the two ends below it. Its overlap is the upper end less the lower one.
 abbrev pub runOver : ℕ → Stretch → Choice
 runOver i y = record { first = i; overlap = y .end - y .start; below = y }
 
--- a later run replaces the choice so far only if it overlaps fewer
+-- Card 4, "ties included": a later run replaces the choice so far only if it overlaps fewer.
 abbrev pub fewer : Choice → Choice → Choice
 fewer best later = if ltb (later .overlap) (best .overlap) then later else best

@@ -47,20 +47,29 @@ pub least-of-is : (qs : List ℕ) → 0 < length qs → IsLeast qs (leastOf qs)
 least-of-is [] h = absurd (omega arith)
 least-of-is (q ∷ qs) h = least-is q qs
 
--- "A run is W(i) neighbours of level i": the i-th run begins with block i, and there are as many as fit
-pub run-at : (w : ℕ) (l : Level) (i : ℕ) → 1 ≤ w → i + w ≤ length l → getD (runs w l) i [] ≡ take w (drop i l)
-run-at w [] i p h = absurd (omega arith)
-run-at w (b ∷ bs) zero p h = rw (le-leb w (suc (length bs)) (omega arith))
-run-at w (b ∷ bs) (suc i) p h = rw (le-leb w (suc (length bs)) (omega arith)) (run-at w bs i p (omega arith))
+-- "A run is W(i) neighbours of level i": run i begins with entry i, and there are as many as fit. Of a list of anything, F giving its runs: `runs` does, and
+-- so does the choice by fences.
+module _ {A : Type 0} (w : ℕ) (F : List A → List (List A)) (none : F [] ≡ []) (more : (x : A) (xs : List A) → F (x ∷ xs) ≡ (if leb w (suc (length xs)) then take w (x ∷ xs) ∷ F xs else []))
+    (p : 1 ≤ w) where
+  pub run-of : (xs : List A) (i : ℕ) → i + w ≤ length xs → getD (F xs) i [] ≡ take w (drop i xs)
+  run-of [] i h = absurd (omega arith)
+  run-of (x ∷ xs) zero h = rw (more x xs, le-leb w (suc (length xs)) (omega arith))
+  run-of (x ∷ xs) (suc i) h = rw (more x xs, le-leb w (suc (length xs)) (omega arith)) (run-of xs i (omega arith))
 
-pub run-count : (w : ℕ) (l : Level) → 1 ≤ w → length (runs w l) ≡ suc (length l) - w
-run-count w [] p = omega arith
-run-count w (b ∷ bs) p = go (leb w (suc (length bs))) refl (run-count w bs p)
-  where
-    go : (t : Bool) → leb w (suc (length bs)) ≡ t → length (runs w bs) ≡ suc (length bs) - w
-        → length (if t then take w (b ∷ bs) ∷ runs w bs else []) ≡ suc (length (b ∷ bs)) - w
-    go true e ih = omega (arith, leb-true w (suc (length bs)) e)
-    go false e ih = omega (arith, leb-false w (suc (length bs)) e)
+  pub runs-of : (xs : List A) → length (F xs) ≡ suc (length xs) - w
+  runs-of [] = rw none (omega arith)
+  runs-of (x ∷ xs) = rw (more x xs) (go (leb w (suc (length xs))) refl (runs-of xs))
+    where
+      go : (t : Bool) → leb w (suc (length xs)) ≡ t → length (F xs) ≡ suc (length xs) - w
+          → length (if t then take w (x ∷ xs) ∷ F xs else []) ≡ suc (length (x ∷ xs)) - w
+      go true e ih = omega (arith, leb-true w (suc (length xs)) e)
+      go false e ih = omega (arith, leb-false w (suc (length xs)) e)
+
+run-at : (w : ℕ) (l : Level) (i : ℕ) → 1 ≤ w → i + w ≤ length l → getD (runs w l) i [] ≡ take w (drop i l)
+run-at w l i p h = run-of w (runs w) refl (λ b bs. refl) p l i h
+
+run-count : (w : ℕ) (l : Level) → 1 ≤ w → length (runs w l) ≡ suc (length l) - w
+run-count w l p = runs-of w (runs w) refl (λ b bs. refl) p l
 
 -- "X is the run of W(i) neighbours whose key range overlaps the fewest blocks below; of equals, the one with the lowest keys."
 -- r tells the index of X's first block and X's overlap.
