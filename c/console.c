@@ -72,8 +72,18 @@ static void print_stored(uint32_t test, mewilovang_changed a)
     print_written(a);
 }
 
+/* The progress bar, before a call that will merge. None before one that is turned down: the call itself says why. */
+static void show_bar(mewilovang_forecast call)
+{
+    if (call.merges != 0) {
+        mewilovang_about_store a = mewilovang_about(store, WORDS);
+        printf("bar: at most %u blocks for the first merge\n", (unsigned)(a.w * (a.g + 1)));
+    }
+}
+
 static void measured(uint32_t test, uint32_t left, uint32_t right)
 {
+    show_bar(mewilovang_will_put_merge(store, WORDS, test));
     print_stored(test, mewilovang_put(store, WORDS, test, left << 16 | right));
 }
 
@@ -81,8 +91,11 @@ static void measured(uint32_t test, uint32_t left, uint32_t right)
 static void traced(uint32_t test, uint32_t left, uint32_t right)
 {
     mewilovang_ticket tickets[TICKETS];
-    mewilovang_changed a = mewilovang_put_tickets(store, WORDS, test, left << 16 | right, tickets, TICKETS);
-    uint32_t merges = a.level1.merges + a.level2.merges + a.level3.merges, i;
+    mewilovang_changed a;
+    uint32_t merges, i;
+    show_bar(mewilovang_will_put_merge(store, WORDS, test));
+    a = mewilovang_put_tickets(store, WORDS, test, left << 16 | right, tickets, TICKETS);
+    merges = a.level1.merges + a.level2.merges + a.level3.merges;
     print_stored(test, a);
     for (i = 0; i < merges && i < TICKETS; i++) {
         printf("  merge out of level %u: run from %u on, overlap %u, blocks written: %u\n", (unsigned)tickets[i].level,
@@ -92,7 +105,9 @@ static void traced(uint32_t test, uint32_t left, uint32_t right)
 
 static void deleted(uint32_t test)
 {
-    mewilovang_changed a = mewilovang_delete(store, WORDS, test);
+    mewilovang_changed a;
+    show_bar(mewilovang_will_delete_merge(store, WORDS, test));
+    a = mewilovang_delete(store, WORDS, test);
     if (a.reason != 0) {
         printf("test %u not deleted: %s (%u)\n", (unsigned)test, why(a.reason), (unsigned)a.reason);
         return;

@@ -34,6 +34,8 @@
     CALL(STRETCH, "stretch", stretched = mewilovang_stretch(store, words, key, UINT32_MAX, keys, ROOM, payloads, ROOM)) \
     CALL(SHOW, "show", shown = mewilovang_show(store, words, 1 + key % 3, key)) \
     CALL(ABOUT, "about", reason = mewilovang_about(store, words).reason) \
+    CALL(WILL_PUT_MERGE, "will_put_merge", reason = mewilovang_will_put_merge(store, words, key).reason) \
+    CALL(WILL_DELETE_MERGE, "will_delete_merge", reason = mewilovang_will_delete_merge(store, words, key).reason) \
     CALL(PUT, "put", count(mewilovang_put(store, words, key, key))) \
     CALL(DELETE, "delete", count(mewilovang_delete(store, words, key))) \
     CALL(PUT_TICKETS, "put_tickets", count(mewilovang_put_tickets(store, words, key, key, tickets, ROOM))) \

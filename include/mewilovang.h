@@ -37,7 +37,8 @@
  *     2  the geometry, given to format or read from the store, breaks a limit
  *     3  the number of words is not the one that the geometry needs (mewilovang_words)
  *     4  the store is damaged: its form check finds a breach (all calls but format)
- *     5  the store is full: a put of a test number that is not in it while it holds as many as it may (put only)
+ *     5  the store is full: a put of a test number that is not in it while it holds as many as it may (put, and
+ *        will_put_merge, which foretells it)
  *
  * They are looked for in this order, and the first that applies is the reason. A call that is turned down changes no
  * word of the store, of stretch's two arrays or of the tickets, and its answer has the number in `reason` and 0 in every
@@ -97,22 +98,38 @@
  * WHICH WORDS CHANGE
  *
  *     any call that is turned down                 none
- *     check, look_up, next, stretch, show, about   none
+ *     check, look_up, next, stretch, show, about,  none
+ *     will_put_merge, will_delete_merge
  *     format                                       every word is written
  *     delete of a test not in the store            none
  *     put, delete without a merge                  words 6 and 8 (live, c) and level 0, words 12 to L - 1
  *     put, delete with merges                      words 6 to 11, level 0, the lists, and the places that blocks are
  *                                                  written to
  *
- * A call is without a merge if its answer counts none. Words 0 to 5 change in format alone. Of each of its two arrays
- * stretch writes the first `written` entries, as many as it answers, and leaves the others as they were. Of their list
- * put_tickets and delete_tickets write one ticket for each merge that the answer counts, from the first on, as far as the
- * list goes, and leave the others as they were.
+ * A call is without a merge if its answer counts none; A PROGRESS BAR says how to know it beforehand. Words 0 to 5 change
+ * in format alone. Of each of its two arrays stretch writes the first `written` entries, as many as it answers, and leaves
+ * the others as they were. Of their list put_tickets and delete_tickets write one ticket for each merge that the answer
+ * counts, from the first on, as far as the list goes, and leave the others as they were.
  *
  * No block in use is written over: each merge, and each compacting of a level, writes to places that no list named when
  * it began. A block that leaves its level keeps its words until its place is written to again. So a call with one merge
  * and nothing compacted writes to places that no list named before the call. With more, the later ones may write to a
  * place that an earlier one set free, which was in use before the call.
+ *
+ *
+ * A PROGRESS BAR
+ *
+ * A put or delete makes one merge into level 1, or none, and no merge at all without that one: it is the first of the call.
+ * It makes one exactly if level 0 is full, with K(0) * b records, and has no record of the test, delete marks counted as
+ * records, and the call is not turned down; a delete only if the test is in the store besides. So overwriting a test that
+ * stands in level 0 never merges, nor does putting again a test whose delete mark stands there.
+ *
+ * will_put_merge and will_delete_merge say so before the call: `merges`, 1 or 0, and the `reason` that the call would be
+ * turned down for, or 0. If you change no word in between, the call then makes exactly so many merges into level 1. Show
+ * the bar if `merges` is 1. If it is 0, the call writes no block. The first merge writes at most w * (g + 1) blocks (5 with
+ * 4 1 2 4 1 40) and may write none; the answer counts them in level1.written. What follows it is not foretold: levels
+ * compacted and merges further down. The answer counts both, and put_tickets tells the merges one by one, without the
+ * compacting.
  *
  *
  * BYTE ORDER
@@ -133,6 +150,7 @@
  *                      3.3 to 5.9, in one of 40 places 1.8 to 2.0. So ask it for many tests at once, and not next for
  *                      one after the other
  *     show, about      0.9 to 1.0, right after a check
+ *     will_..          1.0 in stores of 1160 places and more, up to 1.1 in those of 264 and 136, 1.1 to 1.2 in one of 40
  *     put              1 and its merges. On average 1.0 to 1.2 in stores of 1160 places and more, 1.4 to 1.5 in those of
  *                      264 and 136, 2.5 to 3.1 in one of 40. The slowest put of a run took 2.0 to 11.0; one that the
  *                      operating system interrupts takes longer
@@ -150,7 +168,8 @@
  *
  * THREADS
  *
- * There is no global state. Two threads may read one store at the same time (check, look_up, next, stretch, show, about).
+ * There is no global state. Two threads may read one store at the same time (check, look_up, next, stretch, show, about,
+ * will_put_merge, will_delete_merge).
  * While any call runs on a store, nothing else may write its words: no other thread, no interrupt, no device. While
  * format, put or delete runs, nothing else may read them either. While stretch runs, nothing else may read or write its
  * two arrays, and while put_tickets or delete_tickets runs, its tickets: each thread lends its own. Different stores have
@@ -203,11 +222,12 @@ extern "C" {
  *     1.1.0  about
  *     1.2.0  stretch
  *     1.3.0  put_tickets, delete_tickets
+ *     1.4.0  will_put_merge, will_delete_merge
  */
 #define MEWILOVANG_VERSION_MAJOR 1
-#define MEWILOVANG_VERSION_MINOR 3
-#define MEWILOVANG_VERSION_PATCH 1
-#define MEWILOVANG_VERSION "1.3.1"
+#define MEWILOVANG_VERSION_MINOR 4
+#define MEWILOVANG_VERSION_PATCH 0
+#define MEWILOVANG_VERSION "1.4.0"
 
 /*
  * The bytes of stack to have free for each call, from its return address down; the arguments and the answer stand in your
@@ -224,6 +244,8 @@ extern "C" {
 #define MEWILOVANG_STACK_STRETCH (25 * 1024)
 #define MEWILOVANG_STACK_SHOW (25 * 1024)
 #define MEWILOVANG_STACK_ABOUT (25 * 1024)
+#define MEWILOVANG_STACK_WILL_PUT_MERGE (25 * 1024)
+#define MEWILOVANG_STACK_WILL_DELETE_MERGE (25 * 1024)
 #define MEWILOVANG_STACK_PUT (126 * 1024)
 #define MEWILOVANG_STACK_DELETE (126 * 1024)
 #define MEWILOVANG_STACK_PUT_TICKETS (151 * 1024)
@@ -261,6 +283,11 @@ typedef struct {
 typedef struct {
     uint32_t reason, b, w, d, g, h, p, live, limit, top, blocks1, blocks2, blocks3;
 } mewilovang_about_store;
+
+/* reason: the one that the call would be turned down for, or 0; merges: 1 if it would merge, else 0. */
+typedef struct {
+    uint32_t reason, merges;
+} mewilovang_forecast;
 
 /* Merges into a level, blocks written by them, blocks written compacting the level. */
 typedef struct {
@@ -333,9 +360,17 @@ mewilovang_part mewilovang_show(const uint32_t *store, size_t words, uint32_t le
 mewilovang_about_store mewilovang_about(const uint32_t *store, size_t words);
 
 /*
- * The reading of a test, over the one that it had. If level 0 is full and does not have the test, blocks are merged
- * downward first, and the answer counts them: a call writes few blocks or none, but a merge can set off others.
- * Turned down for 1 to 5; 5 only for a test that is not in the store.
+ * If a put of this test, whatever the reading, or a delete of it is going to merge: its merges into level 1, 1 or 0, and
+ * the reason 1 to 5 that it would be turned down for (a delete 1 to 4), or 0. `merges` is 0 where `reason` is not. Changes
+ * no word. See A PROGRESS BAR.
+ */
+mewilovang_forecast mewilovang_will_put_merge(const uint32_t *store, size_t words, uint32_t key);
+mewilovang_forecast mewilovang_will_delete_merge(const uint32_t *store, size_t words, uint32_t key);
+
+/*
+ * The reading of a test, over the one that it had. If level 0 is full and has no record of the test, delete marks counted,
+ * blocks are merged downward first, and the answer counts them: a call writes few blocks or none, but a merge can set off
+ * others. Turned down for 1 to 5; 5 only for a test that is not in the store.
  */
 mewilovang_changed mewilovang_put(uint32_t *store, size_t words, uint32_t key, uint32_t payload);
 
@@ -369,6 +404,7 @@ MEWILOVANG_HOLDS(sizeof(mewilovang_stretched) == 12, "mewilovang_stretched has g
 MEWILOVANG_HOLDS(sizeof(mewilovang_part) == 16, "mewilovang_part has gaps");
 MEWILOVANG_HOLDS(sizeof(mewilovang_ticket) == 16, "mewilovang_ticket has gaps");
 MEWILOVANG_HOLDS(sizeof(mewilovang_about_store) == 52, "mewilovang_about_store has gaps");
+MEWILOVANG_HOLDS(sizeof(mewilovang_forecast) == 8, "mewilovang_forecast has gaps");
 MEWILOVANG_HOLDS(sizeof(mewilovang_counts) == 12, "mewilovang_counts has gaps");
 MEWILOVANG_HOLDS(sizeof(mewilovang_changed) == 44, "mewilovang_changed has gaps");
 #undef MEWILOVANG_HOLDS

@@ -1,4 +1,4 @@
-//! The twelve calls as values, what is lent to them, and who answers them.
+//! The fourteen calls as values, what is lent to them, and who answers them.
 
 use mewilovang::border as c;
 use reference::calls::{self as plain, Ticket};
@@ -23,6 +23,9 @@ pub enum Call {
     },
     Show(u32, u32),
     About,
+    /// What a put of this key will come to, and a delete.
+    WillPutMerge(u32),
+    WillDeleteMerge(u32),
     Put(u32, u32),
     Delete(u32),
     /// Key and payload, and room for so many tickets.
@@ -70,6 +73,8 @@ pub enum Answer {
     Part(usize, usize),
     /// Reason, the six numbers, live, N, records in level 0, blocks of levels 1 to 3.
     About([u32; 13]),
+    /// The reason of a put or delete to come, and its merges into level 1.
+    Forecast([u32; 2]),
     /// Reason, live, and the counts of levels 1 to 3.
     Changed([u32; 11]),
 }
@@ -85,6 +90,7 @@ impl Answer {
             Answer::Nexted(numbers) => numbers[0],
             Answer::Stretched(numbers) => numbers[0],
             Answer::About(numbers) => numbers[0],
+            Answer::Forecast(numbers) => numbers[0],
             Answer::Changed(numbers) => numbers[0],
         }
     }
@@ -187,16 +193,16 @@ impl Store for Library {
                 let a = c::mewilovang_next(store, words, key);
                 Answer::Nexted([a.reason, a.found, a.key, a.payload])
             }
-            Call::Stretch { first, last, rooms } => {
-                let (Lent { keys, payloads, .. }, [m, n]) = (lent, rooms);
-                let a = c::mewilovang_stretch(store, words, first, last, keys, m, payloads, n);
-                Answer::Stretched([a.reason, a.written, a.more])
-            }
+            Call::Stretch { first, last, rooms } => stretch(lent, first, last, rooms),
             Call::Show(level, key) => {
                 let a = c::mewilovang_show(store, words, level, key);
                 Answer::Part(a.start, a.length)
             }
             Call::About => about(c::mewilovang_about(store, words)),
+            Call::WillPutMerge(key) => forecast(c::mewilovang_will_put_merge(store, words, key)),
+            Call::WillDeleteMerge(key) => {
+                forecast(c::mewilovang_will_delete_merge(store, words, key))
+            }
             Call::Put(key, payload) => changed(c::mewilovang_put(store, words, key, payload)),
             Call::Delete(key) => changed(c::mewilovang_delete(store, words, key)),
             Call::PutTickets(key, payload, room) => {
@@ -209,6 +215,14 @@ impl Store for Library {
             }
         }
     }
+}
+
+/// A stretch of the library.
+unsafe fn stretch(lent: Lent, first: u32, last: u32, [m, n]: [usize; 2]) -> Answer {
+    let (store, words) = (lent.store, lent.words);
+    let (keys, payloads) = (lent.keys, lent.payloads);
+    let a = c::mewilovang_stretch(store, words, first, last, keys, m, payloads, n);
+    Answer::Stretched([a.reason, a.written, a.more])
 }
 
 /// The verified store, by the functions of the Rust package.
@@ -233,20 +247,16 @@ impl Store for Package {
                 let answer = mewilovang::look_up(read(), key);
                 Answer::Looked(answer.map_or_else(refused, found))
             }
-            Call::Next(key) => {
-                let found = |r: mewilovang::Record| [0, 1, r.key, r.payload];
-                let found = |record: Option<_>| record.map_or([0; 4], found);
-                Answer::Nexted(mewilovang::next(read(), key).map_or_else(refused, found))
-            }
+            Call::Next(key) => nexted(mewilovang::next(read(), key)),
             Call::Stretch { first, last, rooms } => {
                 let keys = std::slice::from_raw_parts_mut(lent.keys, rooms[0]);
                 let payloads = std::slice::from_raw_parts_mut(lent.payloads, rooms[1]);
-                let piece = |a: mewilovang::Stretched| [0, a.written as u32, a.more.into()];
-                let answer = mewilovang::stretch(read(), first, last, keys, payloads);
-                Answer::Stretched(answer.map_or_else(refused, piece))
+                listed(mewilovang::stretch(read(), first, last, keys, payloads))
             }
             Call::Show(level, key) => part(read(), mewilovang::show(read(), level, key)),
             Call::About => Answer::About(mewilovang::about(read()).map_or_else(refused, numbers)),
+            Call::WillPutMerge(key) => foretold(mewilovang::will_put_merge(read(), key)),
+            Call::WillDeleteMerge(key) => foretold(mewilovang::will_delete_merge(read(), key)),
             Call::Put(key, payload) => done(mewilovang::put(write(), key, payload)),
             Call::Delete(key) => done(mewilovang::delete(write(), key)),
             Call::PutTickets(key, payload, room) => {
@@ -287,7 +297,29 @@ fn about(a: c::AboutStore) -> Answer {
     ])
 }
 
-/// The numbers of an answer of the package.
+/// The numbers of a next of the package.
+fn nexted(answer: Result<Option<mewilovang::Record>, mewilovang::Refusal>) -> Answer {
+    let found = |r: mewilovang::Record| [0, 1, r.key, r.payload];
+    Answer::Nexted(answer.map_or_else(refused, |record| record.map_or([0; 4], found)))
+}
+
+/// The numbers of a stretch of the package.
+fn listed(answer: Result<mewilovang::Stretched, mewilovang::Refusal>) -> Answer {
+    let piece = |a: mewilovang::Stretched| [0, a.written as u32, a.more.into()];
+    Answer::Stretched(answer.map_or_else(refused, piece))
+}
+
+/// The numbers of a forecast of the package.
+fn foretold(answer: Result<bool, mewilovang::Refusal>) -> Answer {
+    Answer::Forecast(answer.map_or_else(refused, |merges| [0, merges.into()]))
+}
+
+/// The same of the library.
+fn forecast(a: c::Forecast) -> Answer {
+    Answer::Forecast([a.reason, a.merges])
+}
+
+/// The numbers of a put's or delete's answer of the package.
 fn done(answer: Result<mewilovang::Change, mewilovang::Refusal>) -> Answer {
     let numbers = |change: mewilovang::Change| {
         let [x, y, z] = change.levels.map(|l| [l.merges, l.written, l.compacted]);
@@ -315,7 +347,19 @@ fn changed(a: c::Changed) -> Answer {
     ])
 }
 
-/// The numbers of an answer of the reference.
+/// The numbers of a look up of the reference.
+fn found(a: plain::Found) -> Answer {
+    Answer::Looked([a.refusal, a.found.into(), a.payload])
+}
+
+/// The numbers of what the reference says of a store.
+fn said(a: plain::About) -> Answer {
+    let [b, w, d, g, h, p] = a.numbers;
+    let [x, y, z] = a.blocks;
+    Answer::About([a.refusal, b, w, d, g, h, p, a.live, a.limit, a.top, x, y, z])
+}
+
+/// The numbers of a put's or delete's answer of the reference.
 fn told(a: plain::Changed) -> Answer {
     let mut numbers = [
         a.refusal,
@@ -362,13 +406,8 @@ impl Oracle {
             }
             Call::Check if plain => Answer::Checked(plain::check(words)),
             Call::Check => Answer::Checked(fast::check(words)),
-            Call::LookUp(key) => {
-                let a = match self {
-                    Oracle::Plain => plain::look_up(words, key),
-                    Oracle::Fast => fast::look_up(words, key),
-                };
-                Answer::Looked([a.refusal, a.found.into(), a.payload])
-            }
+            Call::LookUp(key) if plain => found(plain::look_up(words, key)),
+            Call::LookUp(key) => found(fast::look_up(words, key)),
             Call::Next(key) => {
                 let a = match self {
                     Oracle::Plain => plain::next(words, key),
@@ -376,31 +415,40 @@ impl Oracle {
                 };
                 Answer::Nexted([a.refusal, a.found.into(), a.key, a.payload])
             }
-            Call::Stretch { first, last, rooms } => {
-                let keys = &mut held.keys[..rooms[0]];
-                let payloads = &mut held.payloads[..rooms[1]];
-                let a = match self {
-                    Oracle::Plain => plain::stretch(words, first, last, keys, payloads),
-                    Oracle::Fast => fast::stretch(words, first, last, keys, payloads),
-                };
-                Answer::Stretched([a.refusal, a.written, a.more.into()])
-            }
+            Call::Stretch { first, last, rooms } => self.stretch(held, first, last, rooms),
             Call::Show(level, key) if plain => part(words, plain::show(words, level, key)),
             Call::Show(level, key) => part(words, fast::show(words, level, key)),
-            Call::About => {
-                let a = match self {
-                    Oracle::Plain => plain::about(words),
-                    Oracle::Fast => fast::about(words),
-                };
-                let [b, w, d, g, h, p] = a.numbers;
-                let [x, y, z] = a.blocks;
-                Answer::About([a.refusal, b, w, d, g, h, p, a.live, a.limit, a.top, x, y, z])
-            }
+            Call::About if plain => said(plain::about(words)),
+            Call::About => said(fast::about(words)),
+            Call::WillPutMerge(key) => self.forecast(words, key, true),
+            Call::WillDeleteMerge(key) => self.forecast(words, key, false),
             Call::Put(key, payload) => self.change(words, key, Some(payload)),
             Call::Delete(key) => self.change(words, key, None),
             Call::PutTickets(key, payload, room) => self.told(held, key, Some(payload), room),
             Call::DeleteTickets(key, room) => self.told(held, key, None, room),
         }
+    }
+
+    /// A stretch with this room for keys and payloads.
+    fn stretch(self, held: &mut Held, first: u32, last: u32, rooms: [usize; 2]) -> Answer {
+        let (words, keys) = (&held.store[..], &mut held.keys[..rooms[0]]);
+        let payloads = &mut held.payloads[..rooms[1]];
+        let a = match self {
+            Oracle::Plain => plain::stretch(words, first, last, keys, payloads),
+            Oracle::Fast => fast::stretch(words, first, last, keys, payloads),
+        };
+        Answer::Stretched([a.refusal, a.written, a.more.into()])
+    }
+
+    /// What a put of this key is to come to, or a delete.
+    fn forecast(self, words: &[u32], key: u32, put: bool) -> Answer {
+        let a = match (self, put) {
+            (Oracle::Plain, true) => plain::will_put_merge(words, key),
+            (Oracle::Plain, false) => plain::will_delete_merge(words, key),
+            (Oracle::Fast, true) => fast::will_put_merge(words, key),
+            (Oracle::Fast, false) => fast::will_delete_merge(words, key),
+        };
+        Answer::Forecast([a.reason, a.merges])
     }
 
     /// A put of this payload, or a delete.

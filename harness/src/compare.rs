@@ -85,6 +85,13 @@ pub enum Difference {
         plain: Answer,
         fast: Answer,
     },
+    /// A put or delete came to something else than its forecast said, or to more blocks
+    /// written.
+    Forecast {
+        call: Call,
+        foretold: Answer,
+        answer: Answer,
+    },
     /// A stretch, or a walk of some of them, gives other records than a map that
     /// was fed with the accepted puts and deletes, or another answer: records and
     /// more.
@@ -120,22 +127,30 @@ impl fmt::Display for Difference {
                     "{call:?}: the reference says {plain:?} and {fast:?}, or leaves other words"
                 )
             }
-            Difference::Map { call, got, right } => {
-                let ((got, more), (right, further)) = (got, right);
-                let at = (0..).find(|&at| got.get(at) != right.get(at) || at == right.len());
-                let at = at.unwrap_or(0);
-                write!(
-                    out,
-                    "{call:?} gave {} records, more {more}, and the map has {}, more {further}; record {at} is {:?} \
-                    and not {:?}",
-                    got.len(),
-                    right.len(),
-                    got.get(at),
-                    right.get(at)
-                )
-            }
+            Difference::Forecast {
+                call,
+                foretold,
+                answer,
+            } => write!(out, "{call:?}: {foretold:?}, and it answered {answer:?}"),
+            Difference::Map { call, got, right } => other_records(out, *call, got, right),
         }
     }
+}
+
+/// What a stretch gave and what the map has.
+fn other_records(out: &mut fmt::Formatter, call: Call, got: &Piece, right: &Piece) -> fmt::Result {
+    let ((got, more), (right, further)) = (got, right);
+    let at = (0..).find(|&at| got.get(at) != right.get(at) || at == right.len());
+    let at = at.unwrap_or(0);
+    write!(
+        out,
+        "{call:?} gave {} records, more {more}, and the map has {}, more {further}; record {at} is {:?} \
+        and not {:?}",
+        got.len(),
+        right.len(),
+        got.get(at),
+        right.get(at)
+    )
 }
 
 /// Words that are lent, between guard words.
@@ -226,6 +241,11 @@ impl Bench {
         self.right.store.clone_from(&self.entry.store);
         self.other.store.clone_from(&self.entry.store);
         self.lent[0].load(words);
+    }
+
+    /// The words of the store as the next call finds them.
+    pub fn words(&self) -> &[u32] {
+        &self.entry.store
     }
 
     /// Arrays and tickets with this room, filled with known words.

@@ -1,12 +1,13 @@
 //! The verified store, called over its static library and held against the two
 //! implementations of `reference`: `damage` looks for a difference on damaged
-//! stores, `walks` in histories of calls with stretches between them, `bench`
-//! compares times.
+//! stores, `walks` in histories of calls with stretches and forecasts between them,
+//! `bench` compares times.
 
 pub mod asked;
 pub mod calls;
 pub mod cold;
 pub mod compare;
+pub mod forecasts;
 pub mod harm;
 pub mod log;
 pub mod maker;

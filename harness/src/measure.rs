@@ -138,6 +138,8 @@ pub struct Subject {
     pub rules: Times,
     pub look_up: Times,
     pub next: Times,
+    /// Of a put and of a delete.
+    pub forecasts: [Times; 2],
     /// All records at once, the same once more, and one next for each.
     pub stretch: Times,
     pub again: Times,
@@ -357,6 +359,9 @@ impl Rounds {
         let sound = time(lent, Call::Check, &mut subject.check);
         time(lent, Call::LookUp(key), &mut subject.look_up);
         time(lent, Call::Next(key), &mut subject.next);
+        let [put, delete] = &mut subject.forecasts;
+        time(lent, Call::WillPutMerge(key), put);
+        time(lent, Call::WillDeleteMerge(key), delete);
         let marks = last_marks(self.geometry, &lent.store);
         lent.store[marks] = 1;
         let broken = time(lent, Call::Check, &mut subject.rules);

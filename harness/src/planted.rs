@@ -88,11 +88,28 @@ pub enum Fault {
     FullTickets,
     /// A put with tickets writes its payload with the lowest bit turned over.
     TicketPutWord,
+    /// A forecast says 0 of a store that is turned down for 4.
+    ForecastLenient,
+    /// A forecast says 0 of a put that is turned down for 5.
+    ForecastFull,
+    /// A forecast says that such a put merges.
+    ForecastRefused,
+    /// A forecast says nothing of the merge to come.
+    ForecastNone,
+    /// A forecast says that a live key of a full level 0 makes a merge.
+    ForecastTop,
+    /// A forecast says that a put makes a merge where a full level 0 has a delete mark for
+    /// its key.
+    ForecastMarks,
+    /// A forecast says that a delete of a key that is not live merges as a put of it does.
+    ForecastAbsent,
+    /// A forecast changes a word of the store.
+    ForecastWrites,
 }
 
 impl Fault {
     /// Every fault.
-    pub const ALL: [Fault; 41] = {
+    pub const ALL: [Fault; 49] = {
         use Fault::*;
         [
             CheckLenient,
@@ -136,11 +153,19 @@ impl Fault {
             RefusedTickets,
             FullTickets,
             TicketPutWord,
+            ForecastLenient,
+            ForecastFull,
+            ForecastRefused,
+            ForecastNone,
+            ForecastTop,
+            ForecastMarks,
+            ForecastAbsent,
+            ForecastWrites,
         ]
     };
 
-    /// Those of stretches and of tickets of a sound store.
-    pub const HISTORIES: [Fault; 21] = {
+    /// Those of stretches, of tickets and of forecasts of a sound store.
+    pub const HISTORIES: [Fault; 28] = {
         use Fault::*;
         [
             StretchLast,
@@ -164,6 +189,13 @@ impl Fault {
             TicketWritesAfter,
             FullTickets,
             TicketPutWord,
+            ForecastFull,
+            ForecastRefused,
+            ForecastNone,
+            ForecastTop,
+            ForecastMarks,
+            ForecastAbsent,
+            ForecastWrites,
         ]
     };
 }
@@ -313,6 +345,50 @@ impl<S: Store> Planted<S> {
         }
         self.fault.uncounted(room, right)
     }
+
+    /// What the fault makes of the right forecast.
+    unsafe fn forecast(&self, lent: Lent, call: Call, right: [u32; 2]) -> Answer {
+        use Fault::*;
+        Answer::Forecast(match (self.fault, call, right) {
+            (ForecastLenient, _, [4, 0])
+            | (ForecastFull, _, [5, 0])
+            | (ForecastNone, _, [0, 1]) => [0, 0],
+            (ForecastRefused, _, [5, 0]) => [5, 1],
+            (ForecastTop, Call::WillPutMerge(key) | Call::WillDeleteMerge(key), [0, 0])
+                if self.top_full(lent) && self.live(lent, key) =>
+            {
+                [0, 1]
+            }
+            (ForecastMarks, Call::WillPutMerge(key), [0, 0])
+                if self.top_full(lent) && !self.live(lent, key) =>
+            {
+                [0, 1]
+            }
+            (ForecastAbsent, Call::WillDeleteMerge(key), [0, 0]) => {
+                match self.store.call(lent, Call::WillPutMerge(key)) {
+                    Answer::Forecast([0, merges]) => [0, merges],
+                    _ => right,
+                }
+            }
+            (ForecastWrites, _, [0, _]) => {
+                *lent.store.add(lent.words - 1) ^= 1;
+                right
+            }
+            _ => right,
+        })
+    }
+
+    /// Whether level 0 has as many records as it has room for.
+    unsafe fn top_full(&self, lent: Lent) -> bool {
+        let about = self.store.call(lent, Call::About);
+        matches!(about, Answer::About([0, b, w, d, _, _, _, _, _, top, ..]) if top == b * w * d)
+    }
+
+    /// Whether a key is in the store.
+    unsafe fn live(&self, lent: Lent, key: u32) -> bool {
+        let looked = self.store.call(lent, Call::LookUp(key));
+        matches!(looked, Answer::Looked([0, 1, _]))
+    }
 }
 
 impl<S: Store> Store for Planted<S> {
@@ -346,6 +422,7 @@ impl<S: Store> Store for Planted<S> {
                 return Answer::Stretched([0, written, more.into()]);
             }
             (StretchStore, _, Answer::Stretched([0, ..])) => *end ^= 1,
+            (_, _, Answer::Forecast(right)) => return self.forecast(lent, call, right),
             (_, Call::Stretch { rooms, .. }, Answer::Stretched(numbers)) => {
                 self.fault.arrays(lent, rooms, numbers);
             }

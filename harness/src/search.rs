@@ -1,7 +1,8 @@
-//! The search for a difference: random stores, damaged, all twelve calls on each.
+//! The search for a difference: random stores, damaged, all fourteen calls on each.
 
-use crate::calls::{Call, Oracle, Store};
+use crate::calls::{Answer, Call, Oracle, Store};
 use crate::compare::{Bench, Difference};
+use crate::forecasts::{came_true, forecast, Forecasts};
 use crate::harm::{damage, Harm};
 use crate::maker::{Base, Maker, Origin, Size};
 use crate::stretches::{ends, rooms, Stretches};
@@ -55,6 +56,7 @@ pub struct Counts {
     pub merges: u64,
     pub tickets: Tickets,
     pub stretches: Stretches,
+    pub forecasts: Forecasts,
     /// Calls for which both implementations of the reference were asked.
     pub both: u64,
     /// Stores of more than 16,384 words, and the words of the longest.
@@ -74,6 +76,7 @@ impl fmt::Display for Counts {
         }
         writeln!(out, "calls compared   {:>10}", self.calls)?;
         writeln!(out, "{}", self.stretches)?;
+        writeln!(out, "{}", self.forecasts)?;
         writeln!(out, "  merges         {:>10}", self.merges)?;
         writeln!(out, "{}", self.tickets)?;
         writeln!(out, "  refused for 5  {:>10}", self.full)?;
@@ -137,7 +140,8 @@ impl<'a> Search<'a> {
         Ok(())
     }
 
-    /// All twelve calls on one store, each on the words as they are.
+    /// All fourteen calls on one store, each on the words as they are; of each put and
+    /// delete its forecast first, to which it is held.
     fn ask_all(
         &mut self,
         random: &mut Random,
@@ -159,22 +163,41 @@ impl<'a> Search<'a> {
         self.counts.large += u64::from(words.len() > 16_384);
         self.counts.longest = self.counts.longest.max(words.len());
         for call in calls {
-            let answer = self.bench.ask(store, call, oracle, both)?;
-            self.counts.calls += 1;
-            self.counts.both += u64::from(both);
-            self.counts.merges += u64::from(answer.merges());
-            self.counts.tickets.count(call, answer);
-            self.counts.stretches.count(answer);
-            match call {
-                Call::Check => self.counts.reasons[answer.reason() as usize] += 1,
-                _ => self.counts.full += u64::from(answer.reason() == 5),
+            let first = forecast(call).map(|first| self.ask(store, first, oracle, both));
+            let foretold = first.transpose()?;
+            let answer = self.ask(store, call, oracle, both)?;
+            if let Some(foretold) = foretold {
+                came_true(words, call, foretold, answer)?;
             }
         }
         Ok(())
     }
+
+    /// One call on the words as they are.
+    fn ask(
+        &mut self,
+        store: &dyn Store,
+        call: Call,
+        oracle: Oracle,
+        both: bool,
+    ) -> Result<Answer, Difference> {
+        let answer = self.bench.ask(store, call, oracle, both)?;
+        self.counts.calls += 1;
+        self.counts.both += u64::from(both);
+        self.counts.merges += u64::from(answer.merges());
+        self.counts.tickets.count(call, answer);
+        self.counts.stretches.count(answer);
+        self.counts.forecasts.count(self.bench.words(), answer);
+        match (call, answer) {
+            (Call::Check, _) => self.counts.reasons[answer.reason() as usize] += 1,
+            (_, Answer::Changed([5, ..])) => self.counts.full += 1,
+            _ => {}
+        }
+        Ok(answer)
+    }
 }
 
-/// All twelve calls, stretch twice, with arguments that fit the store.
+/// All calls but forecasts, stretch twice, with arguments that fit the store.
 fn calls(random: &mut Random, base: &Base, words: &[u32]) -> [Call; 13] {
     let keys: [u32; 11] = std::array::from_fn(|_| key(random, base, words));
     let own = [0, 1, 2, 3, 4, 5].map(|at| words.get(at).copied().unwrap_or(4));

@@ -40,7 +40,7 @@ impl Range {
 }
 
 /// The figures of a block, by name: times in microseconds, and ratios.
-const NAMES: [&str; 27] = [
+const NAMES: [&str; 29] = [
     "plain pass",
     "check",
     "check / plain pass",
@@ -68,15 +68,18 @@ const NAMES: [&str; 27] = [
     "merging put with tickets / put",
     "delete with tickets / delete",
     "delete, mean / check",
+    "will put merge / check",
+    "will delete merge / check",
 ];
 /// Where the ratios of the first table begin and end, the rest of the second, and
-/// the parts of check; and what the tables of stretches and of tickets have.
+/// the parts of check; and what the tables of stretches, tickets and forecasts have.
 const FIRST: std::ops::Range<usize> = 0..7;
 const SECOND: std::ops::Range<usize> = 7..13;
 const PARTS: std::ops::Range<usize> = 13..17;
 const STRETCHES: [usize; 6] = [1, 17, 6, 20, 18, 19];
 const TICKETED: std::ops::Range<usize> = 21..26;
 const DELETE: usize = 26;
+const FORECASTS: std::ops::Range<usize> = 27..29;
 
 /// The aims, at most so much.
 const AIMS: [(usize, f64); 4] = [(3, 1.2), (4, 1.1), (5, 2.0), (6, 2.5)];
@@ -102,6 +105,7 @@ fn figures(block: &Block) -> [f64; NAMES.len()] {
         &parts(block),
         &stretches(block),
         &pairs(block),
+        &forecasts(block),
     ];
     tables.concat().try_into().expect("a figure for each name")
 }
@@ -181,6 +185,13 @@ fn pairs(block: &Block) -> [f64; TICKETED.end - TICKETED.start + 1] {
         with_tickets / delete,
         block.library.delete.mean() / block.library.check.mean(),
     ]
+}
+
+/// Forecasts of a put and of a delete.
+fn forecasts(block: &Block) -> [f64; FORECASTS.end - FORECASTS.start] {
+    let library = &block.library;
+    let check = library.check.mean();
+    library.forecasts.each_ref().map(|one| one.mean() / check)
 }
 
 /// The figures of one block of a log.
@@ -295,6 +306,7 @@ pub fn print(rows: &[Row]) {
     print_parts(rows);
     print_stretches(rows);
     print_tickets(rows);
+    print_forecasts(rows);
     print_cold(rows);
     print_logs(rows);
     rows.iter()
@@ -364,6 +376,14 @@ fn print_tickets(rows: &[Row]) {
     );
     let head = "put,tickets/put,merging put,tickets/put,tickets/del";
     table(&above, head, rows, |row| row.cells(TICKETED));
+}
+
+/// Forecasts.
+fn print_forecasts(rows: &[Row]) {
+    let above = "Forecasts of a put and of a delete as a share of check, of live keys and of absent ones, whose put would be\n\
+        turned down for 5.";
+    let head = "will put,will delete";
+    table(above, head, rows, |row| row.cells(FORECASTS));
 }
 
 /// Cold calls.

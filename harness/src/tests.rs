@@ -1,7 +1,8 @@
 //! The search and the histories are able to fail, and find nothing in the library.
 //! What the benchmark says of an aim, and its logs.
 
-use crate::calls::{Library, Package};
+use crate::calls::{Answer, Call, Library, Package};
+use crate::forecasts::{came_true, Forecasts};
 use crate::log::Log;
 use crate::planted::{Fault, Planted};
 use crate::search::Search;
@@ -47,6 +48,7 @@ fn nothing_in_the_library() {
     let stretches = &counts.stretches;
     assert!(stretches.cut > 0 && stretches.wrote > stretches.cut && stretches.more > stretches.cut);
     all_met(&counts.tickets);
+    all_foretold(&counts.forecasts);
 }
 
 /// Lists of tickets that had no room, were too short, and were told of five merges and six.
@@ -55,7 +57,14 @@ fn all_met(tickets: &Tickets) {
     assert!(tickets.deep > 0 && tickets.most == 6);
 }
 
-/// Each planted fault of a stretch or ticket is reported in a history, which shows it again.
+/// Forecasts of a merge, of none though level 0 is full, and of a put that is turned down for 5.
+fn all_foretold(forecasts: &Forecasts) {
+    assert!(forecasts.merge > 100 && forecasts.spared > 100 && forecasts.full > 100);
+    assert!(forecasts.calls > forecasts.merge + forecasts.spared + forecasts.full);
+}
+
+/// Each planted fault of a stretch, ticket or forecast is reported in a history, which shows it
+/// again.
 #[test]
 fn planted_faults_are_reported_in_histories() {
     for fault in Fault::HISTORIES {
@@ -88,6 +97,42 @@ fn nothing_in_histories() {
     assert!(counts.merges > 0 && counts.full > 0 && counts.large > 0);
     assert!(counts.stretches.cut > 0 && counts.steps > 2 * counts.walks);
     all_met(&counts.tickets);
+    all_foretold(&counts.forecasts);
+}
+
+/// What a put or delete comes to is held to its forecast, whatever the reference says.
+#[test]
+fn other_calls_than_foretold() {
+    let words = [4, 1, 2, 4, 2, 168, 0, 0, 8, 0, 0, 0];
+    // Reason, merges into level 1, blocks that they write, those of level 2 and its compacting.
+    let held = |foretold, [reason, merges, written, deep, compacted]: [u32; 5]| {
+        let answer = Answer::Changed([
+            reason, 0, merges, written, 0, deep, deep, compacted, 0, 0, 0,
+        ]);
+        came_true(&words, Call::Put(7, 1), Answer::Forecast(foretold), answer).is_ok()
+    };
+    assert!(held([0, 0], [0, 0, 0, 0, 0]));
+    assert!(held([0, 1], [0, 1, 1, 0, 0]));
+    // w × (G + 1) blocks, and what follows the first merge.
+    assert!(held([0, 1], [0, 1, 5, 2, 3]));
+    assert!(held([5, 0], [5, 0, 0, 0, 0]));
+    assert!(!held([0, 0], [0, 1, 1, 0, 0]));
+    assert!(!held([0, 1], [0, 0, 0, 0, 0]));
+    assert!(!held([0, 2], [0, 2, 2, 0, 0]));
+    assert!(!held([0, 1], [0, 1, 6, 0, 0]));
+    assert!(!held([0, 0], [0, 0, 1, 0, 0]));
+    assert!(!held([0, 0], [0, 0, 0, 1, 0]));
+    assert!(!held([0, 0], [0, 0, 0, 0, 1]));
+    assert!(!held([0, 0], [5, 0, 0, 0, 0]));
+    assert!(!held([5, 1], [5, 0, 0, 0, 0]));
+    assert!(!held([4, 0], [5, 0, 0, 0, 0]));
+    let said = Answer::Forecast([0, 1]);
+    let shown = came_true(&words, Call::Delete(7), said, Answer::Changed([0; 11]));
+    let shown = shown.expect_err("no merge came").to_string();
+    assert_eq!(
+        shown,
+        "Delete(7): Forecast([0, 1]), and it answered Changed([0, 0, 0, 0, 0, 0, 0, 0, 0, 0, 0])"
+    );
 }
 
 /// What a stretch gives is held to the map, whatever the reference says.

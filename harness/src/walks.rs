@@ -1,17 +1,21 @@
 //! Histories: a store that is formatted, or one whose next new key makes many merges,
 //! then random puts, deletes and look ups of the library and of the reference side by
-//! side, half of the puts and deletes with tickets, with stretches between them. Beside
-//! both stands a plain map that is fed with the accepted puts and deletes, and every
-//! stretch is held to it too, and every walk: stretches from a first to a last key, each
-//! resumed one above the last key that was written, till none follow.
+//! side, half of the puts and deletes with tickets, with stretches between them. Every
+//! put and delete is held to its forecast, asked for before it; there are forecasts of
+//! other keys between them too. Beside both stands a plain map that is fed with the
+//! accepted puts and deletes, and every stretch is held to it too, and every walk:
+//! stretches from a first to a last key, each resumed one above the last key that was
+//! written, till none follow.
 
 use crate::calls::{Answer, Call, Oracle, Store};
 use crate::compare::{Bench, Difference, Piece};
+use crate::forecasts::{came_true, forecast, Forecasts};
 use crate::maker::{Base, Maker, Size};
 use crate::stretches::{ends, rooms, Stretches};
 use crate::tickets::{delete, put, Tickets};
 use reference::generate::Stream;
 use reference::geometry::Geometry;
+use reference::layout::COUNTS;
 use reference::random::Random;
 use reference::script::Line;
 use reference::unreachable;
@@ -54,6 +58,7 @@ pub struct Counts {
     pub merges: u64,
     pub tickets: Tickets,
     pub stretches: Stretches,
+    pub forecasts: Forecasts,
     /// Walks, their stretches and their records.
     pub walks: u64,
     pub steps: u64,
@@ -69,6 +74,7 @@ impl fmt::Display for Counts {
         writeln!(out, "{}", self.tickets)?;
         writeln!(out, "  refused for 5  {:>10}", self.full)?;
         writeln!(out, "{}", self.stretches)?;
+        writeln!(out, "{}", self.forecasts)?;
         writeln!(out, "walks            {:>10}", self.walks)?;
         writeln!(out, "  stretches      {:>10}", self.steps)?;
         write!(out, "  records        {:>10}", self.records)
@@ -116,10 +122,11 @@ impl<'a> Walks<'a> {
             },
             bench: &mut self.bench,
             counts: &mut self.counts,
+            geometry,
             map: BTreeMap::new(),
             calls: 0,
         };
-        let result = history.run(&mut random, geometry, start);
+        let result = history.run(&mut random, start);
         result.map_err(|difference| {
             Box::new(Report {
                 seed: self.seed,
@@ -166,18 +173,15 @@ struct History<'a> {
     oracle: Oracle,
     bench: &'a mut Bench,
     counts: &'a mut Counts,
+    geometry: Geometry,
     map: BTreeMap<u32, u32>,
     calls: usize,
 }
 
 impl History<'_> {
     /// All of it, from a store that is there or from a formatted one.
-    fn run(
-        &mut self,
-        random: &mut Random,
-        geometry: Geometry,
-        start: Option<Base>,
-    ) -> Result<(), Difference> {
+    fn run(&mut self, random: &mut Random, start: Option<Base>) -> Result<(), Difference> {
+        let geometry = self.geometry;
         let most = match start {
             Some(base) => {
                 self.bench.load(&base.words);
@@ -199,7 +203,7 @@ impl History<'_> {
         self.walk(random, 0, u32::MAX)
     }
 
-    /// A put, delete or look up, now and then with a stretch or a walk after it.
+    /// A put, delete or look up, now and then with a stretch, a walk or a forecast after it.
     fn step(&mut self, random: &mut Random, line: Line) -> Result<(), Difference> {
         match line {
             Line::Put(key, payload) => {
@@ -225,12 +229,28 @@ impl History<'_> {
             let (first, last) = self.ends(random);
             self.walk(random, first, last)?;
         }
+        if random.one_in(4) {
+            let key = self.key(random);
+            self.forecast(random.pick(&[Call::WillPutMerge(key), Call::WillDeleteMerge(key)]))?;
+        }
         Ok(())
     }
 
-    /// A call that changes the store or looks a key up.
-    fn call(&mut self, call: Call) -> Result<Answer, Difference> {
+    /// A forecast.
+    fn forecast(&mut self, call: Call) -> Result<Answer, Difference> {
         let answer = self.bench.go_on(self.store, call, self.oracle)?;
+        self.counts.forecasts.count(self.bench.words(), answer);
+        Ok(answer)
+    }
+
+    /// A call that changes the store or looks a key up; a put or delete after its forecast.
+    fn call(&mut self, call: Call) -> Result<Answer, Difference> {
+        let first = forecast(call).map(|first| self.forecast(first));
+        let foretold = first.transpose()?;
+        let answer = self.bench.go_on(self.store, call, self.oracle)?;
+        if let Some(foretold) = foretold {
+            came_true(self.bench.words(), call, foretold, answer)?;
+        }
         self.counts.calls += 1;
         self.counts.full += u64::from(answer.reason() == 5);
         self.counts.merges += u64::from(answer.merges());
@@ -238,11 +258,14 @@ impl History<'_> {
         Ok(answer)
     }
 
-    /// A key to ask for: one of the map or next to one, an extreme, or any word.
+    /// A key to ask for: one of the map or next to one, one of level 0, where it may have
+    /// a delete mark, an extreme, or any word.
     fn key(&self, random: &mut Random) -> u32 {
+        let words = self.bench.words();
         match random.below(8) {
             0 => random.pick(&[0, 1, u32::MAX, u32::MAX - 1]),
             1 => random.word() >> random.below(32),
+            2 => words[self.geometry.keys_at() + random.below(words[COUNTS] as usize)],
             _ => {
                 let key = self.map.keys().nth(random.below(self.map.len()));
                 let near = random.pick(&[0, 0, 1, u32::MAX]);

@@ -82,6 +82,15 @@ pub struct Changed {
     pub levels: [Counts; MOST_LEVELS],
 }
 
+/// The answer of will_put_merge and will_delete_merge, for document 02's card 5.
+#[derive(Clone, Copy, Debug, Default, PartialEq, Eq)]
+pub struct Forecast {
+    /// The reason 1 to 5 that the put or delete would be turned down with, or 0.
+    pub reason: u32,
+    /// Merges into level 1 that it would make, 0 or 1.
+    pub merges: u32,
+}
+
 /// Format: "every word 0 but the six of the geometry and hand = P − 1; answers
 /// N." Refusals 1, 2, 3 in this order, whatever the old words are (reading 17).
 pub fn format(words: &mut [u32], numbers: [u32; 6]) -> Formatted {
@@ -260,6 +269,52 @@ pub fn about(words: &[u32]) -> About {
         top: view.count(0) as u32,
         blocks,
     }
+}
+
+/// What a put of k, with any payload, would do, card 5 of document 02: "exactly one if
+/// level 0 holds K(0) × B records and the key isn't among them, and none otherwise. [..]
+/// A refused call makes none", one refused with 5 too (the card's reading 1).
+pub fn will_put_merge(words: &[u32], key: u32) -> Forecast {
+    let view = match checked(words) {
+        Err(reason) => return Forecast { reason, merges: 0 },
+        Ok(view) => view,
+    };
+    let refused = view.look_up(key).is_none() && view.live() == view.geometry.key_limit();
+    let accepted = !refused || fault::is(Fault::RefusedMerges);
+    Forecast {
+        reason: if refused { 5 } else { 0 },
+        merges: u32::from(accepted && merges_first(view, key)),
+    }
+}
+
+/// What a delete of k would do: "For a delete the same holds if the key is live, and none
+/// if it is absent." No reason but 1 to 4 turns a delete down.
+pub fn will_delete_merge(words: &[u32], key: u32) -> Forecast {
+    let view = match checked(words) {
+        Err(reason) => return Forecast { reason, merges: 0 },
+        Ok(view) => view,
+    };
+    let live = view.look_up(key).is_some() || fault::is(Fault::AbsentMerges);
+    Forecast {
+        reason: 0,
+        merges: u32::from(live && merges_first(view, key)),
+    }
+}
+
+/// Card 5: "level 0 holds K(0) × B records and the key isn't among them". A tombstone
+/// counts as a record, and its key is among them (the card's reading 2).
+fn merges_first(view: View, key: u32) -> bool {
+    let (mut held, mut among) = (view.count(0), view.find(0, key));
+    if fault::is(Fault::TombstonesNotHeld) {
+        held = (0..held).filter(|&at| !view.zero_tombstone(at)).count();
+    }
+    if fault::is(Fault::TombstoneNotAmong) {
+        among = among.filter(|record| !record.tombstone);
+    }
+    if fault::is(Fault::FullMerges) {
+        among = None;
+    }
+    held == view.geometry.level_zero_records() && among.is_none()
 }
 
 /// Put k, v.

@@ -44,6 +44,16 @@ pub enum Fault {
     ClearsTickets,
     /// Merges that find no ticket are not counted.
     CountsTicketsOnly,
+    /// The forecast takes level 0 for full only if it is full of puts.
+    TombstonesNotHeld,
+    /// The forecast takes the key of a tombstone in level 0 for one that it lacks.
+    TombstoneNotAmong,
+    /// The forecast of a full level 0 is a merge, also if it has the key.
+    FullMerges,
+    /// The forecast of a put that is refused with 5 is the merge all the same.
+    RefusedMerges,
+    /// The forecast of a delete does not ask if the key is live.
+    AbsentMerges,
 }
 
 #[cfg(test)]

@@ -1,5 +1,5 @@
 //! The reference implementation of the flash record store of document 01
-//! ("The record store of a brake tester console") with cards 1 and 3 of document
+//! ("The record store of a brake tester console") with cards 1, 3 and 5 of document
 //! 02, written from these documents and the lists of readings alone. It is plain on
 //! purpose: it is the other side of a comparison. Standard library only.
 //!

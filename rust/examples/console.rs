@@ -120,12 +120,25 @@ fn print_stored(test: u32, answer: Result<Change, Refusal>) {
     }
 }
 
+/// The progress bar, before a call that will merge. None before one that is turned down: the call itself says why.
+fn show_bar(store: &[u32], will_merge: Result<bool, Refusal>) {
+    if will_merge != Ok(true) {
+        return;
+    }
+    if let Ok(about) = mewilovang::about(store) {
+        let Geometry { w, g, .. } = about.geometry;
+        println!("bar: at most {} blocks for the first merge", w * (g + 1));
+    }
+}
+
 fn measured(store: &mut [u32], test: u32, left: u32, right: u32) {
+    show_bar(store, mewilovang::will_put_merge(store, test));
     print_stored(test, mewilovang::put(store, test, left << 16 | right));
 }
 
 /// The same, and what made it slow: a line for each of its merges, as many as there are tickets for.
 fn traced(store: &mut [u32], test: u32, left: u32, right: u32) {
+    show_bar(store, mewilovang::will_put_merge(store, test));
     let mut tickets = [Ticket::default(); TICKETS];
     let answer = mewilovang::put_tickets(store, test, left << 16 | right, &mut tickets);
     print_stored(test, answer);
@@ -139,6 +152,7 @@ fn traced(store: &mut [u32], test: u32, left: u32, right: u32) {
 }
 
 fn deleted(store: &mut [u32], test: u32) {
+    show_bar(store, mewilovang::will_delete_merge(store, test));
     match mewilovang::delete(store, test) {
         Err(r) => println!("test {test} not deleted: {}", why(r)),
         Ok(c) if !c.live => println!("test {test} not deleted: no such test"),

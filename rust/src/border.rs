@@ -63,6 +63,15 @@ pub struct AboutStore {
     pub blocks3: u32,
 }
 
+/// The reason that a put or delete of a key would be turned down for, or 0, and the merges into level 1 that it would make,
+/// 0 or 1.
+#[repr(C)]
+#[derive(Clone, Copy, Debug, Default, PartialEq, Eq)]
+pub struct Forecast {
+    pub reason: u32,
+    pub merges: u32,
+}
+
 /// Merges into a level, blocks written by them, blocks written compacting the level.
 #[repr(C)]
 #[derive(Clone, Copy, Debug, Default, PartialEq, Eq)]
@@ -120,6 +129,8 @@ extern "C" {
     ) -> Stretched;
     pub fn mewilovang_show(store: *const u32, words: usize, level: u32, key: u32) -> Part;
     pub fn mewilovang_about(store: *const u32, words: usize) -> AboutStore;
+    pub fn mewilovang_will_put_merge(store: *const u32, words: usize, key: u32) -> Forecast;
+    pub fn mewilovang_will_delete_merge(store: *const u32, words: usize, key: u32) -> Forecast;
     pub fn mewilovang_put(store: *mut u32, words: usize, key: u32, payload: u32) -> Changed;
     pub fn mewilovang_delete(store: *mut u32, words: usize, key: u32) -> Changed;
     pub fn mewilovang_put_tickets(

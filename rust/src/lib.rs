@@ -260,6 +260,61 @@ pub fn about(store: &[u32]) -> Result<About, Refusal> {
     })
 }
 
+/// If a put of this key, whatever its payload, will merge, or why it would be turned down. Changes nothing. A console asks
+/// this before a put, to know if its progress bar has to be shown.
+///
+/// A put that is not turned down merges exactly if level 0 is full, with w * d * b records, and the key is not among them;
+/// delete marks count as records. The first merge, the only one into level 1, writes at most w * (g + 1) blocks. Compacting
+/// and merges deeper down, if any, follow that one and are not in that figure. A put without a merge writes no block at all.
+///
+/// ```
+/// use mewilovang::{Geometry, Refusal};
+///
+/// let geometry = Geometry { b: 4, w: 1, d: 2, g: 4, h: 1, p: 40 };
+/// let mut store = vec![0; 438];
+/// mewilovang::format(&mut store, geometry)?;
+/// for key in [10, 20, 30, 40, 50, 60, 70, 80] {
+///     assert!(!mewilovang::will_put_merge(&store, key)?);
+///     mewilovang::put(&mut store, key, 2400)?;
+/// }
+/// // Level 0 is full now: a new key has to wait for a merge, one that is there has not.
+/// assert!(mewilovang::will_put_merge(&store, 90)?);
+/// assert!(!mewilovang::will_put_merge(&store, 50)?);
+/// assert_eq!(mewilovang::put(&mut store, 90, 2400)?.levels[0].merges, 1);
+///
+/// store[6] = 8;
+/// assert_eq!(mewilovang::will_put_merge(&store, 90), Err(Refusal::Damaged));
+/// # Ok::<(), Refusal>(())
+/// ```
+pub fn will_put_merge(store: &[u32], key: u32) -> Result<bool, Refusal> {
+    foretold(unsafe { border::mewilovang_will_put_merge(store.as_ptr(), store.len(), key) })
+}
+
+/// If a delete of this key will merge, or why it would be turned down. Changes nothing.
+///
+/// A delete of a key in the store merges exactly if a put of it would, and its first merge writes at most as many blocks as
+/// [`will_put_merge`] says. A delete of a key that is not in the store never merges.
+///
+/// ```
+/// use mewilovang::{Geometry, Refusal};
+///
+/// let geometry = Geometry { b: 4, w: 1, d: 2, g: 4, h: 1, p: 40 };
+/// let mut store = vec![0; 438];
+/// mewilovang::format(&mut store, geometry)?;
+/// for key in [10, 20, 30, 40, 50, 60, 70, 80, 90, 92, 94, 96] {
+///     mewilovang::put(&mut store, key, 2400)?;
+/// }
+/// // 10 to 40 went to level 1, and the other eight fill level 0.
+/// assert!(mewilovang::will_delete_merge(&store, 10)?);
+/// assert!(!mewilovang::will_delete_merge(&store, 50)?);
+/// // 15 is not in the store.
+/// assert!(!mewilovang::will_delete_merge(&store, 15)?);
+/// # Ok::<(), Refusal>(())
+/// ```
+pub fn will_delete_merge(store: &[u32], key: u32) -> Result<bool, Refusal> {
+    foretold(unsafe { border::mewilovang_will_delete_merge(store.as_ptr(), store.len(), key) })
+}
+
 /// A payload for a key, over the one that it had.
 pub fn put(store: &mut [u32], key: u32, payload: u32) -> Result<Change, Refusal> {
     change(unsafe { border::mewilovang_put(store.as_mut_ptr(), store.len(), key, payload) })
@@ -344,6 +399,11 @@ fn accepted(reason: u32) -> Result<(), Refusal> {
         5 => Err(Refusal::Full),
         other => unreachable!("the library has no reason {other}"),
     }
+}
+
+fn foretold(a: border::Forecast) -> Result<bool, Refusal> {
+    accepted(a.reason)?;
+    Ok(a.merges == 1)
 }
 
 fn change(a: border::Changed) -> Result<Change, Refusal> {

@@ -1,22 +1,21 @@
 -- The merges that a put or delete makes on a store that passes the form check: all about each, and about the store after them.
-use Prim.Native.Nat.{ℕ, zero, suc, _+_, _-_, _<_, _≤_}
+use Prim.Native.Nat.{ℕ, zero, suc, _-_, _<_, _≤_}
 use mathlib.Core.Path.{_≡_, refl, sym, _∙_, ap, subst}
 use mathlib.Core.Bool.{Bool, true, false, _||_}
 use mathlib.Core.List.{List, [], _∷_}
 use native.Mathlib.Omega.{arith}
 use native.Mathlib.Decide.{ℕ-discrete}
-use lib.Dec.{ltb, eqb}
+use lib.Dec.{ltb}
 use lib.ListN.{length, getD}
-use borrow.Author.Tests.{ltb-false, ne-eqb}
+use borrow.Author.Tests.{ltb-false}
 use Rattle.geometry.specs.declared.Geometry.{Geometry}
 use Rattle.geometry.specs.Geometry.{Valid, capacityOf, topCapacityOf, windowOf}
-use Rattle.levels.specs.Basics.{if_then_else_, isSome}
+use Rattle.levels.specs.Basics.{isSome}
 use Rattle.levels.specs.Record.{Rec}
 use Rattle.levels.specs.Map.{find}
 use Rattle.levels.specs.Store.{Store, rows, blocksOf}
 use Rattle.levels.specs.Call.{Merge, mergeRun, mergeLevel, afterMerge, afterMerges, deepestOver, mergesBelow, mergesFrom, enoughSteps}
 use Rattle.levels.specs.Put.{mergesFor}
-use Rattle.levels.specs.Count.{totalInto}
 use Rattle.levels.specs.InCall.{Due, MergeFacts, Deepest}
 use Rattle.levels.specs.Every.{Every, First, Later}
 use Rattle.levels.specs.Sound.{Fits, Sound}
@@ -65,18 +64,6 @@ below-deepest (suc n) g e s v t i r = go (deepestOver g (g .h - 1) s) refl (λ x
     go (suc j) q ih =
         let f = next-facts g e s j v t i r q in
         subst (Every (Deepest g)) (sym (below-go n g s j q)) (next-deepest g e s j q f, ih (afterMerge (mergeLevel g (suc j) s)) (f .five .inside) (f .after-ruled))
-
-into-one : (g : Geometry) (ms : List Merge) → Every (Deepest g) ms → totalInto 1 (λ m. 1) ms ≡ 0
-into-one g [] h = refl
-into-one g (m ∷ ms) h = rw (ne-eqb (suc (m .level)) 1 (λ e. omega (arith, e, h .0 .listed))) (omega (arith, into-one g ms (h .1)))
-
-first-one : (g : Geometry) (ms : List Merge) → Later (Deepest g) ms → totalInto 1 (λ m. 1) ms ≤ 1
-first-one g [] h = omega arith
-first-one g (m ∷ ms) h = pick (eqb (suc (m .level)) 1) (into-one g ms h)
-  where
-    pick : (t : Bool) → totalInto 1 (λ m. 1) ms ≡ 0 → (if t then 1 else 0) + totalInto 1 (λ m. 1) ms ≤ 1
-    pick true z = omega arith
-    pick false z = omega arith
 
 -- the clauses of mergesFor, as laws: "a key found in level 0 is overwritten there; otherwise, if c = K(0)×B, level 0 is merged first"
 pub for-none : (g : Geometry) (s : Store) (k : ℕ) → (isSome (find k (s .top)) || ltb (length (s .top)) (topCapacityOf g)) ≡ true → mergesFor g s k ≡ []
@@ -217,7 +204,3 @@ module _ (g : Geometry) (s : Store) (v : Valid g) (f : Fits g s) (o : Sound g s)
           let d = first-facts (full-top k e) in
           subst (Later (Deepest g)) (sym (for-full g s k e ∙ from-is g s))
           (below-deepest (enoughSteps g s) g s (afterMerge (mergeLevel g 0 s)) v (entry-of g s v f o) (d .five .inside) (d .after-ruled))
-
-  -- "A put makes at most one merge into level 1."
-  pub one-into-one : (k : ℕ) → totalInto 1 (λ m. 1) (mergesFor g s k) ≤ 1
-  one-into-one k = first-one g (mergesFor g s k) (later-deepest k)

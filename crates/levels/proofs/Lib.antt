@@ -37,6 +37,7 @@ pub mod Entry
 pub mod CallMerges
 pub mod MergesFew
 pub mod MergeBounds
+pub mod OneMerge
 pub mod Laying
 pub mod Tickets
 pub mod Insert

@@ -124,6 +124,10 @@ module _ (g : Geometry) (e : Store) (m : Merge) (v : Valid g) (f : MergeFacts g 
   pub top-writes-most : m .level ≡ 0 → blocksMerged m ≤ m .window + overlapOf g m
   top-writes-most z = omega (arith, merge-written, f .writes-top z)
 
+  -- so never more than (G + 1) × w
+  pub top-writes-growth : m .level ≡ 0 → blocksMerged m ≤ (g .g + 1) * m .window
+  top-writes-growth z = omega (arith, top-writes-most z, overlap-growth)
+
   -- "so never more than (G + 1) × w + 1"
   pub merge-writes-growth : blocksMerged m ≤ (g .g + 1) * m .window + 1
   merge-writes-growth = omega (arith, merge-writes-most, overlap-growth)

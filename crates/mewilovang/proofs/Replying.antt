@@ -22,7 +22,7 @@ use Rattle.store.specs.Change.{SumsFit, PutDone, DeleteDone}
 use Rattle.mewilovang.specs.declared.Formatted.{Formatted}
 use Rattle.mewilovang.specs.declared.Stretched.{Stretched}
 use Rattle.mewilovang.specs.declared.Changed.{Changed}
-use Rattle.mewilovang.specs.Answers.{wordsOf, formattedReply, formattedOutcome, stretchedReply, stretchedOutcome, CountsFit, changedReply, PutReplied, DeleteReplied}
+use Rattle.mewilovang.specs.Answers.{wordsOf, formattedReply, formattedOutcome, stretchedReply, stretchedOutcome, CountsFit, forecastReply, changedReply, PutReplied, DeleteReplied}
 
 -- the words of a layout
 pub words-broken : (g : Geometry) → builtOf g ≡ Broken → 0 ≡ wordsOf g
@@ -64,6 +64,7 @@ module _ (ws : List ℕ) (k : ℕ) (c : changed.Changed) (r : Changed) (out : Li
   put-replied v d = record {
     reply = q ∙ ap (λ (o : Outcome ChangeAnswer). changedReply (o .answer)) (d .outcome);
     words = ap (λ (o : Outcome ChangeAnswer). o .words) (d .outcome);
+    foretold = ap (λ (x : Changed). record { reason = x .reason; merges = x .level1 .merges }) q ∙ ap forecastReply (d .foretold);
     change = c;
     answer = q;
     done = d;
@@ -73,6 +74,7 @@ module _ (ws : List ℕ) (k : ℕ) (c : changed.Changed) (r : Changed) (out : Li
   delete-replied d = record {
     reply = q ∙ ap (λ (o : Outcome ChangeAnswer). changedReply (o .answer)) (d .outcome);
     words = ap (λ (o : Outcome ChangeAnswer). o .words) (d .outcome);
+    foretold = ap (λ (x : Changed). record { reason = x .reason; merges = x .level1 .merges }) q ∙ ap forecastReply (d .foretold);
     change = c;
     answer = q;
     done = d;

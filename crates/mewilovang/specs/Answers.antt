@@ -7,7 +7,7 @@ use Rattle.geometry.specs.declared.Geometry.{Geometry}
 use Rattle.geometry.specs.Geometry.{isLegal, storeLength}
 use Rattle.levels.specs.Count as levels
 use Rattle.words.specs.Layout.{bit}
-use Rattle.words.specs.Calls.{Outcome, FormatAnswer, LookAnswer, NextAnswer, StretchAnswer, StretchOutcome, AboutAnswer, ChangeAnswer, putOf, deleteOf}
+use Rattle.words.specs.Calls.{Outcome, FormatAnswer, LookAnswer, NextAnswer, StretchAnswer, StretchOutcome, AboutAnswer, ChangeAnswer, ForecastAnswer, putOf, deleteOf, willPutMergeOf, willDeleteMergeOf}
 use Rattle.writer.specs.declared.Changed as changed
 use Rattle.writer.specs.Answers.{changedAnswer}
 use Rattle.reader.specs.declared.Part as part
@@ -18,6 +18,7 @@ use Rattle.mewilovang.specs.declared.Nexted.{Nexted}
 use Rattle.mewilovang.specs.declared.Stretched.{Stretched}
 use Rattle.mewilovang.specs.declared.Part.{Part}
 use Rattle.mewilovang.specs.declared.AboutStore.{AboutStore}
+use Rattle.mewilovang.specs.declared.Forecast.{Forecast}
 use Rattle.mewilovang.specs.declared.Counts.{Counts}
 use Rattle.mewilovang.specs.declared.Changed.{Changed}
 
@@ -69,6 +70,10 @@ toldReply a = record {
   blocks3 = a .blocks3;
 }
 
+-- Document 02, card 5: the reason or 0, and the merges into level 1
+abbrev pub forecastReply : ForecastAnswer → Forecast
+forecastReply a = record { reason = a .reason; merges = a .merges }
+
 -- "for each level 1 to 3: merges into it, blocks written by them, blocks written compacting it", if they are words
 pub record CountsFit (c : levels.Counts) : Type 0 where
   pub merges : c .merges < 4294967296
@@ -86,6 +91,8 @@ changedReply a = record { reason = a .reason; live = bit (a .live); level1 = cou
 pub record PutReplied (ws : List ℕ) (k v : ℕ) (r : Changed) (out : List ℕ) : Type 0 where
   pub reply : r ≡ changedReply (putOf ws k v .answer)
   pub words : out ≡ putOf ws k v .words
+  -- card 5: reason and merges into level 1 are those that `mewilovang_will_put_merge` answers of the words at entry
+  pub foretold : record { reason = r .reason; merges = r .level1 .merges } ≡ forecastReply (willPutMergeOf ws k)
   -- what the store's put answers, of which all that `PutDone` says holds; r is its numbers
   pub change : changed.Changed
   pub answer : r ≡ changedReply (changedAnswer change)
@@ -95,6 +102,7 @@ pub record PutReplied (ws : List ℕ) (k v : ℕ) (r : Changed) (out : List ℕ)
 pub record DeleteReplied (ws : List ℕ) (k : ℕ) (r : Changed) (out : List ℕ) : Type 0 where
   pub reply : r ≡ changedReply (deleteOf ws k .answer)
   pub words : out ≡ deleteOf ws k .words
+  pub foretold : record { reason = r .reason; merges = r .level1 .merges } ≡ forecastReply (willDeleteMergeOf ws k)
   pub change : changed.Changed
   pub answer : r ≡ changedReply (changedAnswer change)
   pub done : DeleteDone ws k change out

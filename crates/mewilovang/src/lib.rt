@@ -2,16 +2,16 @@
 
 ghost use mathlib.Core.Path.{_≡_};
 ghost use Rattle.levels.specs.Tickets.{laid};
-ghost use Rattle.words.specs.Calls.{Outcome, StretchOutcome, formatOf, checkOf, lookUpOf, nextOf, stretchOf, aboutOf, putTickets, deleteTickets};
+ghost use Rattle.words.specs.Calls.{Outcome, StretchOutcome, formatOf, checkOf, lookUpOf, nextOf, stretchOf, aboutOf, putTickets, deleteTickets, willPutMergeOf, willDeleteMergeOf};
 ghost use Rattle.reader.specs.Answers.{lookedAnswer, nextedAnswer, stretchAnswer, toldAnswer};
-ghost use Rattle.writer.specs.Answers.{changedAnswer};
+ghost use Rattle.writer.specs.Answers.{changedAnswer, forecastAnswer};
 ghost use Rattle.store.specs.Answers.{formatAnswer};
 ghost use Rattle.store.specs.Change.{SumsFit};
 ghost use Rattle.store.specs.Show.{showPart};
 ghost use Rattle.steps.specs.Running.{numbersOf};
 ghost use Rattle.mewilovang.specs.declared.Formatted.{Formatted};
 ghost use Rattle.mewilovang.specs.declared.Stretched.{Stretched};
-ghost use Rattle.mewilovang.specs.Answers.{wordsOf, formattedReply, formattedOutcome, lookedReply, nextedReply, stretchedReply, stretchedOutcome, partReply, toldReply, CountsFit, countsReply, changedReply, PutReplied, DeleteReplied};
+ghost use Rattle.mewilovang.specs.Answers.{wordsOf, formattedReply, formattedOutcome, lookedReply, nextedReply, stretchedReply, stretchedOutcome, partReply, toldReply, forecastReply, CountsFit, countsReply, changedReply, PutReplied, DeleteReplied};
 use geometry::Built;
 use geometry::Geometry;
 use levels::Ticket;
@@ -71,6 +71,13 @@ pub struct AboutStore {
     pub blocks1: u32,
     pub blocks2: u32,
     pub blocks3: u32,
+}
+
+// The reason that a put or delete would be turned down for, or 0, and its merges into level 1, 1 or 0.
+#[repr(C)]
+pub struct Forecast {
+    pub reason: u32,
+    pub merges: u32,
 }
 
 // Merges into a level, blocks written by them, blocks written compacting it.
@@ -208,6 +215,21 @@ fn told_reply(t: reader::Told) -> AboutStore
     }
 }
 
+fn forecast_reply(f: writer::Forecast) -> Forecast
+    ensures { λ r. ⌜ r ≡ forecastReply (forecastAnswer f) ⌝ }
+{
+    match f {
+        writer::Forecast::Merges(n) => Forecast {
+            reason: 0,
+            merges: n,
+        },
+        writer::Forecast::Refused(n) => Forecast {
+            reason: n,
+            merges: 0,
+        },
+    }
+}
+
 // That counts fit 32 bits is a law, so nothing is cut off.
 fn counts_reply(counts: steps::Counts) -> Counts
     requires { ⌜ CountsFit (numbersOf counts) ⌝ }
@@ -332,6 +354,21 @@ pub extern "C" fn mewilovang_about(store: &[u32]) -> AboutStore
     ensures { λ r. ⌜ r ≡ toldReply (aboutOf (now (store .entry))) ⌝ }
 {
     told_reply(store::about(store))
+}
+
+// What a put, or a delete, of a key is going to do: if it merges, and the reason if it is turned down.
+#[no_mangle]
+pub extern "C" fn mewilovang_will_put_merge(store: &[u32], key: u32) -> Forecast
+    ensures { λ r. ⌜ r ≡ forecastReply (willPutMergeOf (now (store .entry)) key) ⌝ }
+{
+    forecast_reply(store::will_put_merge(store, key))
+}
+
+#[no_mangle]
+pub extern "C" fn mewilovang_will_delete_merge(store: &[u32], key: u32) -> Forecast
+    ensures { λ r. ⌜ r ≡ forecastReply (willDeleteMergeOf (now (store .entry)) key) ⌝ }
+{
+    forecast_reply(store::will_delete_merge(store, key))
 }
 
 #[no_mangle]

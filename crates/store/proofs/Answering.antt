@@ -3,6 +3,7 @@ use Prim.Native.Nat.{ℕ, _+_, _-_}
 use mathlib.Core.Path.{_≡_, refl, sym, ap, _∙_, subst}
 use mathlib.Core.Bool.{Bool, true, false}
 use mathlib.Core.List.{List, []}
+use mathlib.Core.Logic.{_≢_}
 use native.Mathlib.Omega.{arith}
 use lib.Dec.{eqb}
 use lib.ListN.{take, drop}
@@ -12,7 +13,8 @@ use Rattle.levels.specs.Map.{mapOf, decides, present, lookUp, next, stretch}
 use Rattle.levels.specs.Store.{rows}
 use Rattle.words.specs.Layout.{geometryAt, storeAt}
 use Rattle.words.specs.Form.{reasonOf}
-use Rattle.words.specs.Calls.{StretchAnswer, StretchOutcome, lookAnswer, lookUpOf, nextAnswer, nextOf, filled, stretchOf, showIn, showOf, aboutIn, aboutOf, checkOf}
+use Rattle.words.specs.Calls.{StretchAnswer, StretchOutcome, lookAnswer, lookUpOf, nextAnswer, nextOf, filled, stretchOf, showIn, showOf, aboutIn, aboutOf, checkOf, willPutMergeOf, willDeleteMergeOf}
+use Rattle.words.proofs.Forecast.{will-put-turned-down, will-delete-turned-down}
 use Rattle.entry.specs.declared.Opened.{Opened}
 use Rattle.entry.specs.declared.Opened.the-variants.{Ready, Refused}
 use Rattle.search.specs.declared.Found.{Found}
@@ -28,12 +30,17 @@ use Rattle.reader.specs.declared.Nexted.the-variants as nexted
 use Rattle.reader.specs.declared.Stretched.the-variants as stretched
 use Rattle.reader.specs.declared.Facts.{Facts}
 use Rattle.reader.specs.declared.Told.the-variants as told
+use Rattle.writer.specs.declared.Forecast.the-variants as forecast
+use Rattle.writer.specs.Answers.{forecastAnswer}
 use Rattle.reader.proofs.Answering.{look-present, part-words-in, Inside, empty-inside, part-inside-in}
 
 -- A call that is turned down answers the reason, and nothing else.
 module _ (ws : List ℕ) (n : ℕ) (e : checkedOf ws ≡ Refused n) where
+  turned-down : reasonOf ws ≢ 0
+  turned-down z = let k = checked-refused ws n e in omega arith
+
   pub refused-test : eqb (reasonOf ws) 0 ≡ false
-  refused-test = let k = checked-refused ws n e in ne-eqb (reasonOf ws) 0 (λ z. omega arith)
+  refused-test = ne-eqb (reasonOf ws) 0 turned-down
 
   pub check-refused : n ≡ checkOf ws
   unfolding checkOf
@@ -58,6 +65,12 @@ module _ (ws : List ℕ) (n : ℕ) (e : checkedOf ws ≡ Refused n) where
   pub about-refused : toldAnswer (told.Refused n) ≡ aboutOf ws
   unfolding aboutOf
   about-refused = rw (refused-test, aboutOf, checked-refused ws n e .0)
+
+  pub will-put-refused : (k : ℕ) → forecastAnswer (forecast.Refused n) ≡ willPutMergeOf ws k
+  will-put-refused k = ap (λ (r : ℕ). record { reason = r; merges = 0 }) (sym (checked-refused ws n e .0)) ∙ sym (will-put-turned-down ws k turned-down)
+
+  pub will-delete-refused : (k : ℕ) → forecastAnswer (forecast.Refused n) ≡ willDeleteMergeOf ws k
+  will-delete-refused k = ap (λ (r : ℕ). record { reason = r; merges = 0 }) (sym (checked-refused ws n e .0)) ∙ sym (will-delete-turned-down ws k turned-down)
 
 module _ (ws : List ℕ) (g : Geometry) (e : checkedOf ws ≡ Ready g) where
   ready-test : eqb (reasonOf ws) 0 ≡ true

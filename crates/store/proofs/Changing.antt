@@ -1,7 +1,7 @@
 -- What the proofs of put and delete need: each answer of the code is the definition's, and demands 1 to 3 of it.
 use Prim.Native.Nat.{ℕ, _≤_}
 use mathlib.Core.Path.{_≡_, sym, ap, _∙_, subst}
-use mathlib.Core.List.{List, []}
+use mathlib.Core.List.{List}
 use native.Mathlib.Omega.{arith}
 use lib.ListN.{length}
 use Rattle.geometry.specs.declared.Geometry.{Geometry}
@@ -11,7 +11,7 @@ use Rattle.levels.specs.Put.{put, delete, mergesOf}
 use Rattle.levels.specs.Tickets.{ticketsOf}
 use Rattle.words.specs.Layout.{geometryAt, storeAt}
 use Rattle.words.specs.Form.{reasonOf}
-use Rattle.words.specs.Calls.{Outcome, ChangeAnswer, mapAt, changeOutcome, putOf, deleteOf, putTickets, deleteTickets, mergesCounted}
+use Rattle.words.specs.Calls.{Outcome, ChangeAnswer, mapAt, changeOutcome, putOf, deleteOf, putTickets, deleteTickets, mergesCounted, forecastIn}
 use Rattle.words.specs.Rows.{rowsOf}
 use Rattle.words.specs.Demand.{Demand, ownPut, ownDelete}
 use Rattle.words.proofs.Steps.{put-of, delete-of, put-passes, delete-passes}
@@ -20,6 +20,7 @@ use Rattle.words.proofs.Rows.{Filed, filed-none, filed-by}
 use Rattle.words.proofs.Tickets.{put-tickets, delete-tickets, put-tickets-few, delete-tickets-few, put-tickets-counted, delete-tickets-counted}
 use Rattle.words.proofs.Demand.{put-demand, delete-demand}
 use Rattle.words.proofs.MapAfter.{put-enters, delete-takes-out, put-refused-words, delete-refused-words, put-full-only}
+use Rattle.words.proofs.Forecast.{put-foretold, delete-foretold}
 use Rattle.entry.specs.declared.Opened.the-variants.{Ready, Refused}
 use Rattle.form.specs.Checked.{checkedOf}
 use Rattle.form.proofs.Ready.{checked-ready, checked-refused}
@@ -34,7 +35,7 @@ use Rattle.store.proofs.Answering.{refused-test}
 reason-is : (r : Changed) (out : List ℕ) (o : Outcome ChangeAnswer) (n : ℕ) → _≡_ {A = Outcome ChangeAnswer} (record { answer = changedAnswer r; words = out }) o → changedAnswer r .reason ≡ n → o .answer .reason ≡ n
 reason-is r out o n e q = sym (ap (λ (x : Outcome ChangeAnswer). x .answer .reason) e) ∙ q
 
--- the outcome of the definition has demands 1 to 3
+-- the outcome of the definition has demands 1 to 3, and card 5
 pub put-done : (ws : List ℕ) (k v : ℕ) (r : Changed) (out : List ℕ) → _≡_ {A = Outcome ChangeAnswer} (record { answer = changedAnswer r; words = out }) (putOf ws k v) → PutDone ws k v r out
 put-done ws k v r out e =
     let w : out ≡ putOf ws k v .words = ap (λ (x : Outcome ChangeAnswer). x .words) e in
@@ -44,6 +45,7 @@ put-done ws k v r out e =
       full = λ z q. put-full-only ws k v (reason-is r out (putOf ws k v) 5 e q);
       kept = λ h. w ∙ put-refused-words ws k v (λ q. h (ap (λ (x : Outcome ChangeAnswer). x .answer .reason) e ∙ q));
       passes = λ z. ap reasonOf w ∙ put-passes ws k v z;
+      foretold = ap (λ (x : Outcome ChangeAnswer). forecastIn (x .answer)) e ∙ put-foretold ws k v;
       demand = λ z. let g : Geometry = geometryAt ws in
           let s : Store = storeAt g ws in
           subst (λ (x : Outcome ChangeAnswer). Demand g ws (ownPut g s k v) (mergesOf (put g s k v)) (x .answer) (x .words)) (sym e) (put-demand ws k v z);
@@ -57,6 +59,7 @@ delete-done ws k r out e =
       map = λ z q. ap mapAt w ∙ delete-takes-out ws z k (reason-is r out (deleteOf ws k) 0 e q);
       kept = λ h. w ∙ delete-refused-words ws k (λ q. h (ap (λ (x : Outcome ChangeAnswer). x .answer .reason) e ∙ q));
       passes = λ z. ap reasonOf w ∙ delete-passes ws k z;
+      foretold = ap (λ (x : Outcome ChangeAnswer). forecastIn (x .answer)) e ∙ delete-foretold ws k;
       demand = λ z. let g : Geometry = geometryAt ws in
           let s : Store = storeAt g ws in
           subst (λ (x : Outcome ChangeAnswer). Demand g ws (ownDelete g s k) (mergesOf (delete g s k)) (x .answer) (x .words)) (sym e) (delete-demand ws k z);

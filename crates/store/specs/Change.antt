@@ -10,7 +10,7 @@ use Rattle.levels.specs.Map.{find}
 use Rattle.levels.specs.Put.{insert, put, delete, mergesOf, without, putRec}
 use Rattle.words.specs.Layout.{geometryAt, storeAt}
 use Rattle.words.specs.Form.{reasonOf}
-use Rattle.words.specs.Calls.{Outcome, ChangeAnswer, mapAt, putOf, deleteOf}
+use Rattle.words.specs.Calls.{Outcome, ChangeAnswer, mapAt, putOf, deleteOf, forecastIn, willPutMergeOf, willDeleteMergeOf}
 use Rattle.words.specs.Demand.{Demand, ownPut, ownDelete}
 use Rattle.writer.specs.declared.Changed.{Changed}
 use Rattle.writer.specs.Answers.{changedAnswer}
@@ -27,6 +27,8 @@ pub record PutDone (ws : List ℕ) (k v : ℕ) (r : Changed) (out : List ℕ) : 
   pub kept : changedAnswer r .reason ≢ 0 → out ≡ ws
   -- demand 1, a store that passes the form check passes it again: refusal 4 never follows from our own calls
   pub passes : reasonOf ws ≡ 0 → reasonOf out ≡ 0
+  -- document 02, card 5: merges into level 1 are exactly one or none, as the words at entry foretell; so is the reason, and "A refused call makes none."
+  pub foretold : forecastIn (changedAnswer r) ≡ willPutMergeOf ws k
   -- demand 3 of the merges that it has made, where the store is not turned down
   pub demand : reasonOf ws ≡ 0
       → let g = geometryAt ws in let s = storeAt g ws in Demand g ws (ownPut g s k v) (mergesOf (put g s k v)) (changedAnswer r) out
@@ -40,6 +42,8 @@ pub record DeleteDone (ws : List ℕ) (k : ℕ) (r : Changed) (out : List ℕ) :
   pub kept : changedAnswer r .reason ≢ 0 → out ≡ ws
   -- demand 1, a store that passes the form check passes it again
   pub passes : reasonOf ws ≡ 0 → reasonOf out ≡ 0
+  -- document 02, card 5: "For a delete the same holds if the key is live, and none if it is absent."
+  pub foretold : forecastIn (changedAnswer r) ≡ willDeleteMergeOf ws k
   pub demand : reasonOf ws ≡ 0
       → let g = geometryAt ws in let s = storeAt g ws in Demand g ws (ownDelete g s k) (mergesOf (delete g s k)) (changedAnswer r) out
 

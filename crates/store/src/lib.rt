@@ -6,9 +6,10 @@ ghost use lib.ListN.{length};
 ghost use Rattle.geometry.specs.Geometry.{Valid, keyLimitOf};
 ghost use Rattle.levels.specs.Tickets.{laid};
 ghost use Rattle.words.specs.Rows.{rowsOf};
-ghost use Rattle.words.specs.Calls.{Outcome, FormatAnswer, StretchAnswer, StretchOutcome, formatOf, checkOf, lookUpOf, nextOf, stretchOf, showOf, aboutOf, putTickets, deleteTickets};
+ghost use Rattle.words.specs.Calls.{Outcome, FormatAnswer, StretchAnswer, StretchOutcome, formatOf, checkOf, lookUpOf, nextOf, stretchOf, showOf, aboutOf, putTickets, deleteTickets, willPutMergeOf, willDeleteMergeOf};
 ghost use Rattle.tickets.specs.Gathering.{ticketsIn};
 ghost use Rattle.reader.specs.Answers.{lookedAnswer, nextedAnswer, stretchAnswer, toldAnswer};
+ghost use Rattle.writer.specs.Answers.{forecastAnswer};
 ghost use Rattle.store.specs.Answers.{formatAnswer};
 ghost use Rattle.store.specs.Change.{PutDone, DeleteDone};
 ghost use Rattle.store.specs.Format.{headed};
@@ -23,6 +24,7 @@ use reader::Stretched;
 use reader::Told;
 use tickets::Gathered;
 use writer::Changed;
+use writer::Forecast;
 
 // N, or the reason that the words or the geometry are turned down for.
 pub enum Formatted {
@@ -142,6 +144,27 @@ pub fn about(s: &[u32]) -> Told
     match form::check(s) {
         Opened::Refused(n) => Told::Refused(n),
         Opened::Ready(g) => Told::Known(reader::facts_of(s, g)),
+    }
+}
+
+// If a put of k is going to merge: its merges into level 1, 1 or 0, or the reason that it would be turned down for (document
+// 02, card 5).
+pub fn will_put_merge(s: &[u32], k: u32) -> Forecast
+    ensures { λ r. ⌜ forecastAnswer r ≡ willPutMergeOf (now (s .entry)) k ⌝ }
+{
+    match form::check(s) {
+        Opened::Refused(n) => Forecast::Refused(n),
+        Opened::Ready(g) => writer::foresee_put(s, g, k),
+    }
+}
+
+// And if a delete of k is.
+pub fn will_delete_merge(s: &[u32], k: u32) -> Forecast
+    ensures { λ r. ⌜ forecastAnswer r ≡ willDeleteMergeOf (now (s .entry)) k ⌝ }
+{
+    match form::check(s) {
+        Opened::Refused(n) => Forecast::Refused(n),
+        Opened::Ready(g) => writer::foresee_delete(s, g, k),
     }
 }
 

@@ -176,3 +176,8 @@ delete-demand ws k e =
     let p = reason-passed ws e in
     subst (λ (x : Outcome ChangeAnswer). Demand g ws (ownDelete g s k) (mergesOf (delete g s k)) (x .answer) (x .words)) (sym (delete-of ws k e))
     (delete-case g ws k p (delete g s k) (delete-says g s (p .valid) (p .fits) (p .sound) k))
+
+-- what holds of no merge and of the merges that enter a record of any key holds of the merges that a call gives
+pub own-by : (g : Geometry) (s : Store) (P : List Merge → Type 0) → P [] → ((k : ℕ) → P (mergesFor g s k)) → (own : Option Own) → P (mergesOwn g s own)
+own-by g s P n f none = n
+own-by g s P n f (some o) = f (o .recorded .key)

@@ -1,23 +1,20 @@
 -- Demand 2 over a list of calls: the induction, for every form of the store; and document 01's form, one call at a time.
 use Prim.Native.Nat.{ℕ}
-use mathlib.Core.Path.{_≡_, refl, sym, _∙_, ap}
-use mathlib.Core.Bool.{Bool, true, false, not, true≢false}
+use mathlib.Core.Path.{_≡_, refl, _∙_, ap}
+use mathlib.Core.Bool.{Bool, true, false}
 use mathlib.Core.List.{List, [], _∷_}
-use mathlib.Core.Option.{Option, none}
-use mathlib.Core.Logic.{_≢_}
 use lib.Dec.{eqb}
 use lib.ListN.{length, take}
-use borrow.Author.Tests.{eqb-true, eqb-false, eq-eqb}
+use borrow.Author.Tests.{eqb-true, eqb-false}
 use Rattle.geometry.specs.declared.Geometry.{Geometry}
 use Rattle.geometry.specs.Geometry.{keyLimitOf, sizeReason}
 use Rattle.levels.specs.Basics.{if_then_else_, isSome}
 use Rattle.levels.specs.Record.{Rec}
 use Rattle.levels.specs.Map.{find}
 use Rattle.levels.specs.Put.{insert, without, putRec}
-use Rattle.levels.proofs.Basics.{and-left, and-right, and-both}
 use Rattle.words.specs.Layout.{geometryAt}
 use Rattle.words.specs.Form.{reasonOf}
-use Rattle.words.specs.Calls.{Outcome, ChangeAnswer, FormatAnswer, AboutAnswer, mapAt, formatOf, checkOf, putOf, deleteOf, aboutOf}
+use Rattle.words.specs.Calls.{Outcome, ChangeAnswer, FormatAnswer, AboutAnswer, mapAt, formatOf, checkOf, putOf, deleteOf, aboutOf, isFull, willPutMergeOf}
 use Rattle.words.specs.History.{
   Call,
   formatAs,
@@ -29,6 +26,8 @@ use Rattle.words.specs.History.{
   putKey,
   delKey,
   about,
+  willPut,
+  willDelete,
   perform,
   formats,
   checks,
@@ -37,8 +36,8 @@ use Rattle.words.specs.History.{
   stretches,
   changes,
   tells,
+  forecasts,
   replyOf,
-  isFull,
   mapReply,
   mapAfter,
   replies,
@@ -52,7 +51,8 @@ use Rattle.words.proofs.Formatted.{format-sizes, format-turned-down, fo
 use Rattle.words.proofs.Steps.{put-passes, delete-passes}
 use Rattle.words.proofs.About.{about-reason, about-live, about-words}
 use Rattle.words.proofs.Stretch.{stretch-map}
-use Rattle.words.proofs.MapAfter.{none-is, format-map, look-up-map, next-map, put-geometry, delete-geometry, put-enters, delete-takes-out, put-full-outcome, put-accepted, delete-accepted, put-length, delete-length}
+use Rattle.words.proofs.Forecast.{full-is, full-not, put-reason-passed, will-put-reason, will-delete-reason}
+use Rattle.words.proofs.MapAfter.{format-map, look-up-map, next-map, put-geometry, delete-geometry, put-enters, delete-takes-out, put-full-outcome, put-accepted, delete-accepted, put-length, delete-length}
 
 -- What a form of the store has to show of each call alone, from any state that passes.
 pub record OneStep {State Call Reply Map : Type 0} (f : StoreForm State Call Reply Map) : Type 0 where
@@ -115,35 +115,22 @@ module _ (ws : List ℕ) (e : reasonOf ws ≡ 0) where
           let w : formatOf ws g .words ≡ ws = ap (λ (o : Outcome FormatAnswer). o .words) (format-turned-down ws g (eqb-false (sizeReason (length ws) g) 0 q)) in
           (ap reasonOf w ∙ e, ap heldIn w)
 
-  -- a put of a new key while the map holds N keys, and every other put
-  full-is : (k : ℕ) → isFull (heldIn ws) k ≡ true → (find k (mapAt ws) ≡ none) × (length (mapAt ws) ≡ keyLimitOf (geometryAt ws))
-  full-is k q = (
-    none-is (find k (mapAt ws)) (not-true (isSome (find k (mapAt ws))) (and-left (not (isSome (find k (mapAt ws)))) _ q)),
-    eqb-true (length (mapAt ws)) (keyLimitOf (geometryAt ws)) (and-right (not (isSome (find k (mapAt ws)))) _ q),
-  )
-    where
-      not-true : (t : Bool) → not t ≡ true → t ≡ false
-      not-true true z = absurd (true≢false (sym z))
-      not-true false z = refl
-
-  full-not : (k : ℕ) → isFull (heldIn ws) k ≡ false → find k (mapAt ws) ≡ none → length (mapAt ws) ≢ keyLimitOf (geometryAt ws)
-  full-not k q h l = true≢false (sym (and-both (not (isSome (find k (mapAt ws)))) (eqb (length (mapAt ws)) (keyLimitOf (geometryAt ws))) (ap (λ (o : Option Rec). not (isSome o)) h) (eq-eqb _ _ l)) ∙ q)
-
+  -- a put that is refused as full, and every other
   put-reply : (k v : ℕ) → changes (putOf ws k v .answer .reason) (putOf ws k v .answer .live) ≡ mapReply (heldIn ws) (putKey k v)
-  put-reply k v = go (isFull (heldIn ws) k) refl
+  put-reply k v = go (isFull (keyLimitOf (geometryAt ws)) (mapAt ws) k) refl
     where
-      go : (t : Bool) → isFull (heldIn ws) k ≡ t → changes (putOf ws k v .answer .reason) (putOf ws k v .answer .live) ≡ (if t then changes 5 false else changes 0 (isSome (find k (mapAt ws))))
-      go true q = let z = full-is k q in ap (λ (o : Outcome ChangeAnswer). changes (o .answer .reason) (o .answer .live)) (put-full-outcome ws e k v (z .0) (z .1))
-      go false q = let z = put-accepted ws e k v (full-not k q) in ap (λ (n : ℕ). changes n (putOf ws k v .answer .live)) (z .0) ∙ ap (changes 0) (z .1)
+      go : (t : Bool) → isFull (keyLimitOf (geometryAt ws)) (mapAt ws) k ≡ t → changes (putOf ws k v .answer .reason) (putOf ws k v .answer .live) ≡ (if t then changes 5 false else changes 0 (isSome (find k (mapAt ws))))
+      go true q = let z = full-is (keyLimitOf (geometryAt ws)) (mapAt ws) k q in ap (λ (o : Outcome ChangeAnswer). changes (o .answer .reason) (o .answer .live)) (put-full-outcome ws e k v (z .0) (z .1))
+      go false q = let z = put-accepted ws e k v (full-not (keyLimitOf (geometryAt ws)) (mapAt ws) k q) in ap (λ (n : ℕ). changes n (putOf ws k v .answer .live)) (z .0) ∙ ap (changes 0) (z .1)
 
   put-held : (k v : ℕ) → heldIn (putOf ws k v .words) ≡ mapAfter (heldIn ws) (putKey k v)
-  put-held k v = go (isFull (heldIn ws) k) refl
+  put-held k v = go (isFull (keyLimitOf (geometryAt ws)) (mapAt ws) k) refl
     where
-      go : (t : Bool) → isFull (heldIn ws) k ≡ t → heldIn (putOf ws k v .words) ≡ (if t then heldIn ws else record { size = length ws; limit = keyLimitOf (geometryAt ws); records = insert (putRec k v) (mapAt ws) })
-      go true q = let z = full-is k q in ap (λ (o : Outcome ChangeAnswer). heldIn (o .words)) (put-full-outcome ws e k v (z .0) (z .1))
+      go : (t : Bool) → isFull (keyLimitOf (geometryAt ws)) (mapAt ws) k ≡ t → heldIn (putOf ws k v .words) ≡ (if t then heldIn ws else record { size = length ws; limit = keyLimitOf (geometryAt ws); records = insert (putRec k v) (mapAt ws) })
+      go true q = let z = full-is (keyLimitOf (geometryAt ws)) (mapAt ws) k q in ap (λ (o : Outcome ChangeAnswer). heldIn (o .words)) (put-full-outcome ws e k v (z .0) (z .1))
       go false q =
           held-is (putOf ws k v .words) (length ws) (geometryAt ws) (insert (putRec k v) (mapAt ws)) (put-length ws e k v) (put-geometry ws k v)
-          (put-enters ws e k v (put-accepted ws e k v (full-not k q) .0))
+          (put-enters ws e k v (put-accepted ws e k v (full-not (keyLimitOf (geometryAt ws)) (mapAt ws) k q) .0))
 
   delete-reply : (k : ℕ) → changes (deleteOf ws k .answer .reason) (deleteOf ws k .answer .live) ≡ mapReply (heldIn ws) (delKey k)
   delete-reply k = let z = delete-accepted ws e k in ap (λ (n : ℕ). changes n (deleteOf ws k .answer .live)) (z .0) ∙ ap (changes 0) (z .1)
@@ -158,6 +145,13 @@ module _ (ws : List ℕ) (e : reasonOf ws ≡ 0) where
       ap (λ (n : ℕ). tells n (aboutOf ws .live) (aboutOf ws .limit)) (about-reason ws ∙ e)
       ∙ ap (λ (n : ℕ). tells 0 n (aboutOf ws .limit)) (about-live ws e) ∙ ap (tells 0 (length (mapAt ws))) (ap (λ (a : AboutAnswer). a .limit) (about-words ws e))
 
+  will-put-reply : (k : ℕ) → forecasts (willPutMergeOf ws k .reason) ≡ mapReply (heldIn ws) (willPut k)
+  will-put-reply k = ap forecasts (will-put-reason ws k ∙ put-reason-passed ws k e) ∙ go (isFull (keyLimitOf (geometryAt ws)) (mapAt ws) k)
+    where
+      go : (t : Bool) → forecasts (if t then 5 else 0) ≡ (if t then forecasts 5 else forecasts 0)
+      go true = refl
+      go false = refl
+
 -- Document 01's form, call by call.
 words-answers : (ws : List ℕ) (c : Call) → reasonOf ws ≡ 0 → replyOf (perform ws c .answer) ≡ mapReply (heldIn ws) c
 unfolding perform checkOf
@@ -170,6 +164,8 @@ words-answers ws (showKey i k) e = refl
 words-answers ws (putKey k v) e = put-reply ws e k v
 words-answers ws (delKey k) e = delete-reply ws e k
 words-answers ws about e = about-reply ws e
+words-answers ws (willPut k) e = will-put-reply ws e k
+words-answers ws (willDelete k) e = ap forecasts (will-delete-reason ws k ∙ e)
 
 words-pass : (ws : List ℕ) (c : Call) → reasonOf ws ≡ 0 → reasonOf (perform ws c .words) ≡ 0
 unfolding perform
@@ -182,6 +178,8 @@ words-pass ws (showKey i k) e = e
 words-pass ws (putKey k v) e = put-passes ws k v e
 words-pass ws (delKey k) e = delete-passes ws k e
 words-pass ws about e = e
+words-pass ws (willPut k) e = e
+words-pass ws (willDelete k) e = e
 
 words-feed : (ws : List ℕ) (c : Call) → reasonOf ws ≡ 0 → heldIn (perform ws c .words) ≡ mapAfter (heldIn ws) c
 unfolding perform
@@ -194,6 +192,8 @@ words-feed ws (showKey i k) e = refl
 words-feed ws (putKey k v) e = put-held ws e k v
 words-feed ws (delKey k) e = delete-held ws e k
 words-feed ws about e = refl
+words-feed ws (willPut k) e = refl
+words-feed ws (willDelete k) e = refl
 
 pub words-step : OneStep wordsForm
 words-step = record { answers = words-answers; passes = words-pass; feeds = words-feed }

@@ -1,25 +1,22 @@
 -- Which words a put or delete without a merge may change: live and c, words 6 and 8, and level 0, from word 12 to where the list of
 -- level 1 begins. Every other word is what it was.
-use Prim.Native.Nat.{ℕ, suc, _+_, _-_, _*_, _≤_, _<_}
+use Prim.Native.Nat.{ℕ, _+_, _-_, _*_, _≤_, _<_}
 use mathlib.Core.Path.{_≡_, refl, sym, _∙_, ap, subst}
 use mathlib.Core.Bool.{Bool, false, true≢false}
-use mathlib.Core.List.{List, [], _∷_, _++_, append-assoc}
+use mathlib.Core.List.{List, [], _++_, append-assoc}
 use mathlib.Core.Logic.{_≢_}
 use mathlib.Core.Option.{none}
 use native.Mathlib.Omega.{arith}
-use lib.Dec.{eqb}
-use lib.ListN.{length, set, getD, List·getD-append}
+use lib.ListN.{length, set, List·getD-append}
 use lib.Seq.{getD-append-add, getD-set-other}
 use Rattle.geometry.specs.declared.Geometry.{Geometry}
 use Rattle.geometry.specs.Geometry.{Valid, listStart, blockWidth}
-use Rattle.levels.specs.Basics.{if_then_else_, isSome}
+use Rattle.levels.specs.Basics.{isSome}
 use Rattle.levels.specs.Record.{Rec}
 use Rattle.levels.specs.Map.{find}
 use Rattle.levels.specs.Store.{Store}
 use Rattle.levels.specs.Call.{Merge, afterMerges}
 use Rattle.levels.specs.Put.{Change, refused, absent, entered, insert, put, delete, withRecord, mergesOf}
-use Rattle.levels.specs.Count.{totalInto}
-use Rattle.levels.specs.Every.{First}
 use Rattle.levels.specs.Sound.{Fits}
 use Rattle.levels.proofs.PutDelete.{EnterFacts, PutSays, DeleteSays, put-says, delete-says}
 use Rattle.words.specs.Layout.{word, geometryAt, storeAt, areaOf, headerWords, topWords, listWords, storeWords, writeBlocks}
@@ -29,8 +26,8 @@ use Rattle.words.specs.Passed.{Passed}
 use Rattle.words.proofs.State.{header-12, upper-long, words-length}
 use Rattle.words.proofs.Reason.{reason-passed}
 use Rattle.words.proofs.Steps.{put-of, delete-of}
-use Rattle.words.proofs.Demand.{put-demand, delete-demand}
 use Rattle.words.proofs.MapAfter.{delete-accepted}
+use Rattle.words.proofs.Forecast.{put-foretold, delete-foretold, put-none, delete-none}
 
 -- the words `out` are ws but for live, c and level 0
 pub record KeptBelow (g : Geometry) (ws out : List ℕ) : Type 0 where
@@ -114,21 +111,13 @@ delete-keeps ws k e q =
     go (entered was ms t) h z = entered-kept (geometryAt ws) ws _ was _ ms t (reason-passed ws e) (h .1) z
 
 -- The answer says which call merges nothing: the first merge of a call is into level 1, so the call counts none there.
-no-merges : (ms : List Merge) → First (λ m. m .level ≡ 0) ms → totalInto 1 (λ m. 1) ms ≡ 0 → ms ≡ []
-no-merges [] h e = refl
-no-merges (m ∷ ms) h e =
-    let a : _≡_ {A = ℕ} (if eqb (suc (m .level)) 1 then 1 else 0) 1 = ap (λ (n : ℕ). if_then_else_ {A = ℕ} (eqb (suc n) 1) 1 0) h in
-    absurd (omega (arith, a, e))
-
 pub put-unmerged : (ws : List ℕ) (k v : ℕ) → reasonOf ws ≡ 0 → putOf ws k v .answer .level1 .merges ≡ 0 → mergesOf (put (geometryAt ws) (storeAt (geometryAt ws) ws) k v) ≡ []
 put-unmerged ws k v e q =
-    let d = put-demand ws k v e in
-    no-merges (mergesOf (put (geometryAt ws) (storeAt (geometryAt ws) ws) k v)) (d .first-out) (sym (d .merges-counted 1 (omega arith) (omega arith)) ∙ q)
+    put-none ws e k v (sym (ap (λ a. a .merges) (put-foretold ws k v)) ∙ q)
 
 pub delete-unmerged : (ws : List ℕ) (k : ℕ) → reasonOf ws ≡ 0 → deleteOf ws k .answer .level1 .merges ≡ 0 → mergesOf (delete (geometryAt ws) (storeAt (geometryAt ws) ws) k) ≡ []
 delete-unmerged ws k e q =
-    let d = delete-demand ws k e in
-    no-merges (mergesOf (delete (geometryAt ws) (storeAt (geometryAt ws) ws) k)) (d .first-out) (sym (d .merges-counted 1 (omega arith) (omega arith)) ∙ q)
+    delete-none ws e k (sym (ap (λ a. a .merges) (delete-foretold ws k)) ∙ q)
 
 -- "absent means no change": a delete of a key that the map has not leaves every word.
 pub delete-absent-words : (ws : List ℕ) (k : ℕ) → reasonOf ws ≡ 0 → find k (mapAt ws) ≡ none → deleteOf ws k .words ≡ ws

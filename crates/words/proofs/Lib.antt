@@ -14,6 +14,7 @@ pub mod Demand
 pub mod Tickets
 pub mod Formatted
 pub mod MapAfter
+pub mod Forecast
 pub mod Stretch
 pub mod About
 pub mod History

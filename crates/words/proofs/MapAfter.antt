@@ -48,16 +48,20 @@ left-map : (g : Geometry) (ws : List ℕ) (r : Rec) (was : Bool) (live : ℕ) (m
 unfolding leftWords
 left-map g ws r was live ms t p f = map-back g t (writeBlocks g (areaOf g ws) (writtenBlocks ms)) (p .valid) (f .fits) (entered-laid g ws r was live ms t p f)
 
--- a key that is not live is not in the map
 pub none-is : (o : Option Rec) → isSome o ≡ false → o ≡ none
 none-is none q = refl
 none-is (some r) q = absurd (true≢false q)
 
-not-found : (k : ℕ) (ls : List (List Rec)) → Risings ls → isLive k ls ≡ false → find k (mapOf ls) ≡ none
-not-found k ls h e = none-is (find k (mapOf ls)) (sym (is-live-find k ls h) ∙ e)
-
 sorted : (ws : List ℕ) → reasonOf ws ≡ 0 → Risings (rows (storeAt (geometryAt ws) ws))
 sorted ws e = test-risings (rows (storeAt (geometryAt ws) ws)) (reason-passed ws e .sound .keys-rise)
+
+-- A key is live if the map has it.
+pub live-in-map : (ws : List ℕ) (k : ℕ) → reasonOf ws ≡ 0 → isLive k (rows (storeAt (geometryAt ws) ws)) ≡ isSome (find k (mapAt ws))
+live-in-map ws k e = is-live-find k (rows (storeAt (geometryAt ws) ws)) (sorted ws e)
+
+-- a key that is not live is not in the map
+not-found : (ws : List ℕ) (k : ℕ) → reasonOf ws ≡ 0 → isLive k (rows (storeAt (geometryAt ws) ws)) ≡ false → find k (mapAt ws) ≡ none
+not-found ws k e h = none-is (find k (mapAt ws)) (sym (live-in-map ws k e) ∙ h)
 
 -- Look up answers what the map has.
 pub look-up-map : (ws : List ℕ) (k : ℕ) → reasonOf ws ≡ 0 → lookUpOf ws k ≡ lookAnswer (find k (mapAt ws))
@@ -141,7 +145,7 @@ module _ (ws : List ℕ) (e : reasonOf ws ≡ 0) where
       go : (c : Change) → delete (geometryAt ws) (storeAt (geometryAt ws) ws) k ≡ c → DeleteSays (geometryAt ws) (storeAt (geometryAt ws) ws) k c
           → mapAt (changeOutcome (geometryAt ws) ws c .words) ≡ without k (mapAt ws)
       go (refused n) d h = absurd h
-      go absent d h = sym (without-none k (mapAt ws) (not-found k (rows (storeAt (geometryAt ws) ws)) (sorted ws e) h))
+      go absent d h = sym (without-none k (mapAt ws) (not-found ws k e h))
       go (entered was ms t) d h =
           let p = reason-passed ws e in
           left-map (geometryAt ws) ws _ was _ ms t p (h .1) ∙ delete-map (geometryAt ws) (storeAt (geometryAt ws) ws) (p .valid) (p .fits) (p .sound) k was ms t d
@@ -193,7 +197,7 @@ module _ (ws : List ℕ) (e : reasonOf ws ≡ 0) where
     where
       go : (c : Change) → PutSays (geometryAt ws) (storeAt (geometryAt ws) ws) k v c → changeOutcome (geometryAt ws) ws c .answer .reason ≡ 5
           → (find k (mapAt ws) ≡ none) × (length (mapAt ws) ≡ keyLimitOf (geometryAt ws))
-      go (refused n) h z = (not-found k (rows (storeAt (geometryAt ws) ws)) (sorted ws e) (h .1), map-length ∙ h .2)
+      go (refused n) h z = (not-found ws k e (h .1), map-length ∙ h .2)
       go absent h z = absurd h
       go (entered was ms t) h z = absurd (omega (arith, z))
 
@@ -201,7 +205,7 @@ module _ (ws : List ℕ) (e : reasonOf ws ≡ 0) where
   unfolding changeOutcome
   put-full-outcome k v h l =
       let s : Store = storeAt (geometryAt ws) ws in
-      let n = is-live-find k (rows s) (sorted ws e) ∙ ap isSome h in
+      let n = live-in-map ws k e ∙ ap isSome h in
       put-of ws k v e ∙ ap (changeOutcome (geometryAt ws) ws) (put-full (geometryAt ws) s k v n (eq-eqb (s .live) (keyLimitOf (geometryAt ws)) (sym map-length ∙ l)))
 
   pub put-full-then : (k v : ℕ) → find k (mapAt ws) ≡ none → length (mapAt ws) ≡ keyLimitOf (geometryAt ws) → putOf ws k v .answer .reason ≡ 5
@@ -216,9 +220,9 @@ module _ (ws : List ℕ) (e : reasonOf ws ≡ 0) where
       (go (put (geometryAt ws) (storeAt (geometryAt ws) ws) k v) (put-says (geometryAt ws) (storeAt (geometryAt ws) ws) (p .valid) (p .fits) (p .sound) k v))
     where
       go : (c : Change) → PutSays (geometryAt ws) (storeAt (geometryAt ws) ws) k v c → (changeOutcome (geometryAt ws) ws c .answer .reason ≡ 0) × (changeOutcome (geometryAt ws) ws c .answer .live ≡ isSome (find k (mapAt ws)))
-      go (refused n) h = absurd (d (not-found k (rows (storeAt (geometryAt ws) ws)) (sorted ws e) (h .1)) (map-length ∙ h .2))
+      go (refused n) h = absurd (d (not-found ws k e (h .1)) (map-length ∙ h .2))
       go absent h = absurd h
-      go (entered was ms t) h = (refl, sym (h .was-live) ∙ is-live-find k (rows (storeAt (geometryAt ws) ws)) (sorted ws e))
+      go (entered was ms t) h = (refl, sym (h .was-live) ∙ live-in-map ws k e)
 
   -- and every delete
   pub delete-accepted : (k : ℕ) → (deleteOf ws k .answer .reason ≡ 0) × (deleteOf ws k .answer .live ≡ isSome (find k (mapAt ws)))
@@ -230,8 +234,8 @@ module _ (ws : List ℕ) (e : reasonOf ws ≡ 0) where
     where
       go : (c : Change) → DeleteSays (geometryAt ws) (storeAt (geometryAt ws) ws) k c → (changeOutcome (geometryAt ws) ws c .answer .reason ≡ 0) × (changeOutcome (geometryAt ws) ws c .answer .live ≡ isSome (find k (mapAt ws)))
       go (refused n) h = absurd h
-      go absent h = (refl, sym h ∙ is-live-find k (rows (storeAt (geometryAt ws) ws)) (sorted ws e))
-      go (entered was ms t) h = (refl, sym (h .1 .was-live) ∙ is-live-find k (rows (storeAt (geometryAt ws) ws)) (sorted ws e))
+      go absent h = (refl, sym h ∙ live-in-map ws k e)
+      go (entered was ms t) h = (refl, sym (h .1 .was-live) ∙ live-in-map ws k e)
 
   -- both leave as many words as there were
   same-length : (out : List ℕ) → geometryAt out ≡ geometryAt ws → reasonOf out ≡ 0 → length out ≡ length ws

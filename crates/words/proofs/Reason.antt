@@ -1,6 +1,6 @@
 -- "Why a call is turned down": 0 is the answer of a legal geometry, the layout's length and words that pass the form check.
 use Prim.Native.Nat.{ℕ, _≤_}
-use mathlib.Core.Path.{_≡_, refl, _∙_}
+use mathlib.Core.Path.{_≡_, refl, sym, ap, _∙_}
 use mathlib.Core.Bool.{Bool, true, false}
 use mathlib.Core.List.{List}
 use native.Mathlib.Omega.{arith}
@@ -12,7 +12,7 @@ use Rattle.geometry.specs.Geometry.{Valid, isLegal, storeLength, sizeReason}
 use Rattle.geometry.proofs.Laws.{store-length-low, legal-valid, valid-legal}
 use Rattle.levels.specs.Store.{Store}
 use Rattle.levels.specs.Sound.{Fits, Sound}
-use Rattle.words.specs.Layout.{geometryAt, storeWords}
+use Rattle.words.specs.Layout.{word, geometryAt, topCountAt, headerWords, storeAt, storeWords}
 use Rattle.words.specs.Form.{formed, reasonOf}
 use Rattle.words.specs.Passed.{Passed, Laid}
 use Rattle.words.proofs.State.{geometry-back, words-length}
@@ -87,3 +87,8 @@ pub reason-back : (g : Geometry) (s : Store) (area : List ℕ) → Valid g → F
 reason-back g s area v f d o =
     let e = geometry-back g s area in
     reason-none (storeWords g s area) (rw e v) (rw e (words-length g s area v f (d .full))) (rw e (formed-back g s area v f d o))
+
+-- "c (records in level 0)", of words that pass
+pub passed-count : (g : Geometry) (ws : List ℕ) → Passed g ws → topCountAt ws ≡ length (storeAt g ws .top)
+unfolding storeWords headerWords
+passed-count g ws p = sym (ap (λ (xs : List ℕ). word xs 8) (p .written))

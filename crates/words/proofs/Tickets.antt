@@ -3,14 +3,14 @@ use Prim.Native.Nat.{ℕ, suc, _≤_, _<_, min}
 use mathlib.Core.Path.{_≡_, refl, sym, ap, subst, _∙_}
 use mathlib.Core.Bool.{Bool, true, false, _||_}
 use mathlib.Core.List.{List, []}
-use mathlib.Core.Option.{Option, none, some}
+use mathlib.Core.Option.{Option}
 use native.Mathlib.Nat.{min-le-left, min-le-right}
 use native.Mathlib.Omega.{arith}
 use lib.Dec.{eqb, ltb}
 use lib.ListN.{length, take, getD, length-map}
 use borrow.Author.Tests.{eqb-true, eq-eqb}
 use Rattle.geometry.specs.declared.Geometry.{Geometry}
-use Rattle.geometry.specs.Geometry.{Valid, topCapacityOf}
+use Rattle.geometry.specs.Geometry.{topCapacityOf}
 use Rattle.levels.specs.declared.Ticket.{Ticket}
 use Rattle.levels.specs.Basics.{isSome}
 use Rattle.levels.specs.Map.{isLive, find}
@@ -19,7 +19,6 @@ use Rattle.levels.specs.Call.{Merge}
 use Rattle.levels.specs.Put.{Change, refused, absent, entered, put, delete, mergesOf}
 use Rattle.levels.specs.Count.{Counts, countsOf}
 use Rattle.levels.specs.Every.{Every}
-use Rattle.levels.specs.Sound.{Fits, Sound}
 use Rattle.levels.specs.Inside.{mergesMost}
 use Rattle.levels.specs.Tickets.{ticketOf, ticketsOf, laid, writtenColumn, TicketKeeps}
 use Rattle.levels.proofs.Every.{every-turn}
@@ -29,9 +28,9 @@ use Rattle.levels.proofs.Tickets.{tickets-keep, tickets-column, tickets-counted
 use Rattle.words.specs.Layout.{geometryAt, storeAt}
 use Rattle.words.specs.Form.{reasonOf}
 use Rattle.words.specs.Calls.{ChangeAnswer, changeOutcome, putOf, deleteOf, putTickets, deleteTickets, mergesCounted}
-use Rattle.words.specs.Demand.{MergeDemand, Own, mergesOwn, countsAt, Demand}
+use Rattle.words.specs.Demand.{MergeDemand, Own, countsAt, Demand}
 use Rattle.words.proofs.Reason.{reason-passed}
-use Rattle.words.proofs.Demand.{counted, put-demand, delete-demand}
+use Rattle.words.proofs.Demand.{counted, own-by, put-demand, delete-demand}
 use Rattle.levels.proofs.Laying.{laid-all, laid-at, laid-behind}
 
 -- "A ticket for each merge", in the order of the merges
@@ -51,23 +50,17 @@ record Agree (g : Geometry) (a : ChangeAnswer) (ts : List Ticket) : Type 0 where
   column : (i : ℕ) → 1 ≤ i → i ≤ 3 → writtenColumn i ts ≡ countsAt a i .written
 
 -- on words that pass, by demand 3
-own-keep : (g : Geometry) (s : Store) → Valid g → Fits g s → Sound g s → (own : Option Own) → Every (TicketKeeps g) (ticketsOf g (mergesOwn g s own))
-own-keep g s v f o none = tt
-own-keep g s v f o (some r) = tickets-keep g s v f o (r .recorded .key)
-
-own-few : (g : Geometry) (s : Store) → Valid g → Fits g s → Sound g s → (own : Option Own) → length (mergesOwn g s own) ≤ mergesMost
-own-few g s v f o none = omega arith
-own-few g s v f o (some r) = merges-few g s v f o (r .recorded .key)
-
 demand-agree : (ws : List ℕ) (own : Option Own) (ms : List Merge) (a : ChangeAnswer) (out : List ℕ) → reasonOf ws ≡ 0 → Demand (geometryAt ws) ws own ms a out → Agree (geometryAt ws) a (ticketsOf (geometryAt ws) ms)
 unfolding countsOf
 demand-agree ws own ms a out e d =
     let g : Geometry = geometryAt ws in
+    let s : Store = storeAt g ws in
     let p = reason-passed ws e in
+    let few = own-by g s (λ (x : List Merge). length x ≤ mergesMost) (omega arith) (merges-few g s (p .valid) (p .fits) (p .sound)) own in
     let l = every-turn (MergeDemand g) (λ m. m .level < g .h) ms (λ m x. x .level-high) (d .each) in
     record {
-      keep = subst (λ (x : List Merge). Every (TicketKeeps g) (ticketsOf g x)) (sym (d .list)) (own-keep g (storeAt g ws) (p .valid) (p .fits) (p .sound) own);
-      few = omega (arith, length-map ms (ticketOf g), ap (λ (x : List Merge). length x) (d .list), own-few g (storeAt g ws) (p .valid) (p .fits) (p .sound) own);
+      keep = subst (λ (x : List Merge). Every (TicketKeeps g) (ticketsOf g x)) (sym (d .list)) (own-by g s (λ x. Every (TicketKeeps g) (ticketsOf g x)) tt (tickets-keep g s (p .valid) (p .fits) (p .sound)) own);
+      few = omega (arith, length-map ms (ticketOf g), ap (λ (x : List Merge). length x) (d .list), few);
       number = omega (
         arith,
         length-map ms (ticketOf g),

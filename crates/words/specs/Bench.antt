@@ -75,9 +75,13 @@ use Rattle.words.specs.Calls.{
   deleteOf,
   aboutIn,
   aboutOf,
+  topMerges,
+  putReason,
+  willPutMergeOf,
+  willDeleteMergeOf,
 }
-use Rattle.words.specs.History.{Answer, formatted, checked, looked, nexted, stretched, shown, changed, told}
-pub use Rattle.words.specs.History.{Call, formatAs, check, lookUpKey, nextKey, stretchKeys, showKey, putKey, delKey, about}
+use Rattle.words.specs.History.{Answer, formatted, checked, looked, nexted, stretched, shown, changed, told, forecast}
+pub use Rattle.words.specs.History.{Call, formatAs, check, lookUpKey, nextKey, stretchKeys, showKey, putKey, delKey, about, willPut, willDelete}
 unfoldable pub use Rattle.words.specs.History.{perform}
 
 -- the numbers that document 01 gives each answer
@@ -97,6 +101,7 @@ numbersOf (shown ws) = ws
 numbersOf (changed a) = changeNumbers a
 numbersOf (told a) =
     a .reason ∷ a .b ∷ a .w ∷ a .d ∷ a .g ∷ a .h ∷ a .p ∷ a .live ∷ a .limit ∷ a .top ∷ a .blocks1 ∷ a .blocks2 ∷ a .blocks3 ∷ []
+numbersOf (forecast a) = a .reason ∷ a .merges ∷ []
 
 -- one call, computed
 unfoldable pub computed : List ℕ → Call → Outcome (List ℕ)
@@ -107,7 +112,7 @@ unfolding
     put delete blocksMerged blocksCompacted countsOf slotsAt pageSlots topSlots topRecs listAt listedAt blockSlots blockAt levelAt storeAt markWord
     headerWords topWords listWords blockWords writeBlock writeBlocks storeWords listedPlaces liveExact liveFits cursorInside topFits roomOf countsFit placesInside placesOnce
     blocksFilled keysRise bottomUnmarked topUnusedZero listsUnusedZero blocksUnusedZero tombstonesClean pairsKept levelsKept clauses formed reasonOf formatWords formatOf
-    checkOf lookUpOf nextOf filled stretchOf enclosing showIn showOf leftWords changeOutcome putOf deleteOf aboutIn aboutOf perform
+    checkOf lookUpOf nextOf filled stretchOf enclosing showIn showOf leftWords changeOutcome putOf deleteOf aboutIn aboutOf topMerges putReason willPutMergeOf willDeleteMergeOf perform
 computed ws c = let o = perform ws c in record { answer = numbersOf (o .answer); words = o .words }
 
 -- the words after some calls

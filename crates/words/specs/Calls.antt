@@ -1,21 +1,22 @@
 -- Document 01, "Calls": each call as a function from the lent words and its arguments to its answer and the lent words afterwards.
-use Prim.Native.Nat.{ℕ, _+_, _-_, min}
-use mathlib.Core.Bool.{Bool, true, false}
+use Prim.Native.Nat.{ℕ, zero, suc, _+_, _-_, min}
+use mathlib.Core.Bool.{Bool, true, false, not, _&&_}
 use mathlib.Core.List.{List, [], _∷_, _++_}
 use mathlib.Core.Option.{Option, none, some}
 use lib.Dec.{ltb, eqb}
 use lib.ListN.{length, take, drop, replicate}
 use Rattle.geometry.specs.declared.Geometry.{Geometry}
-use Rattle.geometry.specs.Geometry.{keyLimitOf, placeStart, blockWidth, sizeReason, within}
+use Rattle.geometry.specs.Geometry.{keyLimitOf, topCapacityOf, placeStart, blockWidth, sizeReason, within}
+use Rattle.levels.specs.Basics.{if_then_else_, isSome}
 use Rattle.levels.specs.Record.{Rec, Block, Level, firstKey, lastKey}
-use Rattle.levels.specs.Map.{mapOf, liveCount, lookUp, next, stretch}
+use Rattle.levels.specs.Map.{find, mapOf, liveCount, lookUp, next, stretch}
 use Rattle.levels.specs.Store.{Store, rows, blocksOf}
 use Rattle.levels.specs.Call.{Compaction, Merge}
 use Rattle.levels.specs.Put.{Change, refused, absent, entered, put, delete, mergesOf}
 use Rattle.levels.specs.Count.{Counts, countsOf}
 use Rattle.levels.specs.declared.Ticket.{Ticket}
 use Rattle.levels.specs.Tickets.{ticketsOf}
-use Rattle.words.specs.Layout.{geometryAt, storeAt, storeWords, areaOf, writeBlocks, levelAt, placeOf, keysOf, paysOf}
+use Rattle.words.specs.Layout.{geometryAt, topCountAt, topRecs, storeAt, storeWords, areaOf, writeBlocks, levelAt, placeOf, keysOf, paysOf}
 use Rattle.words.specs.Form.{reasonOf}
 
 -- What a call gives: its answer and the words afterwards.
@@ -228,3 +229,36 @@ deleteTickets ws k = let g = geometryAt ws in elim (eqb (reasonOf ws) 0) [ true 
 -- the merges into levels 1 to 3 that an answer counts
 abbrev pub mergesCounted : ChangeAnswer → ℕ
 mergesCounted a = a .level1 .merges + a .level2 .merges + a .level3 .merges
+
+-- Document 02, card 5, "One merge, or none": what a put or delete is going to answer, the reason or 0 and its merges into level 1
+pub record ForecastAnswer : Type 0 where
+  pub reason : ℕ
+  pub merges : ℕ
+
+-- the same two numbers of an answer
+abbrev pub forecastIn : ChangeAnswer → ForecastAnswer
+forecastIn a = record { reason = a .reason; merges = a .level1 .merges }
+
+-- "exactly one if level 0 holds K(0) × B records and the key isn't among them, and none otherwise": by c and level 0's records, marks with them
+unfoldable pub topMerges : List ℕ → ℕ → ℕ
+topMerges ws k = let g = geometryAt ws in if eqb (topCountAt ws) (topCapacityOf g) && not (isSome (find k (topRecs g ws))) then 1 else 0
+
+-- "5. A put has a key not in the map while live = N.", of a map's limit and records
+abbrev pub isFull : ℕ → List Rec → ℕ → Bool
+isFull limit rs k = not (isSome (find k rs)) && eqb (length rs) limit
+
+-- the reason that a put of k is turned down for, or 0
+unfoldable pub putReason : List ℕ → ℕ → ℕ
+putReason ws k = elim (eqb (reasonOf ws) 0) [ true ↦ if isFull (keyLimitOf (geometryAt ws)) (mapAt ws) k then 5 else 0 | false ↦ reasonOf ws ]
+
+-- "A refused call makes none."
+abbrev pub foretold : ℕ → ℕ → ForecastAnswer
+foretold zero merges = record { reason = 0; merges = merges }
+foretold (suc n) merges = record { reason = suc n; merges = 0 }
+
+-- Of a put, and of a delete: "For a delete the same holds if the key is live, and none if it is absent."
+unfoldable pub willPutMergeOf : List ℕ → ℕ → ForecastAnswer
+willPutMergeOf ws k = foretold (putReason ws k) (topMerges ws k)
+
+unfoldable pub willDeleteMergeOf : List ℕ → ℕ → ForecastAnswer
+willDeleteMergeOf ws k = foretold (reasonOf ws) (if isSome (find k (mapAt ws)) then topMerges ws k else 0)

@@ -11,7 +11,7 @@ use Rattle.geometry.specs.Geometry.{capacityOf, topCapacityOf, blockWidth}
 use Rattle.levels.specs.Record.{Rec, Level}
 use Rattle.levels.specs.Bench.{geo, puts, dels, at, sameNumbers}
 use Rattle.words.specs.Layout.{markWord, headerWords, topWords, listWords, blockWords, writeBlock, writeBlocks, storeWords}
-use Rattle.words.specs.Bench.{Call, formatAs, check, lookUpKey, nextKey, showKey, putKey, delKey, about, wordsAfter, Case, holds, failing, Breach, misjudged}
+use Rattle.words.specs.Bench.{Call, formatAs, check, lookUpKey, nextKey, showKey, putKey, delKey, about, willPut, willDelete, wordsAfter, Case, holds, failing, Breach, misjudged}
 
 abbrev pub A : Geometry
 A = geo 4 1 2 4 1 40
@@ -130,6 +130,37 @@ reasonCases =
 pub reason-cases-hold : failing reasonCases ≡ []
 unfolding failing holds reasonCases
 reason-cases-hold = refl
+
+-- eight records in level 0 of A, the most that it takes: a mark of key 1, which level 1 has, and seven puts
+abbrev pub marked : List ℕ
+marked = laid A 10 (dels (1 ∷ []) ++ puts 1 (2 ∷ 3 ∷ 4 ∷ 5 ∷ 6 ∷ 7 ∷ 8 ∷ [])) ((at 0 (puts 1 (1 ∷ 11 ∷ 12 ∷ 13 ∷ [])) ∷ []) ∷ [])
+
+-- a forecast on these words, its reason and its merges
+abbrev pub foreseen : String → List ℕ → Call → ℕ → ℕ → Case
+foreseen t ws c reason merges = record { text = t; words = ws; calls = []; last = c; answer = reason ∷ merges ∷ [] }
+
+-- Document 02, card 5: "One merge, or none."
+unfoldable pub forecastCases : List Case
+unfolding storeWords headerWords topWords listWords blockWords writeBlock writeBlocks markWord capacityOf topCapacityOf blockWidth
+forecastCases =
+    foreseen "level 0 has room: a put" nine (willPut 95) 0 0
+    ∷ foreseen "level 0 has room: a delete" nine (willDelete 20) 0 0
+    ∷ foreseen "level 0 is full: a put of a new key" marked (willPut 9) 0 1
+    ∷ foreseen "a put of a live key that stands below" full (willPut 12) 0 1
+    ∷ foreseen "a put of a key in level 0" full (willPut 3) 0 0
+    ∷ foreseen "a put of a key that level 0 has as a mark" marked (willPut 1) 0 0
+    ∷ foreseen "a put of a new key while live = N" full (willPut 100) 5 0
+    ∷ foreseen "a delete of a live key that stands below" full (willDelete 12) 0 1
+    ∷ foreseen "a delete of a live key in level 0" full (willDelete 3) 0 0
+    ∷ foreseen "a delete of a key that level 0 has as a mark" marked (willDelete 1) 0 0
+    ∷ foreseen "a delete of an absent key" full (willDelete 100) 0 0
+    ∷ foreseen "a put on a damaged store" (set full 6 16) (willPut 12) 4 0
+    ∷ foreseen "a delete on 11 words" (take 11 full) (willDelete 12) 1 0
+    ∷ []
+
+pub forecast-cases-hold : failing forecastCases ≡ []
+unfolding failing holds forecastCases
+forecast-cases-hold = refl
 
 -- the clauses of the form check about the sizes
 unfoldable pub sizeCases : List Breach

@@ -3,7 +3,7 @@
 -- and what it is for the one to answer as the other, said once for every form of the store.
 use Prim.Native.Nat.{ℕ}
 use mathlib.Core.Path.{_≡_}
-use mathlib.Core.Bool.{Bool, false, not, _&&_}
+use mathlib.Core.Bool.{Bool, false}
 use mathlib.Core.List.{List, [], _∷_, foldl}
 use lib.Dec.{eqb}
 use lib.ListN.{length, take}
@@ -37,9 +37,13 @@ use Rattle.words.specs.Calls.{
   putOf,
   deleteOf,
   aboutOf,
+  ForecastAnswer,
+  isFull,
+  willPutMergeOf,
+  willDeleteMergeOf,
 }
 
--- Document 01's calls, card 1's, and About.
+-- Document 01's calls, card 1's and card 5's, and About.
 pub data Call : Type 0 where
   formatAs : Geometry → Call
   check : Call
@@ -51,6 +55,8 @@ pub data Call : Type 0 where
   putKey : ℕ → ℕ → Call
   delKey : ℕ → Call
   about : Call
+  willPut : ℕ → Call
+  willDelete : ℕ → Call
 
 -- Their answers.
 pub data Answer : Type 0 where
@@ -62,6 +68,7 @@ pub data Answer : Type 0 where
   shown : List ℕ → Answer
   changed : ChangeAnswer → Answer
   told : AboutAnswer → Answer
+  forecast : ForecastAnswer → Answer
 
 -- One call on lent words: its answer and the words afterwards. "Look up, Next, Show and Check change no lent word."
 unfoldable pub perform : List ℕ → Call → Outcome Answer
@@ -74,8 +81,11 @@ perform ws (showKey i k) = record { answer = shown (showOf ws i k); words = ws }
 perform ws (putKey k v) = let o = putOf ws k v in record { answer = changed (o .answer); words = o .words }
 perform ws (delKey k) = let o = deleteOf ws k in record { answer = changed (o .answer); words = o .words }
 perform ws about = record { answer = told (aboutOf ws); words = ws }
+perform ws (willPut k) = record { answer = forecast (willPutMergeOf ws k); words = ws }
+perform ws (willDelete k) = record { answer = forecast (willDeleteMergeOf ws k); words = ws }
 
--- What a map settles of an answer: all but the counts of a put or delete, which are demand 3's, and Show's words and About's geometry and blocks, which are the layout's.
+-- What a map settles of an answer: all but the counts of a put or delete, which are demand 3's, the merges of a forecast, which are card 5's, and Show's words and
+-- About's geometry and blocks, which are the layout's.
 pub data Reply : Type 0 where
   formats : FormatAnswer → Reply
   checks : ℕ → Reply
@@ -87,6 +97,8 @@ pub data Reply : Type 0 where
   changes : ℕ → Bool → Reply
   -- the reason or 0, the number of keys, and N
   tells : ℕ → ℕ → ℕ → Reply
+  -- the reason or 0
+  forecasts : ℕ → Reply
 
 abbrev pub replyOf : Answer → Reply
 replyOf (formatted a) = formats a
@@ -97,16 +109,13 @@ replyOf (stretched o) = stretches o
 replyOf (shown ws) = shows
 replyOf (changed a) = changes (a .reason) (a .live)
 replyOf (told a) = tells (a .reason) (a .live) (a .limit)
+replyOf (forecast a) = forecasts (a .reason)
 
 -- A finite map: its records in key order, and N, the keys that it takes at most. It stands in `size` words, which format asks for.
 pub record Held : Type 0 where
   pub size : ℕ
   pub limit : ℕ
   pub records : List Rec
-
--- "A put has a key not in the map while live = N."
-abbrev pub isFull : Held → ℕ → Bool
-isFull m k = not (isSome (find k (m .records))) && eqb (length (m .records)) (m .limit)
 
 -- What each call answers on a map. Check finds nothing: a map has no form to breach.
 abbrev pub mapReply : Held → Call → Reply
@@ -118,9 +127,11 @@ mapReply m (lookUpKey k) = looks (lookAnswer (find k (m .records)))
 mapReply m (nextKey k) = nexts (nextAnswer (firstFrom k (m .records)))
 mapReply m (stretchKeys first last keys pays) = stretches (filled (stretch first last (m .records)) keys pays)
 mapReply m (showKey i k) = shows
-mapReply m (putKey k v) = if isFull m k then changes 5 false else changes 0 (isSome (find k (m .records)))
+mapReply m (putKey k v) = if isFull (m .limit) (m .records) k then changes 5 false else changes 0 (isSome (find k (m .records)))
 mapReply m (delKey k) = changes 0 (isSome (find k (m .records)))
 mapReply m about = tells 0 (length (m .records)) (m .limit)
+mapReply m (willPut k) = if isFull (m .limit) (m .records) k then forecasts 5 else forecasts 0
+mapReply m (willDelete k) = forecasts 0
 
 -- The map afterwards: it is fed with the accepted puts and deletes, and an accepted format empties it.
 abbrev pub mapAfter : Held → Call → Held
@@ -130,9 +141,11 @@ mapAfter m (lookUpKey k) = m
 mapAfter m (nextKey k) = m
 mapAfter m (stretchKeys first last keys pays) = m
 mapAfter m (showKey i k) = m
-mapAfter m (putKey k v) = if isFull m k then m else record { size = m .size; limit = m .limit; records = insert (putRec k v) (m .records) }
+mapAfter m (putKey k v) = if isFull (m .limit) (m .records) k then m else record { size = m .size; limit = m .limit; records = insert (putRec k v) (m .records) }
 mapAfter m (delKey k) = record { size = m .size; limit = m .limit; records = without k (m .records) }
 mapAfter m about = m
+mapAfter m (willPut k) = m
+mapAfter m (willDelete k) = m
 
 -- Something that takes calls: what it answers, and what it is afterwards.
 pub record Machine (State Call Reply : Type 0) : Type 0 where

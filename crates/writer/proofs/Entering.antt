@@ -29,7 +29,7 @@ use Rattle.words.specs.Layout.{liveAt, topCountAt, topRecs, keysOf, storeAt, ar
 use Rattle.words.specs.Calls.{writtenBlocks, leftWords}
 use Rattle.words.specs.Passed.{Passed}
 use Rattle.words.proofs.Ranks.{found-is}
-use Rattle.words.proofs.Reason.{reason-passed}
+use Rattle.words.proofs.Reason.{reason-passed, passed-count}
 use Rattle.words.proofs.Steps.{laid-merges}
 use Rattle.entry.specs.declared.Opened.the-variants.{Ready}
 use Rattle.form.specs.Checked.{checkedOf}
@@ -146,9 +146,7 @@ module _ (g : Geometry) (ws : List ℕ) (p : Passed g ws) (k : ℕ) where
 -- A store that passes.
 module _ (ws : List ℕ) (g : Geometry) (e : checkedOf ws ≡ Ready g) where
   top-count : topCountAt ws ≡ length (storeAt g ws .top)
-  top-count =
-      let p = holds ws g e in
-      ap topCountAt (sym (p .written)) ∙ top-count-back g (storeAt g ws) (areaOf g ws) (p .valid) (p .fits)
+  top-count = passed-count g ws (holds ws g e)
 
   -- it is ready for level 0's edits
   pub holds-ready : TopReady g ws

@@ -5,16 +5,17 @@ ghost use mathlib.Core.Bool.{true};
 ghost use mathlib.Core.List.{[]};
 ghost use Prim.Native.Nat.{_≤_};
 ghost use Rattle.slices.specs.Ranks.{rankOf};
+ghost use Rattle.geometry.specs.Geometry.{keyLimitOf};
 ghost use Rattle.levels.specs.Put.{put, delete, mergesFor, mergesOf};
 ghost use Rattle.levels.specs.Inside.{mergesMost};
 ghost use Rattle.levels.specs.Tickets.{ticketsOf, laid};
 ghost use Rattle.words.specs.Layout.{topRecs, keysOf, storeAt};
-ghost use Rattle.words.specs.Calls.{Outcome, ChangeAnswer, changeOutcome, mergesCounted};
+ghost use Rattle.words.specs.Calls.{Outcome, ChangeAnswer, changeOutcome, mapAt, mergesCounted, isFull, topMerges, willPutMergeOf, willDeleteMergeOf};
 ghost use Rattle.words.specs.Rows.{rowsOf};
 ghost use Rattle.entry.specs.declared.Opened.the-variants.{Ready};
 ghost use Rattle.form.specs.Checked.{checkedOf};
 ghost use Rattle.top.specs.Top.{TopReady};
-ghost use Rattle.writer.specs.Answers.{changedAnswer};
+ghost use Rattle.writer.specs.Answers.{changedAnswer, forecastAnswer};
 ghost use Rattle.writer.specs.Change.{liveFound, roomAt, withEntered, Counted, Entered};
 use geometry::Geometry;
 use search::Found;
@@ -31,6 +32,12 @@ pub struct Change {
 // What a put or delete did, or the reason that it is turned down for.
 pub enum Changed {
     Done(Change),
+    Refused(u32),
+}
+
+// The merges into level 1 that a put or delete is going to make, 1 or 0, or the reason that it would be turned down for.
+pub enum Forecast {
+    Merges(u32),
     Refused(u32),
 }
 
@@ -168,4 +175,51 @@ pub fn merges(changed: Changed) -> usize
             one.merges + two.merges + three.merges
         }
     }
+}
+
+// What a put of k is going to do, in a store that passes (document 02, card 5).
+pub fn foresee_put(s: &[u32], g: Geometry, k: u32) -> Forecast
+    requires { ⌜ checkedOf (now s) ≡ Ready g ⌝ }
+    ensures { λ r. ⌜ forecastAnswer r ≡ willPutMergeOf (now (s .entry)) k ⌝ }
+{
+    if is_full(s, g, k) {
+        return Forecast::Refused(5);
+    }
+    Forecast::Merges(top_merges(s, g, k))
+}
+
+// A put of k would be turned down as full. Only a store that holds as many keys as it may is searched for k.
+fn is_full(s: &[u32], g: Geometry, k: u32) -> bool
+    requires { ⌜ checkedOf (now s) ≡ Ready g ⌝ }
+    ensures { λ r. ⌜ r ≡ isFull (keyLimitOf g) (mapAt (now (s .entry))) k ⌝ }
+{
+    if s[6] as usize == g.key_limit() {
+        let was = is_live(reader::find_key(s, g, k as usize));
+        return !was;
+    }
+    false
+}
+
+// What a delete of k is going to do: nothing is merged for a key that is not live.
+pub fn foresee_delete(s: &[u32], g: Geometry, k: u32) -> Forecast
+    requires { ⌜ checkedOf (now s) ≡ Ready g ⌝ }
+    ensures { λ r. ⌜ forecastAnswer r ≡ willDeleteMergeOf (now (s .entry)) k ⌝ }
+{
+    let was = is_live(reader::find_key(s, g, k as usize));
+    if was {
+        return Forecast::Merges(top_merges(s, g, k));
+    }
+    Forecast::Merges(0)
+}
+
+// The merges into level 1 that make room for a record of k: one where level 0 is full and has none of k.
+fn top_merges(s: &[u32], g: Geometry, k: u32) -> u32
+    requires { ⌜ checkedOf (now s) ≡ Ready g ⌝ }
+    ensures { λ r. ⌜ r ≡ topMerges (now (s .entry)) k ⌝ }
+{
+    let slot = top::locate(s, g, k);
+    if has_room(s, g, slot) {
+        return 0;
+    }
+    1
 }

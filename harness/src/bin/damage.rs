@@ -12,9 +12,10 @@ use harness::search::Search;
 use std::process::ExitCode;
 use std::time::{Duration, Instant};
 
-/// Damaged stores, and calls, that a run must at least have, and tickets filled.
+/// Damaged stores, and calls, that a run must at least have, and merges: tickets filled,
+/// and forecasts of a merge.
 const ENOUGH: u64 = 100_000;
-const ENOUGH_TICKETS: u64 = 1_000;
+const ENOUGH_MERGES: u64 = 1_000;
 
 fn main() -> ExitCode {
     match Asked::read() {
@@ -41,13 +42,14 @@ fn search(seed: u64, first: u64, time: Duration) -> ExitCode {
         let counts = &search.counts;
         let enough = counts.damaged >= ENOUGH
             && counts.calls >= ENOUGH
-            && counts.tickets.filled >= ENOUGH_TICKETS;
+            && counts.tickets.filled >= ENOUGH_MERGES
+            && counts.forecasts.merge >= ENOUGH_MERGES;
         if time.is_zero() || start.elapsed() >= time && enough {
             break;
         }
         if start.elapsed() >= 2 * time {
             println!(
-                "{counts}\nfewer than {ENOUGH} damaged stores or calls, or {ENOUGH_TICKETS} tickets"
+                "{counts}\nfewer than {ENOUGH} damaged stores or calls, or {ENOUGH_MERGES} tickets or merges foretold"
             );
             return ExitCode::FAILURE;
         }

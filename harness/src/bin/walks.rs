@@ -1,10 +1,10 @@
 //! `walks SECONDS [SEED]`: looks for a difference between the verified store, the
 //! reference and a plain map in histories of puts and deletes, half of them with
-//! tickets, with stretches between them, for so many seconds, and on till it has seen
-//! enough of both. Ends with 1 at the first difference, or if ten times the time is not
-//! enough.
+//! tickets, each after its forecast, with stretches between them, for so many seconds,
+//! and on till it has seen enough of all. Ends with 1 at the first difference, or if ten
+//! times the time is not enough.
 //! `walks --repeat SEED HISTORY` runs one history; `walks --self-test` plants faults
-//! in stretches and tickets and sees each of them reported.
+//! in stretches, tickets and forecasts and sees each of them reported.
 
 use harness::asked::Asked;
 use harness::calls::{Library, Package};
@@ -14,7 +14,7 @@ use std::process::ExitCode;
 use std::time::{Duration, Instant};
 
 /// Stretches that a run must at least have of those that wrote records and said that
-/// more follow, and tickets.
+/// more follow, and tickets, and forecasts of a merge.
 const ENOUGH: u64 = 1_000;
 
 fn main() -> ExitCode {
@@ -40,12 +40,16 @@ fn walks(seed: u64, first: u64, time: Duration) -> ExitCode {
             return ExitCode::FAILURE;
         }
         let counts = &walks.counts;
-        let enough = counts.stretches.cut >= ENOUGH && counts.tickets.filled >= ENOUGH;
+        let enough = counts.stretches.cut >= ENOUGH
+            && counts.tickets.filled >= ENOUGH
+            && counts.forecasts.merge >= ENOUGH;
         if time.is_zero() || start.elapsed() >= time && enough {
             break;
         }
         if start.elapsed() >= 10 * time {
-            println!("{counts}\nfewer than {ENOUGH} stretches with more or tickets");
+            println!(
+                "{counts}\nfewer than {ENOUGH} stretches with more, tickets or merges foretold"
+            );
             return ExitCode::FAILURE;
         }
     }
@@ -54,8 +58,8 @@ fn walks(seed: u64, first: u64, time: Duration) -> ExitCode {
     ExitCode::SUCCESS
 }
 
-/// Plants each fault of a sound store's stretches and tickets and runs histories till it is
-/// reported.
+/// Plants each fault of a sound store's stretches, tickets and forecasts and runs histories
+/// till it is reported.
 fn self_test() -> ExitCode {
     let mut missed = 0;
     for fault in Fault::HISTORIES {

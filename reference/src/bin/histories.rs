@@ -2,8 +2,9 @@
 //! `histories SEED COUNT CALLS WORDS`. Each history is a store that no call list
 //! reaches, some calls on it, their answers' numbers and the words afterwards, all
 //! by this implementation. CALLS counts the calls but stretches, one of which follows
-//! every second of them. Free slots hold 7 in each word, so that the text stays short:
-//! words are written as counts and values.
+//! every second of them, and forecasts, one of which goes before each of the others that
+//! is a put or delete. Free slots hold 7 in each word, so that the text stays short: words
+//! are written as counts and values.
 
 use reference::calls;
 use reference::generate::{Choices, Stream};
@@ -91,8 +92,8 @@ fn start(random: &mut Random, geometry: Geometry) -> Vec<u32> {
     words
 }
 
-/// Runs so many random calls, mostly puts and deletes, and after every second one a
-/// stretch.
+/// Runs so many random calls, mostly puts and deletes, after every second one a stretch,
+/// and before every other one its forecast.
 fn run(
     random: &mut Random,
     stretches: &mut Random,
@@ -106,6 +107,9 @@ fn run(
     let mut steps = Vec::new();
     for number in 1..=count {
         let line = stream.call(random);
+        if number % 2 == 1 {
+            steps.extend(forecast(&words, &line));
+        }
         steps.push(step(random, &mut words, line));
         if number % 2 == 0 {
             steps.push(stretch(stretches, &words));
@@ -131,6 +135,23 @@ fn step(random: &mut Random, words: &mut [u32], line: Line) -> Step {
         answer: changed(&answer),
         merges: merges.len(),
     }
+}
+
+/// What the put or delete of this line will do, for card 5.
+fn forecast(words: &[u32], line: &Line) -> Option<Step> {
+    let (act, answer) = match *line {
+        Line::Put(key, _) => (format!("willPut {key}"), calls::will_put_merge(words, key)),
+        Line::Delete(key) => (
+            format!("willDelete {key}"),
+            calls::will_delete_merge(words, key),
+        ),
+        _ => return None,
+    };
+    Some(Step {
+        act,
+        answer: vec![answer.reason, answer.merges],
+        merges: 0,
+    })
 }
 
 /// A stretch between keys at and beside live ones, at the ends or anywhere, now and
@@ -243,5 +264,5 @@ const HEAD: &str = "-- Short histories from stores that no call list reaches: th
 use mathlib.Core.Path.{_≡_, refl}
 use mathlib.Core.Bool.{true}
 use mathlib.Core.List.{[], _∷_}
-use Rattle.words.specs.Bench.{check, lookUpKey, nextKey, showKey, putKey, delKey, stretchKeys, perform, expand, agrees}
+use Rattle.words.specs.Bench.{check, lookUpKey, nextKey, showKey, putKey, delKey, stretchKeys, willPut, willDelete, perform, expand, agrees}
 ";

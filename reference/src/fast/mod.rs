@@ -14,7 +14,7 @@ mod top;
 mod walk;
 mod weave;
 
-use crate::calls::{About, Changed, Counts, Formatted, Found, Next, Stretched, Ticket};
+use crate::calls::{About, Changed, Counts, Forecast, Formatted, Found, Next, Stretched, Ticket};
 use merge::Work;
 use shape::Shape;
 use stretch::Lent;
@@ -138,6 +138,51 @@ pub fn about(s: &[u32]) -> About {
             top: s[shape::COUNTS],
             blocks: [1, 2, 3].map(|level| s[shape::COUNTS + level]),
         },
+    }
+}
+
+/// What a put of k would do, for card 5. No level is searched twice: level 0 only if it is
+/// full or live is N, and those below, for refusal 5, only if live is N.
+pub fn will_put_merge(s: &[u32], key: u32) -> Forecast {
+    let shape = match form::check(s) {
+        Err(reason) => return Forecast { reason, merges: 0 },
+        Ok(shape) => shape,
+    };
+    let full = s[shape::COUNTS] as usize == shape.room;
+    let limited = s[shape::LIVE] as usize == shape.limit;
+    if !full && !limited {
+        return Forecast::default();
+    }
+    let (live, merges) = match top::locate(s, &shape, key) {
+        Ok(index) => (!top::tombstone(s, &shape, index), false),
+        Err(_) => (limited && search::below(s, &shape, key).is_some(), full),
+    };
+    match limited && !live {
+        true => Forecast {
+            reason: 5,
+            merges: 0,
+        },
+        false => forecast(merges),
+    }
+}
+
+/// What a delete of k would do, for card 5. Only a full level 0 is searched, and those below
+/// only if it lacks the key.
+pub fn will_delete_merge(s: &[u32], key: u32) -> Forecast {
+    let shape = match form::check(s) {
+        Err(reason) => return Forecast { reason, merges: 0 },
+        Ok(shape) => shape,
+    };
+    let full = s[shape::COUNTS] as usize == shape.room;
+    let lacked = full && top::locate(s, &shape, key).is_err();
+    forecast(lacked && search::below(s, &shape, key).is_some())
+}
+
+/// The forecast of an accepted put or delete.
+fn forecast(merges: bool) -> Forecast {
+    Forecast {
+        reason: 0,
+        merges: u32::from(merges),
     }
 }
 

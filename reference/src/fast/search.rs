@@ -1,15 +1,19 @@
 //! Binary searches.
 
-use super::shape::{Shape, HEADER};
+use super::shape::Shape;
 use super::top;
 
 /// The payload of a key that is in the map.
 pub fn live(s: &[u32], shape: &Shape, key: u32) -> Option<u32> {
-    if let Ok(index) = top::locate(s, shape, key) {
-        let marks = s[HEADER + index / shape.b];
-        let tombstone = marks >> (index % shape.b) & 1 == 1;
-        return (!tombstone).then(|| s[shape.pays + index]);
+    match top::locate(s, shape, key) {
+        Ok(index) => (!top::tombstone(s, shape, index)).then(|| s[shape.pays + index]),
+        Err(_) => below(s, shape, key),
     }
+}
+
+/// The same for a key that level 0 lacks.
+#[inline]
+pub fn below(s: &[u32], shape: &Shape, key: u32) -> Option<u32> {
     for level in 1..=shape.h {
         let Some(at) = block(s, shape, level, key) else {
             continue;

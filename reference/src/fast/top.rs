@@ -8,6 +8,12 @@ pub fn locate(s: &[u32], shape: &Shape, key: u32) -> Result<usize, usize> {
     s[shape.keys..shape.keys + s[COUNTS] as usize].binary_search(&key)
 }
 
+/// Whether record number `index` is a tombstone.
+#[inline]
+pub fn tombstone(s: &[u32], shape: &Shape, index: usize) -> bool {
+    s[HEADER + index / shape.b] >> (index % shape.b) & 1 == 1
+}
+
 /// A record over record number `index`.
 pub fn write(s: &mut [u32], shape: &Shape, index: usize, key: u32, tombstone: u32, payload: u32) {
     s[shape.keys + index] = key;

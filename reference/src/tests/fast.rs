@@ -82,6 +82,16 @@ impl Both {
         )?;
         same("next", calls::next(plain, key), fast::next(fast, key))?;
         same("about", calls::about(plain), fast::about(fast))?;
+        same(
+            "will put merge",
+            calls::will_put_merge(plain, key),
+            fast::will_put_merge(fast, key),
+        )?;
+        same(
+            "will delete merge",
+            calls::will_delete_merge(plain, key),
+            fast::will_delete_merge(fast, key),
+        )?;
         self.stretch(key, key.saturating_add(1 << 20), 20)?;
         self.stretch(key, key.wrapping_add(7), 3)?;
         for level in [0, 1, 2, 3, 4, u32::MAX] {

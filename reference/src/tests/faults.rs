@@ -1,6 +1,7 @@
 //! The tests are able to fail: each wrong variant is found out.
 
 use super::checker::Statistics;
+use super::forecast;
 use super::lists::{formatted, run_calls};
 use super::stretch::{self, agrees, by_fast, by_next, by_the_map, random_ask, Other};
 use super::tickets;
@@ -144,6 +145,49 @@ fn wrong_tickets_are_found_out() {
         assert!(cases.contains(&true), "no case finds {fault:?}");
         for other in [tickets::by_replay as tickets::Other, tickets::by_fast] {
             let found = tickets_found_out(fault, other);
+            println!("{fault:?}: {cases:?} {found:?}");
+            assert!(found.is_some(), "{fault:?} is not found out");
+        }
+    }
+}
+
+/// Whether a wrong forecast is found out by this comparison over random stores, and after
+/// how many.
+fn forecast_found_out(fault: Fault, other: forecast::Other) -> Option<(usize, String)> {
+    let mut random = Random::new(7);
+    let choices = Choices::new(2500);
+    (1..=300).find_map(|round| {
+        let geometry = choices.pick(&mut random);
+        let words = unreachable::store(&mut random, geometry);
+        (0..20).find_map(|_| {
+            let line = forecast::random_line(&mut random, &words);
+            set(Some(fault));
+            let result = forecast::agrees(&words, line, other);
+            set(None);
+            result.err().map(|text| (round, text))
+        })
+    })
+}
+
+/// Each wrong forecast is found out by the hand-written cases, by the call itself and by
+/// the implementation written for speed, each alone.
+#[test]
+fn wrong_forecasts_are_found_out() {
+    use Fault::*;
+    let faults = [
+        TombstonesNotHeld,
+        TombstoneNotAmong,
+        FullMerges,
+        RefusedMerges,
+        AbsentMerges,
+    ];
+    for fault in faults {
+        set(Some(fault));
+        let cases = forecast::CASES.map(|case| case().is_err());
+        set(None);
+        assert!(cases.contains(&true), "no case finds {fault:?}");
+        for other in [forecast::by_call as forecast::Other, forecast::by_fast] {
+            let found = forecast_found_out(fault, other);
             println!("{fault:?}: {cases:?} {found:?}");
             assert!(found.is_some(), "{fault:?} is not found out");
         }

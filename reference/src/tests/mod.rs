@@ -7,6 +7,7 @@ mod damage;
 mod fast;
 mod faults;
 mod figures;
+mod forecast;
 mod geometry;
 mod lists;
 mod live;

@@ -9,45 +9,47 @@ use crate::unreachable;
 
 const A: [u32; 6] = [4, 1, 2, 4, 1, 40];
 
+/// Every call that changes nothing is turned down for this reason, with zeros for
+/// answers.
+fn reads_refuse(lent: &[u32], key: u32, refusal: u32) {
+    assert_eq!(check(lent), refusal);
+    let found = Found {
+        refusal,
+        ..Found::default()
+    };
+    assert_eq!(look_up(lent, key), found);
+    let none = Next {
+        refusal,
+        ..Next::default()
+    };
+    assert_eq!(next(lent, key), none);
+    let nothing = About {
+        refusal,
+        ..About::default()
+    };
+    assert_eq!(about(lent), nothing);
+    let (mut keys, mut payloads) = ([8; 3], [9; 2]);
+    let unwritten = Stretched {
+        refusal,
+        ..Stretched::default()
+    };
+    let stretched = stretch(lent, key, u32::MAX, &mut keys, &mut payloads);
+    assert_eq!(stretched, unwritten);
+    assert_eq!((keys, payloads), ([8; 3], [9; 2]));
+    let (reason, merges) = (refusal, 0);
+    assert_eq!(will_put_merge(lent, key), Forecast { reason, merges });
+    assert_eq!(will_delete_merge(lent, key), Forecast { reason, merges });
+    for level in [0, 1, 2, 3, 4, u32::MAX] {
+        assert!(show(lent, level, key).is_empty());
+    }
+}
+
 /// Every call but format on a lent store is turned down for this reason, with
 /// zeros for answers and every word unchanged.
 fn all_refuse(words: &[u32], refusal: u32) {
     let mut lent = words.to_vec();
     for key in [0, 1, 10, 20, u32::MAX] {
-        assert_eq!(check(&lent), refusal);
-        assert_eq!(
-            look_up(&lent, key),
-            Found {
-                refusal,
-                ..Found::default()
-            }
-        );
-        assert_eq!(
-            next(&lent, key),
-            Next {
-                refusal,
-                ..Next::default()
-            }
-        );
-        assert_eq!(
-            about(&lent),
-            About {
-                refusal,
-                ..About::default()
-            }
-        );
-        let (mut keys, mut payloads) = ([8; 3], [9; 2]);
-        assert_eq!(
-            stretch(&lent, key, u32::MAX, &mut keys, &mut payloads),
-            Stretched {
-                refusal,
-                ..Stretched::default()
-            }
-        );
-        assert_eq!((keys, payloads), ([8; 3], [9; 2]));
-        for level in [0, 1, 2, 3, 4, u32::MAX] {
-            assert!(show(&lent, level, key).is_empty());
-        }
+        reads_refuse(&lent, key, refusal);
         let refused = (
             Changed {
                 refusal,
