@@ -72,7 +72,7 @@ class File:
 def imports(text):
     """The names that `use M.{a, b as c}` lines bring, and the short names of modules, `use M as m`."""
     names = {}
-    for module, group in re.findall(r"(?m)^(?:pub |ghost )?use ([^\s{;]+)\.\{([^}]*)\}", text):
+    for module, group in re.findall(r"(?m)^(?:unfoldable )?(?:pub |ghost )?use ([^\s{;]+)\.\{([^}]*)\}", text):
         for name in group.split(","):
             theirs, _, ours = name.strip().partition(" as ")
             if theirs:

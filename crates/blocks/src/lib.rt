@@ -3,9 +3,9 @@
 
 ghost use mathlib.Core.Path.{_≡_};
 ghost use Prim.Native.Nat.{ℕ, _+_, _-_, _*_, _^_, _≤_, _<_};
-ghost use lib.ListN.{getD};
+ghost use lib.ListN.{getD, length};
 ghost use Rattle.geometry.specs.Geometry.{Valid};
-ghost use Rattle.geometry.specs.Room.{placesMost, listRoom};
+ghost use Rattle.geometry.specs.Room.{placesMost};
 ghost use Rattle.blocks.specs.Blocks.{Sized, layoutOf, startOf, afterBy, SomeFree, nextMark, marked, pushed, emptyBuffer, written, WritesRecords};
 use geometry::Geometry;
 
@@ -115,11 +115,12 @@ pub fn first_free(used: &[bool; Geometry::MAX_P], p: usize, cursor: usize) -> us
     }
 }
 
-// The first n places of a list are marked as in use.
-pub fn mark_listed(used: &mut [bool; Geometry::MAX_P], list: &[u32; Geometry::LIST_ROOM], n: usize)
-    requires { ⌜ (n ≤ listRoom) × ((i : ℕ) → i < n → getD (now list) i 0 < placesMost) ⌝ }
-    ensures { λ _. ⌜ now (used .exit) ≡ marked (now (used .entry)) (now (list .entry)) n ⌝ }
+// The places of a list, or of a lent part of one, are marked as in use.
+pub fn mark_listed(used: &mut [bool; Geometry::MAX_P], list: &[u32])
+    requires { ⌜ ((i : ℕ) → i < length (now list) → getD (now list) i 0 < placesMost) ⌝ }
+    ensures { λ _. ⌜ now (used .exit) ≡ marked (now (used .entry)) (now (list .entry)) (length (now (list .entry))) ⌝ }
 {
+    let n = list.len();
     for i in 0..n {
         let q = list[i] as usize;
         used[q] = true;

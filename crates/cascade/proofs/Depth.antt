@@ -1,42 +1,37 @@
 -- The deepest level over its capacity, by the lengths of the lists.
-use Prim.Native.Nat.{ℕ, zero, suc, _-_, _≤_}
-use mathlib.Core.Path.{_≡_, refl, sym, ap, _∙_}
-use mathlib.Core.Bool.{Bool, true, false, _&&_}
-use mathlib.Core.List.{[]}
+use Prim.Native.Nat.{ℕ, zero, suc, _≤_, _<_}
+use mathlib.Core.Path.{_≡_, refl, ap, _∙_}
+use mathlib.Core.Bool.{true, false}
+use mathlib.Core.List.{List, []}
 use native.Mathlib.Omega.{arith}
-use lib.Dec.{ltb, eqb}
+use borrow.Author.Tests.{lt-ltb, le-ltb}
+use lib.Dec.{ltb}
 use lib.ListN.{length, getD}
 use Rattle.geometry.specs.declared.Geometry.{Geometry}
-use Rattle.geometry.specs.Geometry.{Ranged, capacityOf}
+use Rattle.geometry.specs.Geometry.{capacityOf}
 use Rattle.levels.specs.Store.{Store}
 use Rattle.levels.specs.Call.{deepestOver}
 use Rattle.cascade.specs.Cascade.{deepestFor}
 
-deepest-at : (g : Geometry) (t : Store) (h : ℕ) → 1 ≤ h → h ≤ 3 → deepestFor g h (length (getD (t .levels) 0 [])) (length (getD (t .levels) 1 [])) ≡ deepestOver g (h - 1) t
+-- the lengths are those of the levels
+pub deepest-is : (g : Geometry) (t : Store) (ns : List ℕ) → ((j : ℕ) → getD ns j 0 ≡ length (getD (t .levels) j [])) → (i : ℕ) → deepestFor g ns i ≡ deepestOver g i t
 unfolding deepestFor deepestOver
-deepest-at g t zero l k = absurd (omega arith)
-deepest-at g t (suc zero) l k = refl
-deepest-at g t (suc (suc zero)) l k = refl
-deepest-at g t (suc (suc (suc zero))) l k = refl
-deepest-at g t (suc (suc (suc (suc h)))) l k = absurd (omega arith)
+deepest-is g t ns e zero = refl
+deepest-is g t ns e (suc i) =
+    ap (λ (x : ℕ). by x (deepestFor g ns i)) (e i) ∙ ap (by (length (getD (t .levels) i []))) (deepest-is g t ns e i)
+  where
+    by : ℕ → ℕ → ℕ
+    by x y = elim (ltb (capacityOf g (suc i)) x) [ true ↦ suc i | false ↦ y ]
 
-pub deepest-is : (g : Geometry) (t : Store) (n1 n2 d : ℕ) → Ranged g → n1 ≡ length (getD (t .levels) 0 []) → n2 ≡ length (getD (t .levels) 1 []) → d ≡ deepestFor g (g .h) n1 n2 → d ≡ deepestOver g (g .h - 1) t
-deepest-is g t n1 n2 d r a b e = e ∙ ap (λ (x : ℕ). deepestFor g (g .h) x n2) a ∙ ap (λ (x : ℕ). deepestFor g (g .h) (length (getD (t .levels) 0 [])) x) b ∙ deepest-at g t (g .h) (r .h-low) (r .h-high)
+-- level j + 1 is over its capacity, or it is passed
+module _ (g : Geometry) (ns : List ℕ) (j level k : ℕ) (el : level ≡ suc j) (ek : k ≡ capacityOf g level) where
+  room : k ≡ capacityOf g (suc j)
+  room = ek ∙ ap (capacityOf g) el
 
--- what the code's tests say, of numbers that are those of the geometry
-module _ (g : Geometry) (n1 n2 h k1 k2 : ℕ) (eh : h ≡ g .h) (e1 : k1 ≡ capacityOf g 1) (e2 : k2 ≡ capacityOf g 2) where
-  tests : deepestFor g (g .h) n1 n2 ≡ elim (eqb h 3 && ltb k2 n2) [ true ↦ 2 | false ↦ elim (ltb 1 h && ltb k1 n1) [ true ↦ 1 | false ↦ 0 ] ]
+  pub deepest-here : k < getD ns j 0 → level ≡ deepestFor g ns level
   unfolding deepestFor
-  tests = ap (λ (x : ℕ). by x (capacityOf g 1) (capacityOf g 2)) (sym eh) ∙ ap (λ (x : ℕ). by h x (capacityOf g 2)) (sym e1) ∙ ap (λ (x : ℕ). by h k1 x) (sym e2)
-    where
-      by : ℕ → ℕ → ℕ → ℕ
-      by x y z = elim (eqb x 3 && ltb z n2) [ true ↦ 2 | false ↦ elim (ltb 1 x && ltb y n1) [ true ↦ 1 | false ↦ 0 ] ]
+  deepest-here h = rw (el, lt-ltb (capacityOf g (suc j)) (getD ns j 0) (omega (arith, room)), deepestFor)
 
-  pub deepest-two : (eqb h 3 && ltb k2 n2) ≡ true → 2 ≡ deepestFor g (g .h) n1 n2
-  deepest-two a = sym (tests ∙ ap (λ (b : Bool). elim b [ true ↦ 2 | false ↦ elim (ltb 1 h && ltb k1 n1) [ true ↦ 1 | false ↦ 0 ] ]) a)
-
-  pub deepest-one : (eqb h 3 && ltb k2 n2) ≡ false → (ltb 1 h && ltb k1 n1) ≡ true → 1 ≡ deepestFor g (g .h) n1 n2
-  deepest-one a b = sym (tests ∙ ap (λ (x : Bool). elim x [ true ↦ 2 | false ↦ elim (ltb 1 h && ltb k1 n1) [ true ↦ 1 | false ↦ 0 ] ]) a ∙ ap (λ (x : Bool). elim x [ true ↦ 1 | false ↦ 0 ]) b)
-
-  pub deepest-none : (eqb h 3 && ltb k2 n2) ≡ false → (ltb 1 h && ltb k1 n1) ≡ false → 0 ≡ deepestFor g (g .h) n1 n2
-  deepest-none a b = sym (tests ∙ ap (λ (x : Bool). elim x [ true ↦ 2 | false ↦ elim (ltb 1 h && ltb k1 n1) [ true ↦ 1 | false ↦ 0 ] ]) a ∙ ap (λ (x : Bool). elim x [ true ↦ 1 | false ↦ 0 ]) b)
+  pub deepest-past : getD ns j 0 ≤ k → deepestFor g ns level ≡ deepestFor g ns j
+  unfolding deepestFor
+  deepest-past h = rw (el, le-ltb (capacityOf g (suc j)) (getD ns j 0) (omega (arith, room)), deepestFor)

@@ -25,6 +25,7 @@ use Rattle.words.specs.Calls.{compactedBlocks, writtenBlocks}
 use Rattle.words.specs.Rows.{rowOf, rowsOf, laidFrom}
 use Rattle.words.proofs.Blocks.{writes-append}
 use Rattle.words.proofs.Rows.{laid-from-none, laid-from-next}
+use Rattle.lists.proofs.Arrays.{count-is}
 use Rattle.steps.specs.declared.Counts.{Counts}
 use Rattle.steps.specs.declared.Run.{Run}
 use Rattle.steps.specs.Running.{storeOf, Stands, numbersOf, plus, Leaving, StepReady, stepCounts}
@@ -63,10 +64,10 @@ pub record Rest (g : Geometry) (t0 : Store) (ms0 : List Merge) (ws0 : List ℕ) 
   pub two : plus (numbersOf (r .tally .two)) (countsOf 2 ms) ≡ plus (numbersOf (r0 .tally .two)) (countsOf 2 ms0)
   pub three : plus (numbersOf (r .tally .three)) (countsOf 3 ms) ≡ plus (numbersOf (r0 .tally .three)) (countsOf 3 ms0)
 
-pub record Goes (n : ℕ) (g : Geometry) (ws0 one0 two0 three0 : List ℕ) (r0 : Run) (ws one two three : List ℕ) (r : Run) : Type 0 where
+pub record Goes (n : ℕ) (g : Geometry) (ws0 lists0 : List ℕ) (r0 : Run) (ws lists : List ℕ) (r : Run) : Type 0 where
   pub steps : ℕ
-  pub rolling : Rolling steps g ws one two three r
-  pub rest : Rest g (storeOf g ws0 one0 two0 three0 r0) (mergesBelow n g (storeOf g ws0 one0 two0 three0 r0)) ws0 r0 (storeOf g ws one two three r) (mergesBelow steps g (storeOf g ws one two three r)) ws r
+  pub rolling : Rolling steps g ws lists r
+  pub rest : Rest g (storeOf g ws0 lists0 r0) (mergesBelow n g (storeOf g ws0 lists0 r0)) ws0 r0 (storeOf g ws lists r) (mergesBelow steps g (storeOf g ws lists r)) ws r
 
 -- The tickets of the merges to come, filed from row `filed` on, come to the same as those of all merges from row 1 on: the row of merge 0 is the first.
 pub record Files (n : ℕ) (g : Geometry) (t0 : Store) (rows0 : List (List ℕ)) (steps : ℕ) (t : Store) (rows : List (List ℕ)) (filed : ℕ) : Type 0 where
@@ -75,34 +76,34 @@ pub record Files (n : ℕ) (g : Geometry) (t0 : Store) (rows0 : List (List ℕ))
   pub tickets : laidFrom filed (rowsOf (ticketsOf g (mergesBelow steps g t))) rows ≡ laidFrom 1 (rowsOf (ticketsOf g (mergesBelow n g t0))) rows0
 
 -- a turn of the loop
-pub record Turn (n : ℕ) (g : Geometry) (ws0 one0 two0 three0 : List ℕ) (r0 : Run) (rows0 : List (List ℕ)) (ws one two three : List ℕ) (r : Run) (rows : List (List ℕ)) (filed : ℕ) : Type 0 where
-  pub goes : Goes n g ws0 one0 two0 three0 r0 ws one two three r
-  pub files : Files n g (storeOf g ws0 one0 two0 three0 r0) rows0 (goes .steps) (storeOf g ws one two three r) rows filed
+pub record Turn (n : ℕ) (g : Geometry) (ws0 lists0 : List ℕ) (r0 : Run) (rows0 : List (List ℕ)) (ws lists : List ℕ) (r : Run) (rows : List (List ℕ)) (filed : ℕ) : Type 0 where
+  pub goes : Goes n g ws0 lists0 r0 ws lists r
+  pub files : Files n g (storeOf g ws0 lists0 r0) rows0 (goes .steps) (storeOf g ws lists r) rows filed
 
-goes-first : (n : ℕ) (g : Geometry) (ws one two three : List ℕ) (r : Run) → Rolling n g ws one two three r → Goes n g ws one two three r ws one two three r
-goes-first n g ws one two three r k = record { steps = n; rolling = k; rest = record { store = refl; area = refl; one = refl; two = refl; three = refl } }
+goes-first : (n : ℕ) (g : Geometry) (ws lists : List ℕ) (r : Run) → Rolling n g ws lists r → Goes n g ws lists r ws lists r
+goes-first n g ws lists r k = record { steps = n; rolling = k; rest = record { store = refl; area = refl; one = refl; two = refl; three = refl } }
 
-pub turn-first : (n : ℕ) (g : Geometry) (ws one two three : List ℕ) (r : Run) (rows : List (List ℕ)) → Rolling n g ws one two three r → Turn n g ws one two three r rows ws one two three r rows 1
+pub turn-first : (n : ℕ) (g : Geometry) (ws lists : List ℕ) (r : Run) (rows : List (List ℕ)) → Rolling n g ws lists r → Turn n g ws lists r rows ws lists r rows 1
 unfolding goes-first
-turn-first n g ws one two three r rows k = record { goes = goes-first n g ws one two three r k; files = record { low = omega arith; long = refl; tickets = refl } }
+turn-first n g ws lists r rows k = record { goes = goes-first n g ws lists r k; files = record { low = omega arith; long = refl; tickets = refl } }
 
-module _ (n : ℕ) (g : Geometry) (ws0 one0 two0 three0 : List ℕ) (r0 : Run) (ws one two three : List ℕ) (r : Run) (k : Goes n g ws0 one0 two0 three0 r0 ws one two three r) (d : ℕ) (ed : d ≡ deepestFor g (g .h) (r .n1) (r .n2)) where
+module _ (n : ℕ) (g : Geometry) (ws0 lists0 : List ℕ) (r0 : Run) (ws lists : List ℕ) (r : Run) (k : Goes n g ws0 lists0 r0 ws lists r) (d : ℕ) (ed : d ≡ deepestFor g (r .ns) (g .h - 1)) where
   abbrev pub t : Store
-  t = storeOf g ws one two three r
+  t = storeOf g ws lists r
 
   deepest : d ≡ deepestOver g (g .h - 1) t
-  deepest = let s = k .rolling .stands in deepest-is g t (r .n1) (r .n2) d (k .rolling .valid .ranged) (s .first .count) (s .second .count) ed
+  deepest = ed ∙ deepest-is g t (r .ns) (count-is (g .h) lists (r .ns) t (k .rolling .inside .many) (k .rolling .stands .listed)) (g .h - 1)
 
   -- nothing is over its capacity
-  pub goes-last : (u : Run) → u ≡ r → d ≡ 0 → (t0 : Store) → t0 ≡ storeOf g ws0 one0 two0 three0 r0 → Leaving g (afterMerges t0 (mergesBelow n g t0)) (writtenBlocks (mergesBelow n g t0)) (listCounts (mergesBelow n g t0)) ws0 r0 ws one two three u
+  pub goes-last : (u : Run) → u ≡ r → d ≡ 0 → (t0 : Store) → t0 ≡ storeOf g ws0 lists0 r0 → Leaving g (afterMerges t0 (mergesBelow n g t0)) (writtenBlocks (mergesBelow n g t0)) (listCounts (mergesBelow n g t0)) ws0 r0 ws lists u
   unfolding countsOf writeBlocks
   goes-last u eu z t0 et =
       let q : mergesBelow (k .steps) g t ≡ [] = below-stop (k .steps) g t (sym deepest ∙ z) in
       let e = k .rest in
-      let f = subst (λ (ms : List Merge). Rest g (storeOf g ws0 one0 two0 three0 r0) (mergesBelow n g (storeOf g ws0 one0 two0 three0 r0)) ws0 r0 t ms ws r) q e in
+      let f = subst (λ (ms : List Merge). Rest g (storeOf g ws0 lists0 r0) (mergesBelow n g (storeOf g ws0 lists0 r0)) ws0 r0 t ms ws r) q e in
       rw (et, eu)
       (record {
-        stands = subst (λ (y : Store). Stands g y ws one two three r) (f .store) (k .rolling .stands);
+        stands = subst (λ (y : Store). Stands g y ws lists r) (f .store) (k .rolling .stands);
         area = f .area;
         counts = record { one = none (numbersOf (r .tally .one)) ∙ f .one; two = none (numbersOf (r .tally .two)) ∙ f .two; three = none (numbersOf (r .tally .three)) ∙ f .three };
       })
@@ -111,8 +112,8 @@ module _ (n : ℕ) (g : Geometry) (ws0 one0 two0 three0 : List ℕ) (r0 : Run) (
       none c = same-counts c (record { merges = 0; written = 0; compacted = 0 }) refl refl refl
 
   -- and then all tickets are filed
-  pub files-last : (rows0 rows : List (List ℕ)) (filed : ℕ) → Files n g (storeOf g ws0 one0 two0 three0 r0) rows0 (k .steps) t rows filed → d ≡ 0
-      → (t0 : Store) → t0 ≡ storeOf g ws0 one0 two0 three0 r0 → rows ≡ laidFrom 1 (rowsOf (ticketsOf g (mergesBelow n g t0))) rows0
+  pub files-last : (rows0 rows : List (List ℕ)) (filed : ℕ) → Files n g (storeOf g ws0 lists0 r0) rows0 (k .steps) t rows filed → d ≡ 0
+      → (t0 : Store) → t0 ≡ storeOf g ws0 lists0 r0 → rows ≡ laidFrom 1 (rowsOf (ticketsOf g (mergesBelow n g t0))) rows0
   unfolding rowsOf
   files-last rows0 rows filed f z t0 et =
       let q : mergesBelow (k .steps) g t ≡ [] = below-stop (k .steps) g t (sym deepest ∙ z) in
@@ -127,7 +128,7 @@ module _ (n : ℕ) (g : Geometry) (ws0 one0 two0 three0 : List ℕ) (r0 : Run) (
     facts : MergeFacts g (k .rolling .entry) (mergeLevel g (suc j) t)
     facts = let p = k .rolling in next-facts g (p .entry) t j (p .valid) (p .entry-is) (p .inside) (p .ruled) (sym deepest ∙ dj)
 
-    pub goes-asks : StepReady 1900000000 g ws one two three d r
+    pub goes-asks : StepReady 1900000000 g ws lists d r
     goes-asks =
         let p = k .rolling in
         record {
@@ -142,16 +143,16 @@ module _ (n : ℕ) (g : Geometry) (ws0 one0 two0 three0 : List ℕ) (r0 : Run) (
     falls : load (rows (afterMerge (mergeLevel g (suc j) t))) < load (rows t)
     falls = omega (arith, facts .falls, ap (λ (x : Store). load (rows x)) (merge-start g (suc j) t))
 
-    module _ (ws' one' two' three' : List ℕ) (r' : Run)
-        (l : Leaving g (afterMerge (mergeLevel g d t)) (mergeLevel g d t .written ++ compactedBlocks (mergeLevel g d t .compactions)) (stepCounts (mergeLevel g d t)) ws r ws' one' two' three' r') where
-      left : let m : Merge = mergeLevel g (suc j) t in Leaving g (afterMerge m) (m .written ++ compactedBlocks (m .compactions)) (stepCounts m) ws r ws' one' two' three' r'
-      left = subst (λ (i : ℕ). let m : Merge = mergeLevel g i t in Leaving g (afterMerge m) (m .written ++ compactedBlocks (m .compactions)) (stepCounts m) ws r ws' one' two' three' r') dj l
+    module _ (ws' lists' : List ℕ) (r' : Run)
+        (l : Leaving g (afterMerge (mergeLevel g d t)) (mergeLevel g d t .written ++ compactedBlocks (mergeLevel g d t .compactions)) (stepCounts (mergeLevel g d t)) ws r ws' lists' r') where
+      left : let m : Merge = mergeLevel g (suc j) t in Leaving g (afterMerge m) (m .written ++ compactedBlocks (m .compactions)) (stepCounts m) ws r ws' lists' r'
+      left = subst (λ (i : ℕ). let m : Merge = mergeLevel g i t in Leaving g (afterMerge m) (m .written ++ compactedBlocks (m .compactions)) (stepCounts m) ws r ws' lists' r') dj l
 
-      pub goes-less : load (rows (storeOf g ws' one' two' three' r')) < load (rows t)
+      pub goes-less : load (rows (storeOf g ws' lists' r')) < load (rows t)
       unfolding left
       goes-less = omega (arith, falls, ap (λ (x : Store). load (rows x)) (left .stands .store))
 
-      pub goes-on : Goes n g ws0 one0 two0 three0 r0 ws' one' two' three' r'
+      pub goes-on : Goes n g ws0 lists0 r0 ws' lists' r'
       unfolding left
       goes-on =
           let p = k .rolling in
@@ -160,10 +161,10 @@ module _ (n : ℕ) (g : Geometry) (ws0 one0 two0 three0 : List ℕ) (r0 : Run) (
           let s = left .stands in
           let f = facts in
           let st = k .steps in
-          let e = subst (λ (ms : List Merge). Rest g (storeOf g ws0 one0 two0 three0 r0) (mergesBelow n g (storeOf g ws0 one0 two0 three0 r0)) ws0 r0 t ms ws r) more (k .rest) in
+          let e = subst (λ (ms : List Merge). Rest g (storeOf g ws0 lists0 r0) (mergesBelow n g (storeOf g ws0 lists0 r0)) ws0 r0 t ms ws r) more (k .rest) in
           let ms : List Merge = mergesBelow (st - 1) g y in
           let count : (i : ℕ) (c c' : levels.Counts) → c' ≡ plus c (stepCounts m i) → plus c' (countsOf i ms) ≡ plus c (countsOf i (m ∷ ms)) = λ i c c' a. ap (λ (z : levels.Counts). plus z (countsOf i ms)) a ∙ plus-assoc c (stepCounts m i) (countsOf i ms) ∙ ap (plus c) (sym (counts-cons m ms i)) in
-          let now : Rest g (storeOf g ws0 one0 two0 three0 r0) (mergesBelow n g (storeOf g ws0 one0 two0 three0 r0)) ws0 r0 y ms ws' r' = record {
+          let now : Rest g (storeOf g ws0 lists0 r0) (mergesBelow n g (storeOf g ws0 lists0 r0)) ws0 r0 y ms ws' r' = record {
             store = e .store;
             area = ap (λ (z : List ℕ). writeBlocks g z (writtenBlocks ms)) (left .area) ∙ sym (writes-append g (areaOf g ws) (m .written ++ compactedBlocks (m .compactions)) (writtenBlocks ms))
                 ∙ ap (writeBlocks g (areaOf g ws)) (append-assoc (m .written) (compactedBlocks (m .compactions)) (writtenBlocks ms)) ∙ e .area;
@@ -179,18 +180,18 @@ module _ (n : ℕ) (g : Geometry) (ws0 one0 two0 three0 : List ℕ) (r0 : Run) (
               entry-is = p .entry-is;
               inside = rw (s .store) (f .five .inside);
               ruled = rw (s .store) (f .after-ruled);
-              stands = subst (λ (z : Store). Stands g z ws' one' two' three' r') (sym (s .store)) s;
+              stands = subst (λ (z : Store). Stands g z ws' lists' r') (sym (s .store)) s;
               load-low = omega (arith, goes-less, p .load-low);
               bound = p .bound + 16384;
               small = grown-small (stepCounts m) (r .tally) (r' .tally) (p .bound) (p .bound + 16384) 16384 (step-low g (p .entry) m (p .valid) f) (omega arith) (p .small) (left .counts);
               bound-low = omega (arith, p .bound-low, p .load-low, goes-less);
             };
-            rest = subst (λ (z : Store). Rest g (storeOf g ws0 one0 two0 three0 r0) (mergesBelow n g (storeOf g ws0 one0 two0 three0 r0)) ws0 r0 z (mergesBelow (st - 1) g z) ws' r') (sym (s .store)) now;
+            rest = subst (λ (z : Store). Rest g (storeOf g ws0 lists0 r0) (mergesBelow n g (storeOf g ws0 lists0 r0)) ws0 r0 z (mergesBelow (st - 1) g z) ws' r') (sym (s .store)) now;
           }
 
       -- its ticket is filed
-      pub files-on : (rows0 rows rows' : List (List ℕ)) (filed : ℕ) (x : Ticket) → Files n g (storeOf g ws0 one0 two0 three0 r0) rows0 (k .steps) t rows filed → x ≡ ticketOf g (mergeLevel g d t) → rows' ≡ set rows filed (rowOf x)
-          → Files n g (storeOf g ws0 one0 two0 three0 r0) rows0 (goes-on .steps) (storeOf g ws' one' two' three' r') rows' (filed + 1)
+      pub files-on : (rows0 rows rows' : List (List ℕ)) (filed : ℕ) (x : Ticket) → Files n g (storeOf g ws0 lists0 r0) rows0 (k .steps) t rows filed → x ≡ ticketOf g (mergeLevel g d t) → rows' ≡ set rows filed (rowOf x)
+          → Files n g (storeOf g ws0 lists0 r0) rows0 (goes-on .steps) (storeOf g ws' lists' r') rows' (filed + 1)
       unfolding goes-on left rowsOf
       files-on rows0 rows rows' filed x f ex er =
           let m : Merge = mergeLevel g (suc j) t in

@@ -1,11 +1,10 @@
 -- All merges of a call whose level 0 is full.
 use Prim.Native.Nat.{ℕ, suc, _+_, _-_, _≤_, _<_}
-use mathlib.Core.Path.{_≡_, refl, sym, ap, _∙_, subst}
-use mathlib.Core.List.{List, [], _∷_, _++_, append-assoc}
-use mathlib.Core.Logic.{dite}
-use native.Mathlib.Decide.{decLt, ℕ-discrete}
+use mathlib.Core.Path.{_≡_, sym, ap, _∙_, subst}
+use mathlib.Core.List.{List, _∷_, _++_, append-assoc}
+use native.Mathlib.Decide.{ℕ-discrete}
 use native.Mathlib.Omega.{arith}
-use lib.ListN.{length, take, getD, set, List·getD-eq-default}
+use lib.ListN.{length, set}
 use Rattle.geometry.specs.declared.Geometry.{Geometry}
 use Rattle.geometry.specs.Geometry.{Valid, capacityOf, topCapacityOf, storeLength}
 use Rattle.levels.specs.Store.{Store, rows, blocksOf}
@@ -28,17 +27,14 @@ use Rattle.words.specs.Calls.{compactedBlocks, writtenBlocks, leftWords}
 use Rattle.words.specs.Rows.{rowOf, rowsOf, laidFrom}
 use Rattle.words.proofs.Rows.{laid-first}
 use Rattle.words.proofs.State.{Holds, words-hold, cursor-held, top-count-held, count-held}
-use Rattle.words.specs.Form.{roomOf}
-use Rattle.words.proofs.Form.{room-level}
-use Rattle.lists.specs.Lists.{withLists}
-use Rattle.lists.proofs.Laws.{placesIn, but-held, lists-back}
-use Rattle.lists.proofs.Arrays.{three-places, count-room, places-listed}
+use Rattle.lists.specs.Lists.{listsOf, Listed, placesAt, Fitting, withLists}
+use Rattle.lists.proofs.Laws.{but-held, lists-back}
+use Rattle.lists.proofs.Arrays.{listed-same, count-is, places-listed}
 use Rattle.steps.specs.declared.Tally.{Tally}
 use Rattle.steps.specs.declared.Run.{Run}
-use Rattle.steps.specs.Running.{storeOf, Listed, Stands, numbersOf, plus, Few, Small, Leaving, StepReady, stepCounts}
+use Rattle.steps.specs.Running.{storeOf, Stands, numbersOf, plus, Few, Small, Leaving, StepReady, stepCounts}
 use Rattle.cascade.specs.Cascade.{Rolling, listCounts, FullStore, Loaded, MergedAll}
-use Rattle.steps.proofs.Standing.{stand}
-use Rattle.steps.proofs.Relisting.{top-fits}
+use Rattle.steps.proofs.Standing.{stand, top-fits}
 use Rattle.steps.proofs.Chaining.{grown-small, leaving-chain}
 use Rattle.cascade.proofs.Rolling.{counts-cons, step-low}
 
@@ -64,15 +60,11 @@ module _ (g : Geometry) (ws : List ℕ) (k : FullStore g ws) where
   holds = subst (λ (x : List ℕ). Holds g x s0) (k .passed .written) (words-hold g s0 (areaOf g ws) (k .passed .valid) (k .passed .fits) (k .passed .laid .full) (k .passed .laid))
 
   -- what `load` asks
-  pub load-asks : (i level : ℕ) → level ≡ suc i → i < 3 → Valid g × ((length ws ≡ storeLength g) × ((1 ≤ level) × ((level ≤ 3) × (countAt ws level ≤ roomOf g level))))
-  load-asks i level e h = (k .passed .valid, (k .passed .long, (omega (arith, e), (omega (arith, e), rw e (count-room g ws s0 (k .passed .valid) (k .passed .fits) holds i h)))))
-
-  listed : (i level : ℕ) (list : List ℕ) (n : ℕ) → level ≡ suc i → i < 3 → (n ≡ countAt ws level) × ((take n list ≡ listedAt g ws level) × (length list ≡ 4096)) → Listed s0 i list n
-  listed i level list n e h l = record {
-    long = l .1 .1;
-    count = l .0 ∙ ap (countAt ws) e ∙ count-held g ws s0 (k .passed .valid) (k .passed .fits) holds i h;
-    places = l .1 .0 ∙ ap (listedAt g ws) e ∙ places-listed g ws s0 (k .passed .valid) (k .passed .fits) holds i h;
-  }
+  pub load-asks : (lists : List ℕ) → length lists ≡ 4096 → Valid g × ((length ws ≡ storeLength g) × ((length lists ≡ 4096) × ((i : ℕ) → i < g .h → countAt ws (suc i) ≤ capacityOf g (suc i))))
+  load-asks lists l =
+      let v = k .passed .valid in
+      let f = k .passed .fits in
+      (v, (k .passed .long, (l, λ i h. rw (count-held g ws s0 v f holds i (omega (arith, v .ranged .h-high))) (f .level-fits i h))))
 
   inside : Inside g s0 s0
   inside = entry-inside g s0 (k .passed .valid) (k .passed .fits) (k .passed .sound)
@@ -81,15 +73,16 @@ module _ (g : Geometry) (ws : List ℕ) (k : FullStore g ws) where
   pub cursor-small : cursorAt ws ≤ 8192
   cursor-small = omega (arith, cursor-held g ws s0 (k .passed .valid) (k .passed .fits) holds, k .passed .sound .cursor-inside, k .passed .valid .places-high)
 
-  pub loaded : (one two three : List ℕ) (r : Run) → (r .n1 ≡ countAt ws 1) × ((take (r .n1) one ≡ listedAt g ws 1) × (length one ≡ 4096)) → (r .n2 ≡ countAt ws 2) × ((take (r .n2) two ≡ listedAt g ws 2) × (length two ≡ 4096))
-      → (r .n3 ≡ countAt ws 3) × ((take (r .n3) three ≡ listedAt g ws 3) × (length three ≡ 4096)) → r .cursor ≡ cursorAt ws
+  pub loaded : (lists : List ℕ) (r : Run) → Listed (g .h) (g .h) lists (r .ns) (λ j. listedAt g ws (suc j)) → r .cursor ≡ cursorAt ws
       → r .tally ≡ record { one = record { merges = 0; written = 0; compacted = 0 }; two = record { merges = 0; written = 0; compacted = 0 }; three = record { merges = 0; written = 0; compacted = 0 } }
-      → Loaded g ws one two three r
-  loaded one two three r a b c d z = record {
-    stands = stand g s0 s0 ws one two three r (k .passed .valid) inside (but-held g ws s0 (k .passed .valid) (k .passed .fits) holds) (k .passed .fits .top-fits)
-        (listed 0 1 one (r .n1) refl (omega arith) a) (listed 1 2 two (r .n2) refl (omega arith) b) (listed 2 3 three (r .n3) refl (omega arith) c) (d ∙ cursor-held g ws s0 (k .passed .valid) (k .passed .fits) holds);
-    none = z;
-  }
+      → Loaded g ws lists r
+  loaded lists r l d z =
+      let v = k .passed .valid in
+      let f = k .passed .fits in
+      record {
+        stands = stand g s0 s0 ws lists r v inside (but-held g ws s0 v f holds) (f .top-fits) (listed-same (g .h) (g .h) lists (r .ns) (λ j. listedAt g ws (suc j)) (placesAt s0) l (places-listed g ws s0 v f holds)) (d ∙ cursor-held g ws s0 v f holds);
+        none = z;
+      }
 
   full : length (s0 .top) ≡ topCapacityOf g
   full = sym (top-count-held g ws s0 (k .passed .valid) (k .passed .fits) holds) ∙ k .full
@@ -97,19 +90,19 @@ module _ (g : Geometry) (ws : List ℕ) (k : FullStore g ws) where
   facts : MergeFacts g s0 m0
   facts = first-facts g s0 (k .passed .valid) (k .passed .fits) (k .passed .sound) full
 
-  module _ (one two three : List ℕ) (r : Run) (l : Loaded g ws one two three r) where
-    is : storeOf g ws one two three r ≡ s0
+  module _ (lists : List ℕ) (r : Run) (l : Loaded g ws lists r) where
+    is : storeOf g ws lists r ≡ s0
     is = l .stands .store
 
     none-few : (n : ℕ) → Small n (r .tally)
     none-few n = let few : Few n (record { merges = 0; written = 0; compacted = 0 }) = record { merges = omega arith; written = omega arith; compacted = omega arith } in rw (l .none) (record { one = few; two = few; three = few })
 
     -- what the first merge asks
-    pub first-ready : StepReady 1900000000 g ws one two three 0 r
+    pub first-ready : StepReady 1900000000 g ws lists 0 r
     first-ready = record {
       valid = k .passed .valid;
       entry = s0;
-      stands = subst (λ (x : Store). Stands g x ws one two three r) (sym is) (l .stands);
+      stands = subst (λ (x : Store). Stands g x ws lists r) (sym is) (l .stands);
       facts = subst (λ (x : Store). MergeFacts g s0 (mergeLevel g 0 x)) (sym is) facts;
       full = λ z. ap (λ (x : Store). length (x .top)) is ∙ full;
       small = none-few 1900000000;
@@ -121,10 +114,10 @@ module _ (g : Geometry) (ws : List ℕ) (k : FullStore g ws) where
     load-falls : load (rows (afterMerge m0)) < load (rows s0)
     load-falls = omega (arith, facts .falls, ap (λ (x : Store). load (rows x)) (merge-start g 0 s0))
 
-    module _ (ws1 one1 two1 three1 : List ℕ) (r1 : Run)
-        (a : Leaving g (afterMerge m0) (m0 .written ++ compactedBlocks (m0 .compactions)) (stepCounts m0) ws r ws1 one1 two1 three1 r1) where
+    module _ (ws1 lists1 : List ℕ) (r1 : Run)
+        (a : Leaving g (afterMerge m0) (m0 .written ++ compactedBlocks (m0 .compactions)) (stepCounts m0) ws r ws1 lists1 r1) where
       -- what the later merges ask
-      pub below-ready : Rolling 98304 g ws1 one1 two1 three1 r1
+      pub below-ready : Rolling 98304 g ws1 lists1 r1
       below-ready =
           let s = a .stands in
           record {
@@ -133,7 +126,7 @@ module _ (g : Geometry) (ws : List ℕ) (k : FullStore g ws) where
             entry-is = entry-of g s0 (k .passed .valid) (k .passed .fits) (k .passed .sound);
             inside = rw (s .store) (facts .five .inside);
             ruled = rw (s .store) (facts .after-ruled);
-            stands = subst (λ (z : Store). Stands g z ws1 one1 two1 three1 r1) (sym (s .store)) s;
+            stands = subst (λ (z : Store). Stands g z ws1 lists1 r1) (sym (s .store)) s;
             load-low = omega (arith, load-falls, load-high, ap (λ (x : Store). load (rows x)) (s .store));
             bound = 16384;
             small = grown-small (stepCounts m0) (r .tally) (r1 .tally) 0 16384 16384 (step-low g s0 m0 (k .passed .valid) facts) (omega arith) (none-few 0) (a .counts);
@@ -169,47 +162,38 @@ module _ (g : Geometry) (ws : List ℕ) (k : FullStore g ws) where
               (inside-bottom g s0 end (listing .inside) (k .passed .valid) (entry-of g s0 (k .passed .valid) (k .passed .fits) (k .passed .sound)) (listing .ruled))
           last (no z) = deepest-says g end (g .h - 1) 0 (from-ends g s0 (k .passed .valid) (k .passed .fits) (k .passed .sound) full) .0 i (omega arith) (omega arith)
 
-      module _ (ws2 one2 two2 three2 : List ℕ) (r2 : Run)
-          (b : Leaving g (afterMerges (afterMerge m0) later) (writtenBlocks later) (listCounts later) ws1 r1 ws2 one2 two2 three2 r2) where
-        end-stands : Stands g end ws2 one2 two2 three2 r2
-        end-stands = subst (λ (ms : List Merge). Stands g (afterMerges s0 ms) ws2 one2 two2 three2 r2) (sym all-is) (b .stands)
+      module _ (ws2 lists2 : List ℕ) (r2 : Run)
+          (b : Leaving g (afterMerges (afterMerge m0) later) (writtenBlocks later) (listCounts later) ws1 r1 ws2 lists2 r2) where
+        end-stands : Stands g end ws2 lists2 r2
+        end-stands = subst (λ (ms : List Merge). Stands g (afterMerges s0 ms) ws2 lists2 r2) (sym all-is) (b .stands)
 
         end-fits : Fits g end
         end-fits = record {
           level-count = listing .inside .many;
-          top-fits = top-fits g end ws2 one2 two2 three2 r2 end-stands;
+          top-fits = top-fits g s0 end ws2 lists2 r2 (k .passed .valid) (listing .inside) end-stands;
           level-fits = λ i h. ends-within (suc i) (omega arith) h;
           blocks-fit = inside-fit g s0 end (listing .inside);
         }
 
-        room : (i : ℕ) (list : List ℕ) (n : ℕ) → Listed end i list n → n ≤ roomOf g (suc i)
-        room i list n l =
-            dite (decLt i (g .h))
-            (λ y. rw (room-level g (suc i) y) (omega (arith, l .count, end-fits .level-fits i y)))
-            (λ y. let z : getD (end .levels) i [] ≡ [] = List·getD-eq-default (end .levels) [] (omega (arith, listing .inside .many)) in
-            let c : n ≡ 0 = l .count ∙ ap length z in rw c (omega arith))
-
         -- what `store_back` asks
-        pub back-ready : Valid g × ((length ws2 ≡ storeLength g) × ((r2 .n1 ≤ roomOf g 1) × ((r2 .n2 ≤ roomOf g 2) × ((r2 .n3 ≤ roomOf g 3) × (r2 .cursor < g .p)))))
+        pub back-ready : Valid g × ((length ws2 ≡ storeLength g) × (Fitting g lists2 (r2 .ns) × (r2 .cursor < g .p)))
         back-ready =
             let s = end-stands in
-            (k .passed .valid, (s .held .long, (room 0 one2 (r2 .n1) (s .first), (room 1 two2 (r2 .n2) (s .second), (room 2 three2 (r2 .n3) (s .third), omega (arith, s .cursor, listing .inside .cursor))))))
+            let c = count-is (g .h) lists2 (r2 .ns) end (listing .inside .many) (s .listed) in
+            (k .passed .valid, (s .held .long, (record { long = s .listed .long; three = s .listed .three; fit = λ j h. omega (arith, c j, end-fits .level-fits j h); none = s .listed .none }, omega (arith, s .cursor, listing .inside .cursor))))
 
         -- what is left at the end
-        pub merged-all : (ws3 : List ℕ) → ws3 ≡ withLists g ws2 (r2 .cursor) (take (r2 .n1) one2 ∷ take (r2 .n2) two2 ∷ take (r2 .n3) three2 ∷ []) → MergedAll g ws ws3 (r2 .tally)
+        pub merged-all : (ws3 : List ℕ) → ws3 ≡ withLists g ws2 (r2 .cursor) (r2 .ns) (listsOf (g .h) lists2 (r2 .ns)) → MergedAll g ws ws3 (r2 .tally)
         unfolding leftWords
         merged-all ws3 e =
             let s = end-stands in
-            let v = k .passed .valid in
-            let ls = take (r2 .n1) one2 ∷ take (r2 .n2) two2 ∷ take (r2 .n3) three2 ∷ [] in
-            let q : take (g .h) ls ≡ placesIn (end .levels) = three-places (g .h) (end .levels) _ _ _ (listing .inside .many) (v .ranged .h-high) (s .first .places) (s .second .places) (s .third .places) in
-            let c = leaving-chain g _ _ _ _ _ _ ws r ws1 one1 two1 three1 r1 ws2 one2 two2 three2 r2 a b in
+            let c = leaving-chain g _ _ _ _ _ _ ws r ws1 lists1 r1 ws2 lists2 r2 a b in
             let area : areaOf g ws2 ≡ writeBlocks g (areaOf g ws) (writtenBlocks all) =
             c .area ∙ ap (writeBlocks g (areaOf g ws)) (append-assoc (m0 .written) (compactedBlocks (m0 .compactions)) (writtenBlocks later) ∙ ap writtenBlocks (sym all-is)) in
             let counts : (j : ℕ) (x : levels.Counts) → x ≡ plus (record { merges = 0; written = 0; compacted = 0 }) (plus (stepCounts m0 j) (countsOf j later)) → x ≡ countsOf j all =
             λ j x d. d ∙ zero-plus (plus (stepCounts m0 j) (countsOf j later)) ∙ sym (counts-cons m0 later j) ∙ ap (countsOf j) (sym all-is) in
             record {
-              words = e ∙ ap (λ (x : ℕ). withLists g ws2 x ls) (s .cursor) ∙ lists-back g ws2 end v end-fits (s .held) ls q ∙ ap (storeWords g end) area;
+              words = e ∙ ap (λ (x : ℕ). withLists g ws2 x (r2 .ns) (listsOf (g .h) lists2 (r2 .ns))) (s .cursor) ∙ lists-back g ws2 end (k .passed .valid) end-fits (s .held) lists2 (r2 .ns) (s .listed) ∙ ap (storeWords g end) area;
               one = counts 1 _ (c .counts .one ∙ ap (λ (z : Tally). plus (numbersOf (z .one)) (plus (stepCounts m0 1) (countsOf 1 later))) (l .none));
               two = counts 2 _ (c .counts .two ∙ ap (λ (z : Tally). plus (numbersOf (z .two)) (plus (stepCounts m0 2) (countsOf 2 later))) (l .none));
               three = counts 3 _ (c .counts .three ∙ ap (λ (z : Tally). plus (numbersOf (z .three)) (plus (stepCounts m0 3) (countsOf 3 later))) (l .none));

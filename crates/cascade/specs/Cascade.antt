@@ -1,9 +1,10 @@
 -- All merges of a call, one after the other: what they ask, and what they leave.
-use Prim.Native.Nat.{ℕ, _+_, _*_, _≤_}
+use Prim.Native.Nat.{ℕ, zero, suc, _+_, _*_, _≤_}
 use mathlib.Core.Path.{_≡_}
-use mathlib.Core.Bool.{true, false, _&&_}
+use mathlib.Core.Bool.{true, false}
 use mathlib.Core.List.{List}
-use lib.Dec.{ltb, eqb}
+use lib.Dec.{ltb}
+use lib.ListN.{getD}
 use Rattle.geometry.specs.declared.Geometry.{Geometry}
 use Rattle.geometry.specs.Geometry.{Valid, capacityOf, topCapacityOf}
 use Rattle.levels.specs.Store.{Store, rows}
@@ -17,9 +18,10 @@ use Rattle.steps.specs.declared.Tally.{Tally}
 use Rattle.steps.specs.declared.Run.{Run}
 use Rattle.steps.specs.Running.{storeOf, Stands, numbersOf, countsBefore, Small}
 
--- the deepest level over its capacity, by the lengths of levels 1 and 2
-unfoldable pub deepestFor : Geometry → ℕ → ℕ → ℕ → ℕ
-deepestFor g h n1 n2 = elim (eqb h 3 && ltb (capacityOf g 2) n2) [ true ↦ 2 | false ↦ elim (ltb 1 h && ltb (capacityOf g 1) n1) [ true ↦ 1 | false ↦ 0 ] ]
+-- the deepest of the levels 1 to i that is over its capacity, by the lengths of their lists; 0 if there is none
+unfoldable pub deepestFor : Geometry → List ℕ → ℕ → ℕ
+deepestFor g ns zero = 0
+deepestFor g ns (suc i) = elim (ltb (capacityOf g (suc i)) (getD ns i 0)) [ true ↦ suc i | false ↦ deepestFor g ns i ]
 
 -- The largest load that a store has: at most so many merges follow each other in a call.
 abbrev pub loadMost : ℕ
@@ -27,14 +29,14 @@ loadMost = 98304
 
 -- A moment of a call between two merges, with at most so many to come: the load falls with each. A merge adds at most 16,384 to a
 -- count, so that the bound leaves room for all of them.
-pub record Rolling (steps : ℕ) (g : Geometry) (ws one two three : List ℕ) (r : Run) : Type 0 where
+pub record Rolling (steps : ℕ) (g : Geometry) (ws lists : List ℕ) (r : Run) : Type 0 where
   pub valid : Valid g
   pub entry : Store
   pub entry-is : Entry g entry
-  pub inside : Inside g entry (storeOf g ws one two three r)
-  pub ruled : Ruled g (storeOf g ws one two three r)
-  pub stands : Stands g (storeOf g ws one two three r) ws one two three r
-  pub load-low : load (rows (storeOf g ws one two three r)) ≤ steps
+  pub inside : Inside g entry (storeOf g ws lists r)
+  pub ruled : Ruled g (storeOf g ws lists r)
+  pub stands : Stands g (storeOf g ws lists r) ws lists r
+  pub load-low : load (rows (storeOf g ws lists r)) ≤ steps
   pub bound : ℕ
   pub small : Small bound (r .tally)
   pub bound-low : bound + 16384 * steps ≤ countsBefore
@@ -50,8 +52,8 @@ pub record FullStore (g : Geometry) (ws : List ℕ) : Type 0 where
   pub full : topCountAt ws ≡ topCapacityOf g
 
 -- the lists taken out of such words
-pub record Loaded (g : Geometry) (ws one two three : List ℕ) (r : Run) : Type 0 where
-  pub stands : Stands g (storeAt g ws) ws one two three r
+pub record Loaded (g : Geometry) (ws lists : List ℕ) (r : Run) : Type 0 where
+  pub stands : Stands g (storeAt g ws) ws lists r
   pub none : r .tally ≡ record { one = record { merges = 0; written = 0; compacted = 0 }; two = record { merges = 0; written = 0; compacted = 0 }; three = record { merges = 0; written = 0; compacted = 0 } }
 
 -- all merges of a call made: the words afterwards, and the counts

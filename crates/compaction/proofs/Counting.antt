@@ -6,13 +6,13 @@ use mathlib.Core.List.{List, [], _∷_, _++_, map, append-nil}
 use native.Mathlib.Numerals.{add-one}
 use native.Mathlib.Nat.{mul-le-mul}
 use native.Mathlib.Omega.{arith}
-use lib.ListN.{length, getD, take, length-append, length-map}
-use lib.Seq.{length-take-le}
+use lib.ListN.{length, getD, length-append, length-map}
+use lib.Seq.{take-all}
 use Rattle.geometry.specs.declared.Geometry.{Geometry}
 use Rattle.levels.specs.Record.{Rec, Block, records}
 use Rattle.levels.specs.Waste.{wasteful, needsCompact}
 use Rattle.levels.proofs.Levels.{records-append}
-use Rattle.words.specs.Layout.{blockAt}
+use Rattle.words.specs.Layout.{blockAt, recordCount}
 use Rattle.blocks.specs.declared.Layout.{Layout}
 use Rattle.blocks.specs.Blocks.{layoutOf, startOf}
 use Rattle.blocks.proofs.Laws.{sized-of, start-place}
@@ -55,22 +55,21 @@ module _ (z : Layout) (ws list : List ℕ) where
   sum-high zero f = omega arith
   sum-high (suc n) f = omega (arith, sum-high n (λ i h. f i (omega arith)), f n (omega arith))
 
+-- the blocks that the machine reads are the store's
+pub all-blocks : (g : Geometry) (ws list : List ℕ) → ((i : ℕ) → i < length list → recordCount g ws (getD list i 0) ≤ g .b) → blocks (layoutOf g) false ws list 0 (length list) ≡ map (blockAt g ws) list
+all-blocks g ws list f = blocks-listed g ws list 0 (length list) (omega arith) (λ i h. f i (omega arith)) ∙ ap (map (blockAt g ws)) (take-all (length list) list (omega arith))
+
 -- each sum on the way is small: 2,048 blocks of at most 16 records
-pub sum-low : (z : Layout) (ws list : List ℕ) (n : ℕ) → Summable z ws list n → (i : ℕ) → i < n → recordSum z ws list i + getD ws (startOf z (getD list i 0)) 0 ≤ 32784
-sum-low z ws list n k i h =
+pub sum-low : (z : Layout) (ws list : List ℕ) → Summable z ws list → (i : ℕ) → i < length list → recordSum z ws list i + getD ws (startOf z (getD list i 0)) 0 ≤ 32784
+sum-low z ws list k i h =
     let few = k .few in
     let m : i ≤ 2048 = omega arith in
     omega (arith, sum-high z ws list i (λ j l. k .high j (omega arith)), mul-le-mul m (k .sized .b-high), k .high i h)
 
-module _ (g : Geometry) (ws list : List ℕ) (n : ℕ) (k : Countable g ws list n) where
-  pub summable : Summable (layoutOf g) ws list n
+module _ (g : Geometry) (ws list : List ℕ) (k : Countable g ws list) where
+  pub summable : Summable (layoutOf g) ws list
   summable = record { sized = sized-of g ws (k .valid) (k .words); few = k .few; place = k .place; high = λ i h. rw (start-place g (getD list i 0)) (k .high i h) }
 
   -- the level rule, of the blocks' number and that of their records
-  pub needs-is : wasteful (g .b) n (recordSum (layoutOf g) ws list n) ≡ needsCompact (g .b) (map (blockAt g ws) (take n list))
-  needs-is =
-      let few = k .few in
-      let long = k .list-long in
-      let l : length (map (blockAt g ws) (take n list)) ≡ n = length-map (take n list) _ ∙ length-take-le n list (omega arith) in
-      let e : blocks (layoutOf g) false ws list 0 n ≡ map (blockAt g ws) (take n list) = blocks-listed g ws list 0 n (omega arith) (λ i h. k .high i (omega arith)) in
-      rw (l, sum-records (layoutOf g) ws list n, e)
+  pub needs-is : wasteful (g .b) (length list) (recordSum (layoutOf g) ws list (length list)) ≡ needsCompact (g .b) (map (blockAt g ws) list)
+  needs-is = rw (length-map list (blockAt g ws), sum-records (layoutOf g) ws list (length list), all-blocks g ws list (k .high))

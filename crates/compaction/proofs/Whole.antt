@@ -5,7 +5,7 @@ use mathlib.Core.Bool.{Bool, false}
 use mathlib.Core.List.{List, [], map}
 use native.Mathlib.Nat.{le-refl, mul-le-mul-left}
 use native.Mathlib.Omega.{arith}
-use lib.ListN.{length, getD, take, length-append}
+use lib.ListN.{length, getD, length-append}
 use Rattle.geometry.specs.declared.Geometry.{Geometry}
 use Rattle.levels.specs.Record.{Level}
 use Rattle.levels.specs.Waste.{compact}
@@ -25,14 +25,13 @@ use Rattle.merging.proofs.Heads.{recs-length}
 use Rattle.merging.proofs.Outs.{flush-holds}
 use Rattle.merging.proofs.Close.{empty-is, flushed-out}
 use Rattle.merging.proofs.Begin.{lay-done}
-use Rattle.merging.proofs.Decode.{blocks-listed}
 use Rattle.merging.proofs.Leaving.{leaves-of}
 use Rattle.compaction.specs.Machine.{beginAt, blocksGathered, Gathering, Compactable}
 use Rattle.compaction.proofs.Packing.{nothing, kept, kept-packed, sized-fit}
 use Rattle.compaction.proofs.Going.{Going, roomy, chunk-going, gathering}
-use Rattle.compaction.proofs.Counting.{listedRecords, no-records, records-snoc}
+use Rattle.compaction.proofs.Counting.{listedRecords, no-records, records-snoc, all-blocks}
 
-module _ (g : Geometry) (ws : List ℕ) (used : List Bool) (out list : List ℕ) (n cursor : ℕ) (k : Compactable g ws used out list n cursor) where
+module _ (g : Geometry) (ws : List ℕ) (used : List Bool) (out list : List ℕ) (cursor : ℕ) (k : Compactable g ws used list cursor) (out-long : length out ≡ 4096) where
   abbrev z : Layout
   z = layoutOf g
 
@@ -42,7 +41,10 @@ module _ (g : Geometry) (ws : List ℕ) (used : List Bool) (out list : List ℕ)
 
   -- the level that it compacts
   abbrev level : Level
-  level = map (blockAt g ws) (take n list)
+  level = map (blockAt g ws) list
+
+  abbrev n : ℕ
+  n = length list
 
   sized : Sized z ws
   sized = sized-of g ws (k .valid) (k .words)
@@ -56,7 +58,7 @@ module _ (g : Geometry) (ws : List ℕ) (used : List Bool) (out list : List ℕ)
       let b = sized .b-low in
       record {
         sized = sized;
-        full = k .out-long;
+        full = out-long;
         cursor = k .cursor-low;
         fit = record { few = omega arith; done = tt };
         holds = record { buf = empty-is; flash = refl; last = refl };
@@ -108,10 +110,6 @@ module _ (g : Geometry) (ws : List ℕ) (used : List Bool) (out list : List ℕ)
   pub flushes-in : (b : Memory) → b ≡ after n → Flushable z (b .words) (b .used) (b .st)
   flushes-in b e = rw e flushes
 
-  -- the blocks that the machine reads are the store's
-  level-is : blocks z false ws list 0 n ≡ level
-  level-is = blocks-listed g ws list 0 n (let f = k .few in let l = k .list-long in omega arith) (λ i h. k .blocks i (omega arith) .high)
-
   laid : flashOf (flushed z (after n)) ≡ layAll z (start begins) (compact (g .b) level)
   unfolding layDone
   laid =
@@ -119,7 +117,7 @@ module _ (g : Geometry) (ws : List ℕ) (used : List Bool) (out list : List ℕ)
       let f = flushes in
       let long = p .full in
       let h = flush-holds z (start begins) (kept (g .b) (listedRecords z ws list n) nothing) (after n) (record { sized = p .sized; cursor = p .cursor; list = omega (arith, f .room) }) (p .holds) in
-      sym (h .flash) ∙ ap (layDone z (start begins)) (kept-packed (g .b) (listedRecords z ws list n) [] []) ∙ lay-done z (start begins) (compact (g .b) (blocks z false ws list 0 n)) [] ∙ ap (λ (l : Level). layAll z (start begins) (compact (g .b) l)) level-is
+      sym (h .flash) ∙ ap (layDone z (start begins)) (kept-packed (g .b) (listedRecords z ws list n) [] []) ∙ lay-done z (start begins) (compact (g .b) (blocks z false ws list 0 n)) [] ∙ ap (λ (l : Level). layAll z (start begins) (compact (g .b) l)) (all-blocks g ws list (λ i h. k .blocks i h .high))
 
   -- what a compaction leaves, in any memory that is the one left, for every list of places in use that the marks stand for
   pub leaves-in : (b : Memory) → b ≡ flushed z (after n) → (a : Allocation) → a .cursor ≡ cursor → Marks used (a .used)

@@ -6,7 +6,7 @@ use mathlib.Core.List.{List}
 use lib.ListN.{length, getD}
 use Rattle.geometry.specs.declared.Geometry.{Geometry}
 use Rattle.geometry.specs.Geometry.{Valid, storeLength}
-use Rattle.geometry.specs.Room.{placesMost, listRoom}
+use Rattle.geometry.specs.Room.{placesMost}
 use Rattle.words.specs.Layout.{recordCount}
 use Rattle.blocks.specs.declared.Layout.{Layout}
 use Rattle.blocks.specs.Blocks.{Sized, startOf, emptyBuffer}
@@ -46,17 +46,15 @@ pub record Gathering (z : Layout) (q : ℕ) (a : Memory) : Type 0 where
 abbrev pub beginAt : ℕ → Progress
 beginAt cursor = record { x = record { i = 0; j = 0 }; y = record { i = 0; j = 0 }; m = 0; writes = 0; cursor = cursor; buf = emptyBuffer }
 
--- what a compaction asks: a legal store, work arrays of their full length, listed blocks, and a free place for each of them and one more
-pub record Compactable (g : Geometry) (ws : List ℕ) (used : List Bool) (out list : List ℕ) (n cursor : ℕ) : Type 0 where
+-- what a compaction asks: a legal store, marks of their full length, listed blocks, and a free place for each of them and one more
+pub record Compactable (g : Geometry) (ws : List ℕ) (used : List Bool) (list : List ℕ) (cursor : ℕ) : Type 0 where
   pub valid : Valid g
   pub words : length ws ≡ storeLength g
   pub marks-long : length used ≡ placesMost
-  pub out-long : length out ≡ listRoom
-  pub list-long : length list ≡ listRoom
   pub cursor-low : cursor < g .p
-  pub few : n ≤ 2048
-  pub blocks : (i : ℕ) → i < n → ListedBlock g ws used (getD list i 0)
-  pub free : countMarks (g .p) used + n < g .p
+  pub few : length list ≤ 2048
+  pub blocks : (i : ℕ) → i < length list → ListedBlock g ws used (getD list i 0)
+  pub free : countMarks (g .p) used + length list < g .p
 
 -- the records of the first n listed blocks
 unfoldable pub recordSum : Layout → List ℕ → List ℕ → ℕ → ℕ
@@ -64,17 +62,16 @@ recordSum z ws list zero = 0
 recordSum z ws list (suc i) = recordSum z ws list i + getD ws (startOf z (getD list i 0)) 0
 
 -- they can be counted
-pub record Summable (z : Layout) (ws list : List ℕ) (n : ℕ) : Type 0 where
+pub record Summable (z : Layout) (ws list : List ℕ) : Type 0 where
   pub sized : Sized z ws
-  pub few : n ≤ 2048
-  pub place : (i : ℕ) → i < n → getD list i 0 < z .p
-  pub high : (i : ℕ) → i < n → getD ws (startOf z (getD list i 0)) 0 ≤ z .b
+  pub few : length list ≤ 2048
+  pub place : (i : ℕ) → i < length list → getD list i 0 < z .p
+  pub high : (i : ℕ) → i < length list → getD ws (startOf z (getD list i 0)) 0 ≤ z .b
 
 -- what the level rule asks: a legal store, and listed blocks of at most B records
-pub record Countable (g : Geometry) (ws list : List ℕ) (n : ℕ) : Type 0 where
+pub record Countable (g : Geometry) (ws list : List ℕ) : Type 0 where
   pub valid : Valid g
   pub words : length ws ≡ storeLength g
-  pub list-long : length list ≡ listRoom
-  pub few : n ≤ 2048
-  pub place : (i : ℕ) → i < n → getD list i 0 < g .p
-  pub high : (i : ℕ) → i < n → recordCount g ws (getD list i 0) ≤ g .b
+  pub few : length list ≤ 2048
+  pub place : (i : ℕ) → i < length list → getD list i 0 < g .p
+  pub high : (i : ℕ) → i < length list → recordCount g ws (getD list i 0) ≤ g .b

@@ -2,8 +2,8 @@
 
 ghost use mathlib.Core.Path.{_≡_};
 ghost use mathlib.Core.List.{map};
-ghost use Prim.Native.Nat.{ℕ, _≤_, _<_};
-ghost use lib.ListN.{getD, take};
+ghost use Prim.Native.Nat.{ℕ, _<_};
+ghost use lib.ListN.{length, getD};
 ghost use Rattle.levels.specs.Waste.{needsCompact};
 ghost use Rattle.levels.specs.Waste as waste;
 ghost use Rattle.levels.specs.Place.{Allocation, settle};
@@ -42,22 +42,22 @@ fn gather_chunk(
     v
 }
 
-// The records of the first n listed blocks, into the buffer.
+// The records of the listed blocks, into the buffer.
 fn gather_blocks(
     s: &mut [u32],
     used: &mut [bool; Geometry::MAX_P],
     out: &mut [u32; Geometry::LIST_ROOM],
-    list: &[u32; Geometry::LIST_ROOM],
+    list: &[u32],
     z: Layout,
     st: Progress,
-    n: usize,
 ) -> Progress
-    requires { ⌜ (n ≤ listRoom) × ((i : ℕ) → i < n → Gathering z (getD (now list) i 0) (blocksGathered z (now list) i (record { words = now s; used = now used; out = now out; st = st }))) ⌝ }
-    ensures { λ r. ⌜ _≡_ {A = Memory} (record { words = now (s .exit); used = now (used .exit); out = now (out .exit); st = r }) (blocksGathered z (now (list .entry)) n (record { words = now (s .entry); used = now (used .entry); out = now (out .entry); st = st })) ⌝ }
+    requires { ⌜ ((i : ℕ) → i < length (now list) → Gathering z (getD (now list) i 0) (blocksGathered z (now list) i (record { words = now s; used = now used; out = now out; st = st }))) ⌝ }
+    ensures { λ r. ⌜ _≡_ {A = Memory} (record { words = now (s .exit); used = now (used .exit); out = now (out .exit); st = r }) (blocksGathered z (now (list .entry)) (length (now (list .entry))) (record { words = now (s .entry); used = now (used .entry); out = now (out .entry); st = st })) ⌝ }
 {
+    let n = list.len();
     let mut v = st;
     for i in 0..n {
-        let q = sides::listed(list, i);
+        let q = slices::word(list, i);
         v = gather_chunk(s, used, out, z, v, q);
     }
     v
@@ -79,7 +79,7 @@ fn begin(cursor: usize) -> Progress
     }
 }
 
-// Step 5: the records of the n listed blocks anew, B to a block, the last with the rest. For every
+// Step 5: the records of the listed blocks anew, B to a block, the last with the rest. For every
 // list of places in use that the marks stand for, the words, the new list, the cursor and the marks
 // afterwards are those of the compacted level, its blocks settled in key order; the old places stay
 // marked, and the new list is in `out`.
@@ -87,18 +87,17 @@ pub fn compact(
     s: &mut [u32],
     used: &mut [bool; Geometry::MAX_P],
     out: &mut [u32; Geometry::LIST_ROOM],
-    list: &[u32; Geometry::LIST_ROOM],
+    list: &[u32],
     g: Geometry,
-    n: usize,
     cursor: usize,
 ) -> Merged
-    requires { ⌜ Compactable g (now s) (now used) (now out) (now list) n cursor ⌝ }
+    requires { ⌜ Compactable g (now s) (now used) (now list) cursor × (length (now out) ≡ listRoom) ⌝ }
     ensures { λ r. ⌜ ((a : Allocation) → a .cursor ≡ cursor → Marks (now (used .entry)) (a .used)
-        → Leaves g (settle (g .p) a (waste.compact (g .b) (map (blockAt g (now (s .entry))) (take n (now (list .entry)))))) (now (s .entry)) (now (s .exit)) (now (used .exit)) (now (out .exit)) r) ⌝ }
+        → Leaves g (settle (g .p) a (waste.compact (g .b) (map (blockAt g (now (s .entry))) (now (list .entry))))) (now (s .entry)) (now (s .exit)) (now (used .exit)) (now (out .exit)) r) ⌝ }
 {
     let z = Layout::of(g);
     let st = begin(cursor);
-    let v = gather_blocks(s, used, out, list, z, st, n);
+    let v = gather_blocks(s, used, out, list, z, st);
     let r = stream::flush(s, used, out, z, v);
     Merged {
         count: r.m,
@@ -107,27 +106,29 @@ pub fn compact(
     }
 }
 
-// The records of the first n listed blocks.
-fn record_sum(s: &[u32], list: &[u32; Geometry::LIST_ROOM], z: Layout, n: usize) -> usize
-    requires { ⌜ Summable z (now s) (now list) n ⌝ }
-    ensures { λ r. ⌜ r ≡ recordSum z (now (s .entry)) (now (list .entry)) n ⌝ }
+// The records of the listed blocks.
+fn record_sum(s: &[u32], list: &[u32], z: Layout) -> usize
+    requires { ⌜ Summable z (now s) (now list) ⌝ }
+    ensures { λ r. ⌜ r ≡ recordSum z (now (s .entry)) (now (list .entry)) (length (now (list .entry))) ⌝ }
 {
+    let n = list.len();
     let mut total: usize = 0;
     for k in 0..n {
-        let q = sides::listed(list, k);
+        let q = slices::word(list, k);
         let at = blocks::place_start(z, q);
         total = total + slices::word(s, at);
     }
     total
 }
 
-// The level of the n listed blocks needs compacting.
-pub fn needs_compacting(s: &[u32], list: &[u32; Geometry::LIST_ROOM], g: Geometry, n: usize) -> bool
-    requires { ⌜ Countable g (now s) (now list) n ⌝ }
-    ensures { λ r. ⌜ r ≡ needsCompact (g .b) (map (blockAt g (now (s .entry))) (take n (now (list .entry)))) ⌝ }
+// The level of the listed blocks needs compacting.
+pub fn needs_compacting(s: &[u32], list: &[u32], g: Geometry) -> bool
+    requires { ⌜ Countable g (now s) (now list) ⌝ }
+    ensures { λ r. ⌜ r ≡ needsCompact (g .b) (map (blockAt g (now (s .entry))) (now (list .entry))) ⌝ }
 {
     let z = Layout::of(g);
     let b = z.b;
-    let records = record_sum(s, list, z, n);
+    let n = list.len();
+    let records = record_sum(s, list, z);
     levels::is_wasteful(b, n, records)
 }

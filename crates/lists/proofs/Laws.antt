@@ -4,7 +4,7 @@ use mathlib.Core.Path.{_≡_, refl, sym, ap, _∙_}
 use mathlib.Core.List.{List, [], _∷_, _++_, map}
 use native.Mathlib.Nat.{add-zero}
 use native.Mathlib.Omega.{arith}
-use lib.ListN.{length, take, getD, length-append, length-map}
+use lib.ListN.{length, take, getD, length-append}
 use lib.Seq.{length-take-le, drop-at}
 use Rattle.slices.specs.Slices.{putAt}
 use Rattle.slices.proofs.Put.{put-length, put-drop}
@@ -14,29 +14,22 @@ use Rattle.geometry.proofs.Laws.{store-length-low}
 use Rattle.levels.specs.Record.{Rec, Level}
 use Rattle.levels.specs.Store.{Store}
 use Rattle.levels.specs.Sound.{Fits}
-use Rattle.words.specs.Layout.{word, geometryAt, pad, placeOf, headerWords, topWords, listWords, areaOf, storeWords, part, topLength}
+use Rattle.words.specs.Layout.{word, geometryAt, pad, headerWords, topWords, listWords, areaOf, storeWords, part, topLength}
 use Rattle.words.specs.Passed.{Laid}
 use Rattle.words.proofs.Parts.{part-word, part-left, part-front-part, part-split, part-cons}
 use Rattle.words.proofs.Top.{top-words-length}
 use Rattle.words.proofs.Laid.{laid-levels}
 use Rattle.words.proofs.State.{Holds, top-end, lists-length, store-length, counts-length, lists-long, geometry-held, live-held, top-count-held, held-words}
-use Rattle.lists.specs.Lists.{placeLists, withLists}
+use Rattle.lists.specs.Lists.{listsOf, placeLists, withLists, Listed, placesAt}
 use Rattle.lists.specs.Holds.{HoldsBut}
 use Rattle.lists.proofs.Keeps.{put-here, put-before, put-behind}
+use Rattle.lists.proofs.Arrays.{placesIn, lists-are, counts-are}
 
--- the places of the blocks of every level
-abbrev pub placesIn : List Level → List (List ℕ)
-placesIn ls = map (λ (l : Level). map placeOf l) ls
-
--- the lists of these places are the layout's lists, and their lengths its counts
+-- the lists of the levels' places are the layout's lists
 pub place-lists : (g : Geometry) (i : ℕ) (ls : List Level) → placeLists g i (placesIn ls) ≡ listWords g i ls
 unfolding placeLists listWords
 place-lists g i [] = refl
 place-lists g i (l ∷ ls) = rw (place-lists g (suc i) ls)
-
-pub place-counts : (ls : List Level) → map (λ (l : List ℕ). length l) (placesIn ls) ≡ map (λ (l : Level). length l) ls
-place-counts [] = refl
-place-counts (l ∷ ls) = rw (length-map, place-counts ls)
 
 part-one : (ws : List ℕ) (a : ℕ) → a < length ws → part ws a 1 ≡ word ws a ∷ []
 unfolding part
@@ -134,14 +127,11 @@ module _ (g : Geometry) (ws : List ℕ) (t : Store) (v : Valid g) (f : Fits g t)
         laid = rw back-area (k .laid);
       }
 
-  -- the lists of the first h of ls, put back, are those of the store
-  back-is : (ls : List (List ℕ)) → take (g .h) ls ≡ placesIn (t .levels) → withLists g ws (t .cursor) ls ≡ back
+  -- The law of the caller: the lists of the levels put back give the words of the store.
+  pub lists-back : (work ns : List ℕ) → Listed (g .h) (g .h) work ns (placesAt t) → withLists g ws (t .cursor) ns (listsOf (g .h) work ns) ≡ storeWords g t (areaOf g ws)
   unfolding withLists back headed counts lists
-  back-is ls e = rw (e, place-lists g 1 (t .levels), place-counts (t .levels))
-
-  -- The law of the caller: the places of the levels put back give the words of the store.
-  pub lists-back : (ls : List (List ℕ)) → take (g .h) ls ≡ placesIn (t .levels) → withLists g ws (t .cursor) ls ≡ storeWords g t (areaOf g ws)
-  lists-back ls e = back-is ls e ∙ sym (held-words g back t back-holds) ∙ ap (storeWords g t) back-area
+  lists-back work ns l =
+      rw (lists-are (g .h) work ns t (f .level-count) l, counts-are (g .h) work ns t (f .level-count) l (v .ranged .h-high), place-lists g 1 (t .levels)) (sym (held-words g back t back-holds) ∙ ap (storeWords g t) back-area)
 
 -- How words come to hold all but the cursor, counts and lists.
 

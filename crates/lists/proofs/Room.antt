@@ -1,38 +1,30 @@
 -- The words of the lists: that they lie in the store, what `load` finds in them, and what `store_back` puts there list by list.
-use Prim.Native.Nat.{ℕ, suc, _+_, _*_, _≤_, _<_}
-use mathlib.Core.Path.{_≡_, refl, sym, ap, _∙_}
+use Prim.Native.Nat.{ℕ, zero, suc, _+_, _-_, _*_, _≤_, _<_}
+use mathlib.Core.Path.{_≡_, sym, ap, _∙_}
 use mathlib.Core.Logic.{dite}
-use mathlib.Core.List.{List, [], _∷_, _++_, append-nil}
+use mathlib.Core.List.{List, [], _∷_, _++_, append-nil, append-assoc}
+use native.Mathlib.Nat.{add-zero, add-suc, suc-add, mul-le-mul, min-le-left}
 use native.Mathlib.Decide.{decLt}
-use native.Mathlib.Nat.{zero-add, mul-le-mul, mul-le-mul-right}
+use native.Mathlib.Numerals.{one-add}
 use native.Mathlib.Omega.{arith}
-use lib.ListN.{length, take, drop, length-drop}
-use lib.Seq.{length-take-le, take-take, take-at}
+use lib.ListN.{length, take, drop, getD, replicate, length-append, length-take, length-drop}
+use lib.Seq.{length-take-le, take-take}
 use Rattle.slices.specs.Slices.{putAt}
-use Rattle.slices.proofs.Put.{put-length, put-seam, put-join}
+use Rattle.slices.proofs.Put.{put-none, put-join}
 use Rattle.geometry.specs.declared.Geometry.{Geometry}
-use Rattle.geometry.specs.Geometry.{Valid, capacityOf, capacitySum, flashCapacityOf, listStart, placesStart, blockWidth, storeLength}
-use Rattle.geometry.proofs.Laws.{store-length-low, level-high, capacity-grows, list-inside, lists-apart, list-next}
+use Rattle.geometry.specs.Geometry.{Valid, capacityOf, listStart, blockWidth, storeLength}
+use Rattle.geometry.proofs.Laws.{level-high, list-inside, list-next}
+use Rattle.geometry.specs.Room.{listRoom}
+use Rattle.levels.specs.Basics.{each}
+use Rattle.levels.proofs.Each.{length-each, each-more}
 use Rattle.words.specs.Layout.{countAt, listAt, listedAt, pad}
 use Rattle.words.proofs.Parts.{pad-length}
 use Rattle.words.proofs.State.{store-length}
-use Rattle.words.specs.Form.{roomOf}
-use Rattle.words.proofs.Form.{room-level, room-above}
-use Rattle.lists.specs.Lists.{placeLists, withLists}
-use Rattle.lists.proofs.Put.{counts-length}
-
--- "K(h) is at most 1,024": every list that fits its words fits a work array
-pub room-high : (g : Geometry) (i : ℕ) → Valid g → roomOf g i ≤ 1024
-room-high g i v =
-    dite (decLt (g .h) i)
-    (λ y. rw (room-above g i y) (omega arith))
-    (λ n. rw (room-level g i (omega arith)) (level-high g v (omega arith)))
-
-pub room-most : (g : Geometry) (i : ℕ) → roomOf g i ≤ capacityOf g i
-room-most g i =
-    dite (decLt (g .h) i)
-    (λ y. rw (room-above g i y) (omega arith))
-    (λ n. rw (room-level g i (omega arith)) (omega arith))
+use Rattle.pieces.specs.Pieces.{part}
+use Rattle.lists.specs.Flat.{partStart, partOf}
+use Rattle.lists.specs.Lists.{listOf, listsOf, Fitting, placeLists, withLists}
+use Rattle.lists.proofs.Flat.{part-fits, part-entries, part-of-length}
+use Rattle.lists.proofs.Put.{put-pad}
 
 -- the words of a list lie in the store, and those of the places follow them
 pub list-in-store : (g : Geometry) (n i : ℕ) → Valid g → n ≡ storeLength g → 1 ≤ i → i ≤ g .h → listStart g i + capacityOf g i < n
@@ -43,78 +35,69 @@ list-in-store g n i v e l h =
     let w : 1 * 2 ≤ g .p * blockWidth g = mul-le-mul a b in
     omega (arith, list-inside g l h, store-length g)
 
--- the list of level 3 starts in the store, also where h = 1: it would then stand K(2) words behind place 0, and the places are longer
-last-start-inside : (g : Geometry) → Valid g → listStart g 3 ≤ storeLength g
-unfolding placesStart flashCapacityOf capacitySum blockWidth
-last-start-inside g v =
-    let k = v .ranged in
-    let second : listStart g 3 ≡ listStart g 2 + capacityOf g 2 = list-next g 2 (omega arith) in
-    dite (decLt (g .h) 2)
-    (λ y. let one : g .h ≡ 1 = omega (arith, k .h-low) in
-    let p : placesStart g ≡ listStart g 2 = ap (λ (h : ℕ). listStart g (h + 1)) one in
-    let f : flashCapacityOf g ≡ capacityOf g 1 = ap (capacitySum g 1) one ∙ zero-add (capacityOf g 1) in
-    let w : (4 * flashCapacityOf g + 8) * 6 ≤ g .p * blockWidth g = mul-le-mul (v .places-low) (omega (arith, k .b-low)) in
-    omega (arith, store-length g, capacity-grows g 1, mul-le-mul-right (capacityOf g 1) (k .g-high)))
-    (λ n. omega (arith, list-inside g {i = 2} (omega arith) (omega arith), store-length g))
-
--- every list starts in the store, also that of a level which the store has not
-list-start-inside : (g : Geometry) (i : ℕ) → Valid g → 1 ≤ i → i ≤ 3 → listStart g i ≤ storeLength g
-list-start-inside g i v o l =
-    dite (decLt i 3)
-    (λ y. omega (arith, lists-apart g {i = i} {j = 3} o y, last-start-inside g v))
-    (λ n. let e : i ≡ 3 = omega arith in rw e (last-start-inside g v))
-
--- the words that a level lists lie in the store
-pub listed-inside : (g : Geometry) (i n : ℕ) → Valid g → 1 ≤ i → i ≤ 3 → n ≤ roomOf g i → listStart g i + n ≤ storeLength g
-listed-inside g i n v o l r =
-    dite (decLt (g .h) i)
-    (λ y. omega (arith, room-above g i y, list-start-inside g i v o l))
-    (λ x. omega (arith, room-level g i (omega arith), list-in-store g (storeLength g) i v refl o (omega arith)))
-
 -- the words that `load` copies are those that the level lists
-pub copied-listed : (g : Geometry) (ws out : List ℕ) (i n : ℕ) → n ≡ countAt ws i → n ≤ capacityOf g i → listStart g i + n ≤ length ws → take n (putAt 0 (take n (drop (listStart g i) ws)) out) ≡ listedAt g ws i
+pub listed-is : (g : Geometry) (ws : List ℕ) (i n : ℕ) → n ≡ countAt ws i → n ≤ capacityOf g i → take n (drop (listStart g i) ws) ≡ listedAt g ws i
 unfolding listedAt listAt
-copied-listed g ws out i n e c l =
-    let xs = take n (drop (listStart g i) ws) in
-    let x : length xs ≡ n = length-take-le n (drop (listStart g i) ws) (rw length-drop (omega arith)) in
-    ap (take n) (put-seam [] out xs 0 refl) ∙ take-at xs (drop (length xs) out) n x ∙ rw (← e) (sym (take-take n (capacityOf g i) (drop (listStart g i) ws) c))
+listed-is g ws i n e c = rw (← e) (sym (take-take n (capacityOf g i) (drop (listStart g i) ws) c))
 
--- the list of the next level joins those of the levels before it
-pub list-joins : (g : Geometry) (i : ℕ) (x ys us : List ℕ) → 1 ≤ i → length ys ≡ capacityOf g i → listStart g i + capacityOf g i ≤ length us → putAt (listStart g (suc i)) x (putAt (listStart g i) ys us) ≡ putAt (listStart g i) (ys ++ x) us
-list-joins g i x ys us l e h = rw (list-next g i l, ← e) (put-join (listStart g i) ys x us (rw e h))
+pub listed-length : (g : Geometry) (ws : List ℕ) (i n : ℕ) → n ≡ countAt ws i → n ≤ capacityOf g i → listStart g i + capacityOf g i ≤ length ws → length (listedAt g ws i) ≡ n
+listed-length g ws i n e c l = ap length (sym (listed-is g ws i n e c)) ∙ length-take-le n (drop (listStart g i) ws) (rw length-drop (omega arith))
 
--- What `store_back` has put after each list is the whole where no further level is.
-pub one-stored : (g : Geometry) (ws x y z : List ℕ) (c n1 n2 n3 : ℕ) → g .h ≡ 1 → length x ≡ n1 → n2 ≤ roomOf g 2 → n3 ≤ roomOf g 3
-    → putAt (listStart g 1) (pad (capacityOf g 1) x) (putAt 9 (n1 ∷ n2 ∷ n3 ∷ []) (putAt 7 (c ∷ []) ws)) ≡ withLists g ws c (x ∷ y ∷ z ∷ [])
-unfolding withLists placeLists
-one-stored g ws x y z c n1 n2 n3 h l r2 r3 =
-    let e2 : n2 ≡ 0 = omega (arith, room-above g 2 (omega arith)) in
-    let e3 : n3 ≡ 0 = omega (arith, room-above g 3 (omega arith)) in
-    rw (h, e2, e3, ← l, append-nil)
+-- lists that fit their words are short
+pub fit-high : (g : Geometry) (lists ns : List ℕ) → Valid g → Fitting g lists ns → (j : ℕ) → getD ns j 0 ≤ 8192
+fit-high g lists ns v k j =
+    dite (decLt j (g .h))
+    (λ y. omega (arith, k .fit j y, level-high g v {i = suc j} y))
+    (λ n. omega (arith, k .none j (omega arith)))
 
-pub two-stored : (g : Geometry) (ws x y z : List ℕ) (c n1 n2 n3 : ℕ) → g .h ≡ 2 → length ws ≡ storeLength g → length x ≡ n1 → length y ≡ n2 → n1 ≤ roomOf g 1 → n3 ≤ roomOf g 3 → Valid g
-    → putAt (listStart g 2) (pad (capacityOf g 2) y) (putAt (listStart g 1) (pad (capacityOf g 1) x) (putAt 9 (n1 ∷ n2 ∷ n3 ∷ []) (putAt 7 (c ∷ []) ws))) ≡ withLists g ws c (x ∷ y ∷ z ∷ [])
-unfolding withLists placeLists
-two-stored g ws x y z c n1 n2 n3 h w l k r1 r3 v =
-    let us = putAt 9 (n1 ∷ n2 ∷ n3 ∷ []) (putAt 7 (c ∷ []) ws) in
-    let u : length us ≡ length ws = counts-length ws c n1 n2 n3 (omega (arith, store-length-low g v)) in
-    let e3 : n3 ≡ 0 = omega (arith, room-above g 3 (omega arith)) in
-    let f1 : listStart g 1 + capacityOf g 1 ≤ length us = omega (arith, list-in-store g (length us) 1 v (omega arith) (omega arith) (omega arith)) in
-    let p : length (pad (capacityOf g 1) x) ≡ capacityOf g 1 = pad-length (capacityOf g 1) x (omega (arith, room-most g 1)) in
-    list-joins g 1 (pad (capacityOf g 2) y) (pad (capacityOf g 1) x) us (omega arith) p f1 ∙ rw (h, e3, ← l, ← k, append-nil)
+-- one list from its part of the work array, and zeros behind it
+pub list-padded : (g : Geometry) (ws lists : List ℕ) (i n : ℕ) → Valid g → i ≤ g .h → n ≤ capacityOf g i → length lists ≡ listRoom → listStart g i + capacityOf g i ≤ length ws
+    → putAt (listStart g i + n) (replicate (capacityOf g i - n) 0) (putAt (listStart g i) (take n (drop (partStart (g .h) i) lists)) ws) ≡ putAt (listStart g i) (pad (capacityOf g i) (take n (partOf (g .h) lists i))) ws
+unfolding part
+list-padded g ws lists i n v l h e r =
+    let f = part-fits g v i n l (omega arith) .0 in
+    let q : take n (drop (partStart (g .h) i) lists) ≡ take n (partOf (g .h) lists i) = sym (part-entries (g .h) i n lists f) in
+    rw q (put-pad (listStart g i) (capacityOf g i) n (partOf (g .h) lists i) ws (omega (arith, part-of-length (g .h) i lists e)) (omega arith))
 
-pub three-stored : (g : Geometry) (ws x y z : List ℕ) (c n1 n2 n3 : ℕ) → g .h ≡ 3 → length ws ≡ storeLength g → length x ≡ n1 → length y ≡ n2 → length z ≡ n3 → n1 ≤ roomOf g 1 → n2 ≤ roomOf g 2 → Valid g
-    → putAt (listStart g 3) (pad (capacityOf g 3) z) (putAt (listStart g 2) (pad (capacityOf g 2) y) (putAt (listStart g 1) (pad (capacityOf g 1) x) (putAt 9 (n1 ∷ n2 ∷ n3 ∷ []) (putAt 7 (c ∷ []) ws)))) ≡ withLists g ws c (x ∷ y ∷ z ∷ [])
-unfolding withLists placeLists
-three-stored g ws x y z c n1 n2 n3 h w l k m r1 r2 v =
-    let us = putAt 9 (n1 ∷ n2 ∷ n3 ∷ []) (putAt 7 (c ∷ []) ws) in
-    let u : length us ≡ length ws = counts-length ws c n1 n2 n3 (omega (arith, store-length-low g v)) in
-    let p : length (pad (capacityOf g 1) x) ≡ capacityOf g 1 = pad-length (capacityOf g 1) x (omega (arith, room-most g 1)) in
-    let q : length (pad (capacityOf g 2) y) ≡ capacityOf g 2 = pad-length (capacityOf g 2) y (omega (arith, room-most g 2)) in
-    let f1 : listStart g 1 + capacityOf g 1 ≤ length us = omega (arith, list-in-store g (length us) 1 v (omega arith) (omega arith) (omega arith)) in
-    let f2 : listStart g 2 + capacityOf g 2 ≤ length us = omega (arith, list-in-store g (length us) 2 v (omega arith) (omega arith) (omega arith)) in
-    let vs = putAt (listStart g 1) (pad (capacityOf g 1) x) us in
-    let v : length vs ≡ length us = put-length (listStart g 1) (pad (capacityOf g 1) x) us (rw p f1) in
-    list-joins g 2 (pad (capacityOf g 3) z) (pad (capacityOf g 2) y) vs (omega arith) q (rw v f2)
-    ∙ list-joins g 1 (pad (capacityOf g 2) y ++ pad (capacityOf g 3) z) (pad (capacityOf g 1) x) us (omega arith) p f1
-    ∙ rw (h, ← l, ← k, ← m, append-nil)
+-- The lists of the first i levels, and that of the next behind them.
+lists-snoc : (g : Geometry) (ls : List (List ℕ)) (l : List ℕ) (i : ℕ) → placeLists g i (ls ++ (l ∷ [])) ≡ placeLists g i ls ++ pad (capacityOf g (i + length ls)) l
+unfolding placeLists
+lists-snoc g [] l i = rw add-zero (append-nil (pad (capacityOf g i) l))
+lists-snoc g (k ∷ ls) l i = rw (lists-snoc g ls l (suc i), add-suc, suc-add) (sym (append-assoc (pad (capacityOf g i) k) (placeLists g (suc i) ls) _))
+
+module _ (g : Geometry) (lists ns : List ℕ) (k : Fitting g lists ns) where
+  abbrev f : ℕ → List ℕ
+  f = listOf (g .h) lists ns
+
+  -- what is put for the first i levels
+  abbrev pub firsts : ℕ → List ℕ
+  firsts i = placeLists g 1 (each (listOf (g .h) lists ns) 0 i)
+
+  one-more : (i : ℕ) → firsts (suc i) ≡ firsts i ++ pad (capacityOf g (suc i)) (f i)
+  one-more i = rw (each-more f i, lists-snoc g (each f 0 i) (f i) 1, length-each f 0 i, one-add)
+
+  fit-length : (j : ℕ) → j < g .h → length (f j) ≤ capacityOf g (suc j)
+  fit-length j h = rw length-take (omega (arith, k .fit j h, min-le-left (getD ns j 0) (length (partOf (g .h) lists (suc j)))))
+
+  -- they end where the next list starts
+  firsts-end : (i : ℕ) → i ≤ g .h → listStart g 1 + length (firsts i) ≡ listStart g (suc i)
+  unfolding placeLists
+  firsts-end zero h = add-zero (listStart g 1)
+  firsts-end (suc i) h =
+      rw (one-more i, length-append, pad-length (capacityOf g (suc i)) (f i) (fit-length i h), list-next g (suc i) (omega arith), ← firsts-end i (omega arith)) (omega arith)
+
+  pub lists-none : (ws : List ℕ) → ws ≡ putAt (listStart g 1) (firsts 0) ws
+  unfolding placeLists
+  lists-none ws = sym (put-none (listStart g 1) ws)
+
+  pub lists-more : (i level : ℕ) (ws us : List ℕ) → level ≡ suc i → level ≤ g .h → listStart g level ≤ length ws → us ≡ putAt (listStart g 1) (firsts i) ws
+      → putAt (listStart g level) (pad (capacityOf g level) (take (getD ns i 0) (partOf (g .h) lists level))) us ≡ putAt (listStart g 1) (firsts level) ws
+  lists-more i level ws us el h l e =
+      let q = firsts-end i (omega arith) in
+      let r : listStart g 1 + length (firsts i) ≤ length ws = omega (arith, ap (listStart g) el) in
+      rw (e, el, one-more i, ← q) (put-join (listStart g 1) (firsts i) (pad (capacityOf g (suc i)) (f i)) ws r)
+
+  -- hand and counts first, then the lists
+  pub lists-put : (ws vs us : List ℕ) (cursor i : ℕ) → i ≡ g .h → vs ≡ putAt 9 ns (putAt 7 (cursor ∷ []) ws) → us ≡ putAt (listStart g 1) (firsts i) vs → us ≡ withLists g ws cursor ns (listsOf (g .h) lists ns)
+  unfolding withLists listsOf
+  lists-put ws vs us cursor i e a b = b ∙ ap (putAt (listStart g 1) (firsts i)) a ∙ ap (λ (n : ℕ). putAt (listStart g 1) (firsts n) (putAt 9 ns (putAt 7 (cursor ∷ []) ws))) e

@@ -1,2 +1,3 @@
+pub mod Flat
 pub mod Lists
 pub mod Holds

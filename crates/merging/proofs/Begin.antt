@@ -35,31 +35,28 @@ reverse-snoc : (l : Level) (b : Block) (acc : Level) → reverseAux (l ++ (b ∷
 reverse-snoc [] b acc = refl
 reverse-snoc (c ∷ l) b acc = reverse-snoc l b (c ∷ acc)
 
-take-entries : (out ys : List ℕ) (m : ℕ) → m ≤ length out → ((i : ℕ) → i < m → getD out i 0 ≡ getD ys i 0) → take m out ≡ entries ys 0 m
-take-entries out ys zero h f = refl
-take-entries out ys (suc m) h f =
-    let e : 0 + m ≡ m = omega arith in
-    rw (take-suc out m 0 (omega arith), entries-snoc ys 0 m, take-entries out ys m (omega arith) (λ i l. f i (omega arith)), f m (omega arith), e)
+take-entries : (out ys : List ℕ) (from m : ℕ) → m ≤ length out → ((i : ℕ) → i < m → getD out i 0 ≡ getD ys (from + i) 0) → take m out ≡ entries ys from m
+take-entries out ys from zero h f = refl
+take-entries out ys from (suc m) h f = rw (take-suc out m 0 (omega arith), entries-snoc ys from m, take-entries out ys from m (omega arith) (λ i l. f i (omega arith)), f m (omega arith))
 
-module _ (z : Layout) (a : Memory) (ys : List ℕ) (empty : a .st .buf ≡ emptyBuffer) (le : a .st .m ≤ length (a .out)) (same : (i : ℕ) → i < a .st .m → getD (a .out) i 0 ≡ getD ys i 0) where
-  ends-with : (m : ℕ) → ((i : ℕ) → i < m → getD (a .out) i 0 ≡ getD ys i 0)
-      → (lastSize z (a .words) (a .out) m ≡ headSize (z .b) (reverseAux (blocks z false (a .words) ys 0 m) [])) × LastIs z (a .words) (a .out) m (reverseAux (blocks z false (a .words) ys 0 m) [])
-  unfolding lastSize
-  ends-with zero f = rw (no-blocks z (a .words) ys) (refl, tt)
+module _ (z : Layout) (a : Memory) (ys : List ℕ) (from : ℕ) (empty : a .st .buf ≡ emptyBuffer) (le : a .st .m ≤ length (a .out)) (same : (i : ℕ) → i < a .st .m → getD (a .out) i 0 ≡ getD ys (from + i) 0) where
+  ends-with : (m : ℕ) → ((i : ℕ) → i < m → getD (a .out) i 0 ≡ getD ys (from + i) 0)
+      → (lastSize z (a .words) (a .out) m ≡ headSize (z .b) (reverseAux (blocks z false (a .words) ys from m) [])) × LastIs z (a .words) (a .out) m (reverseAux (blocks z false (a .words) ys from m) [])
+  unfolding lastSize blocks
+  ends-with zero f = (refl, tt)
   ends-with (suc m) f =
       let e : suc m - 1 ≡ m = omega arith in
-      let g : 0 + m ≡ m = omega arith in
-      rw (blocks-snoc z (a .words) ys 0 m, reverse-snoc (blocks z false (a .words) ys 0 m) (storedAt z (a .words) (getD ys (0 + m) 0)) [], ne-eqb (suc m) 0 (λ h. omega arith), e, g, f m (omega arith))
-      (sym (recs-length (a .words) (blockChunk z (a .words) (getD ys m 0)) 0 (countAt z (a .words) (getD ys m 0))), λ h. refl)
+      rw (blocks-snoc z (a .words) ys from m, reverse-snoc (blocks z false (a .words) ys from m) (storedAt z (a .words) (getD ys (from + m) 0)) [], ne-eqb (suc m) 0 (λ h. omega arith), e, f m (omega arith))
+      (sym (recs-length (a .words) (blockChunk z (a .words) (getD ys (from + m) 0)) 0 (countAt z (a .words) (getD ys (from + m) 0))), λ h. refl)
 
-  pub begin-holds : Holds z (start a) (record { buffer = []; done = reverseAux (blocks z false (a .words) ys 0 (a .st .m)) [] }) a
+  pub begin-holds : Holds z (start a) (record { buffer = []; done = reverseAux (blocks z false (a .words) ys from (a .st .m)) [] }) a
   unfolding layDone
   begin-holds =
       record {
         buf = empty ∙ empty-is;
-        flash = lay-done z (start a) (blocks z false (a .words) ys 0 (a .st .m)) [] ∙ lay-blocks z (start a) (a .words) ys 0 (a .st .m) ∙ rw (take-entries (a .out) ys (a .st .m) le same);
+        flash = lay-done z (start a) (blocks z false (a .words) ys from (a .st .m)) [] ∙ lay-blocks z (start a) (a .words) ys from (a .st .m) ∙ rw (take-entries (a .out) ys from (a .st .m) le same);
         last = ends-with (a .st .m) same .0;
       }
 
-  pub begin-tail : LastIs z (a .words) (a .out) (a .st .m) (reverseAux (blocks z false (a .words) ys 0 (a .st .m)) [])
+  pub begin-tail : LastIs z (a .words) (a .out) (a .st .m) (reverseAux (blocks z false (a .words) ys from (a .st .m)) [])
   begin-tail = ends-with (a .st .m) same .1

@@ -4,7 +4,7 @@ use mathlib.Core.Path.{_≡_, sym, ap, _∙_, refl}
 use mathlib.Core.Bool.{Bool, true, false, true≢false}
 use mathlib.Core.List.{List, []}
 use native.Mathlib.Decide.{decLt}
-use native.Mathlib.Nat.{mul-le-mul-left, le-of-mul-le-mul-right}
+use native.Mathlib.Nat.{le-refl, mul-le-mul-left, le-of-mul-le-mul-right}
 use native.Mathlib.Omega.{arith}
 use Rattle.levels.specs.Basics.{if_then_else_, iterate}
 use Rattle.levels.specs.Merge.{Out, step}
@@ -46,13 +46,13 @@ turn-paid z t xs ys s o a c p idles = go (decLt (a .st .x .i) (t .x)) (decLt (a 
     go (no nx) (no ny) = absurd (true≢false (sym (idle-of z t xs ys a (omega arith) (omega arith)) ∙ idles))
     go (yes gx) (no ny) =
         rw (head-at z (t .pages) (a .words) xs (a .st .x .i) (a .st .x .j) (t .x) gx, head-no z false (a .words) ys (a .st .y .i) (a .st .y .j) (t .y) (omega arith))
-        (upper-paid z t s a p (t .bottom) x noHead e (c .upper .stands (a .st .x .i) gx .formed .high) gx (c .upper .inside gx))
+        (upper-paid z t s a p (t .bottom) x noHead e (c .upper .stands (a .st .x .i) (le-refl (a .st .x .i)) gx .formed .high) gx (c .upper .inside gx))
     go (no nx) (yes gy) =
         rw (head-no z (t .pages) (a .words) xs (a .st .x .i) (a .st .x .j) (t .x) (omega arith), head-at z false (a .words) ys (a .st .y .i) (a .st .y .j) (t .y) gy)
-        (lower-paid z t s a p (t .bottom) y noHead e (c .lower .stands (a .st .y .i) gy .formed .high) gy (c .lower .inside gy))
+        (lower-paid z t s a p (t .bottom) y noHead e (c .lower .stands (a .st .y .i) (le-refl (a .st .y .i)) gy .formed .high) gy (c .lower .inside gy))
     go (yes gx) (yes gy) =
-        let hx = c .upper .stands (a .st .x .i) gx .formed .high in
-        let hy = c .lower .stands (a .st .y .i) gy .formed .high in
+        let hx = c .upper .stands (a .st .x .i) (le-refl (a .st .x .i)) gx .formed .high in
+        let hy = c .lower .stands (a .st .y .i) (le-refl (a .st .y .i)) gy .formed .high in
         let kx = headAt (a .words) x (a .st .x .j) in
         let ky = headAt (a .words) y (a .st .y .j) in
         rw (head-at z (t .pages) (a .words) xs (a .st .x .i) (a .st .x .j) (t .x) gx, head-at z false (a .words) ys (a .st .y .i) (a .st .y .j) (t .y) gy)

@@ -144,7 +144,7 @@ module _ (z : Layout) (xs out ys : List ℕ) (w : Progress) (end : ℕ) (k : Aft
           (if-either Ends (leb (w .buf .n + size) (z .b)) (afterTaken z xs q w) w (omega arith, omega arith) (omega arith, omega arith))
 
 -- at the end of step 3, with all of the lower list standing
-pub closable : (z : Layout) (t : Inputs) (xs ys : List ℕ) (end : ℕ) (d : Flash) (o : Out) (a : Memory) → Core z t xs ys o a → Holds z d o a → Budget z a → Listed z false a ys end → end ≤ 4096 → a .st .y .i ≤ end
+pub closable : (z : Layout) (t : Inputs) (xs ys : List ℕ) (end : ℕ) (d : Flash) (o : Out) (a : Memory) → Core z t xs ys o a → Holds z d o a → Budget z a → Listed z false a ys (a .st .y .i) end → end ≤ 4096 → a .st .y .i ≤ end
     → a .st .m + 1 + (end - a .st .y .i) ≤ 4096 → Closable z ys end a
 unfolding bufferOf chunkOf
 closable z t xs ys end d o a c h g all he hy r =
@@ -180,8 +180,8 @@ closable z t xs ys end d o a c h g all he hy r =
           lefts = record { sized = c .sized; m-high = omega (arith, jl .m); few = jl .few; places = λ i l. c .listed i (omega (arith, jl .m)) };
           end-high = he;
           clean = left-clean z (a .words) (a .out) (a .st) clean;
-          place = λ l. all (v .y .i) l .place refl;
-          filled = λ l. all (v .y .i) l .formed .low;
+          place = λ l. all (v .y .i) (omega (arith, vy)) l .place refl;
+          filled = λ l. all (v .y .i) (omega (arith, vy)) l .formed .low;
         }
 
     ja : Joined v (afterJoined z (a .words) (a .out) ys v end)

@@ -54,11 +54,14 @@ pub page-block : (g : Geometry) (ws : List ℕ) (i : ℕ) → blockOf ws (pageCh
 page-block g ws i = ap new (sym (chunk-slots ws (pageChunk (layoutOf g) i) (g .b)))
 
 -- the blocks of a list
-pub blocks-listed : (g : Geometry) (ws list : List ℕ) (i n : ℕ) → i + n ≤ length list → ((k : ℕ) → k < i + n → recordCount g ws (getD list k 0) ≤ g .b) → blocks (layoutOf g) false ws list i n ≡ blocksOf g ws list i n
+pub blocks-from : (g : Geometry) (ws list : List ℕ) (i n : ℕ) → i + n ≤ length list → ((k : ℕ) → i ≤ k → k < i + n → recordCount g ws (getD list k 0) ≤ g .b) → blocks (layoutOf g) false ws list i n ≡ blocksOf g ws list i n
 unfolding blocks chunkOf
-blocks-listed g ws list i zero h f = refl
-blocks-listed g ws list i (suc n) h f =
-    rw (drop-cons list i 0 (omega arith), stored-block g ws (getD list i 0) (f i (omega arith)), blocks-listed g ws list (suc i) n (omega arith) (λ k l. f k (omega arith)))
+blocks-from g ws list i zero h f = refl
+blocks-from g ws list i (suc n) h f =
+    rw (drop-cons list i 0 (omega arith), stored-block g ws (getD list i 0) (f i (omega arith) (omega arith)), blocks-from g ws list (suc i) n (omega arith) (λ k l m. f k (omega arith) (omega arith)))
+
+pub blocks-listed : (g : Geometry) (ws list : List ℕ) (i n : ℕ) → i + n ≤ length list → ((k : ℕ) → k < i + n → recordCount g ws (getD list k 0) ≤ g .b) → blocks (layoutOf g) false ws list i n ≡ blocksOf g ws list i n
+blocks-listed g ws list i n h f = blocks-from g ws list i n h (λ k _. f k)
 
 -- pages of level 0
 pub blocks-paged : (g : Geometry) (ws list : List ℕ) (i n : ℕ) → blocks (layoutOf g) true ws list i n ≡ each (pageAt g ws) i n
@@ -66,7 +69,7 @@ unfolding blocks chunkOf
 blocks-paged g ws list i zero = refl
 blocks-paged g ws list i (suc n) = rw (page-block g ws i, blocks-paged g ws list (suc i) n)
 
-pub blocks-run : (pages : Bool) (g : Geometry) (ws list : List ℕ) (i n : ℕ) → (pages ≡ false → i + n ≤ length list) → (pages ≡ false → (k : ℕ) → k < i + n → recordCount g ws (getD list k 0) ≤ g .b)
+pub blocks-run : (pages : Bool) (g : Geometry) (ws list : List ℕ) (i n : ℕ) → (pages ≡ false → i + n ≤ length list) → (pages ≡ false → (k : ℕ) → i ≤ k → k < i + n → recordCount g ws (getD list k 0) ≤ g .b)
     → blocks (layoutOf g) pages ws list i n ≡ runOf pages g ws list i n
 blocks-run true g ws list i n h f = blocks-paged g ws list i n
-blocks-run false g ws list i n h f = blocks-listed g ws list i n (h refl) (f refl)
+blocks-run false g ws list i n h f = blocks-from g ws list i n (h refl) (f refl)

@@ -5,7 +5,7 @@ use mathlib.Core.Bool.{Bool, true, false, _&&_, true≢false}
 use mathlib.Core.List.{List, []}
 use mathlib.Core.Logic.{_≢_, dite}
 use native.Mathlib.Decide.{decLt}
-use native.Mathlib.Nat.{add-zero}
+use native.Mathlib.Nat.{add-zero, le-refl}
 use native.Mathlib.Omega.{arith}
 use lib.Arith.{digits-lt}
 use lib.Dec.{leb, eqb}
@@ -174,22 +174,22 @@ module _ (z : Layout) (a b : Memory) (sized : Sized z (a .words)) (k : Same z a 
         formed = rw (g .is) (record { low = s .formed .low; high = s .formed .high; bits = rw (g .marks) (s .formed .bits); rises = rw (agree-recs _ _ (s .formed .high) g) (s .formed .rises) });
       }
 
-  pub listed-kept : (pages : Bool) (list : List ℕ) (end : ℕ) → Listed z pages a list end → Listed z pages b list end
-  listed-kept pages list end f i h = stands-kept pages list i (f i h)
+  pub listed-kept : (pages : Bool) (list : List ℕ) (low end : ℕ) → Listed z pages a list low end → Listed z pages b list low end
+  listed-kept pages list low end f i l h = stands-kept pages list i (f i l h)
 
   -- a side stands where it stood
   pub side-kept : (pages : Bool) (list : List ℕ) (end : ℕ) (p : Point) → SideAt z pages (a .words) (a .used) list end p → SideAt z pages (b .words) (b .used) list end p
   side-kept pages list end p s =
-      record { stands = listed-kept pages list end (s .stands); low = s .low; inside = λ g. rw (chunk-kept pages list (p .i) (s .stands (p .i) g)) (s .inside g) }
+      record { stands = listed-kept pages list (p .i) end (s .stands); low = s .low; inside = λ g. rw (chunk-kept pages list (p .i) (s .stands (p .i) (le-refl (p .i)) g)) (s .inside g) }
 
-  pub blocks-same : (pages : Bool) (list : List ℕ) (i n end : ℕ) → Listed z pages a list end → i + n ≤ end → blocks z pages (b .words) list i n ≡ blocks z pages (a .words) list i n
+  pub blocks-same : (pages : Bool) (list : List ℕ) (i n end : ℕ) → Listed z pages a list i end → i + n ≤ end → blocks z pages (b .words) list i n ≡ blocks z pages (a .words) list i n
   unfolding blocks
   blocks-same pages list i zero end f h = refl
   blocks-same pages list i (suc n) end f h =
-      let s = f i (omega arith) in
-      rw (agree-block (chunkOf z pages (a .words) list i) (chunkOf z pages (b .words) list i) (s .formed .high) (chunk-agree pages list i s), blocks-same pages list (suc i) n end f (omega arith))
+      let s = f i (omega arith) (omega arith) in
+      rw (agree-block (chunkOf z pages (a .words) list i) (chunkOf z pages (b .words) list i) (s .formed .high) (chunk-agree pages list i s), blocks-same pages list (suc i) n end (λ k l. f k (omega arith)) (omega arith))
 
-  pub side-same : (pages : Bool) (list : List ℕ) (i j end : ℕ) → Listed z pages a list end → side z pages (b .words) list i j end ≡ side z pages (a .words) list i j end
+  pub side-same : (pages : Bool) (list : List ℕ) (i j end : ℕ) → Listed z pages a list i end → side z pages (b .words) list i j end ≡ side z pages (a .words) list i j end
   unfolding side blocks
   side-same pages list i j end f = dite (decLt i end)
       (λ y. ap (beginWith j) (blocks-same pages list i (end - i) end f (omega arith)))

@@ -5,12 +5,11 @@ use mathlib.Core.Bool.{Bool, true, false, true≢false}
 use mathlib.Core.List.{List, []}
 use mathlib.Core.Logic.{dite}
 use native.Mathlib.Decide.{decLt}
-use native.Mathlib.Nat.{le-refl}
+use native.Mathlib.Nat.{le-refl, zero-add}
 use native.Mathlib.Omega.{arith}
 use lib.ListN.{length, getD, length-append}
 use lib.Seq.{getD-set-same, getD-set-other}
 use Rattle.geometry.specs.declared.Geometry.{Geometry}
-use Rattle.geometry.specs.Geometry.{placeStart}
 use Rattle.levels.specs.Basics.{iterate}
 use Rattle.levels.specs.Record.{Block, Level, size, records}
 use Rattle.levels.specs.Rising.{Rising}
@@ -38,7 +37,7 @@ use Rattle.merging.proofs.Run.{begun-turns, begun-ready}
 use Rattle.merging.proofs.Close.{rested-length, flushed-out}
 use Rattle.merging.proofs.Whole.{turns-same, merge-laid}
 use Rattle.merging.proofs.Begin.{begin-holds, begin-tail}
-use Rattle.merging.proofs.Decode.{stored-block, page-block, blocks-listed, blocks-run}
+use Rattle.merging.proofs.Decode.{stored-block, page-block, blocks-from, blocks-run}
 use Rattle.merging.proofs.Settle.{NewFit}
 use Rattle.merging.proofs.Leaving.{leaves-of}
 use Rattle.merging.proofs.Steps.{steps-fit, reverse-fit, merge-fit, Filled, left, steps-end, steps-enough}
@@ -55,19 +54,19 @@ rested-at out m ys from (suc n) i h l =
     (λ y. let e : i ≡ n = omega arith in rw e (getD-set-same (restedOut out m ys from n) (m + n) (getD ys (from + n) 0) 0 (rw rested-length (omega arith))))
 
 -- the blocks of a side that stands
-module _ (z : Layout) (pages : Bool) (a : Memory) (list : List ℕ) (end : ℕ) (f : Listed z pages a list end) where
+module _ (z : Layout) (pages : Bool) (a : Memory) (list : List ℕ) (low end : ℕ) (f : Listed z pages a list low end) where
   size-is : (i : ℕ) → size (blockOf (a .words) (chunkOf z pages (a .words) list i)) ≡ chunkOf z pages (a .words) list i .n
   size-is i = recs-length (a .words) (chunkOf z pages (a .words) list i) 0 (chunkOf z pages (a .words) list i .n)
 
-  blocks-filled : (i n : ℕ) → i + n ≤ end → Filled (blocks z pages (a .words) list i n)
+  blocks-filled : (i n : ℕ) → low ≤ i → i + n ≤ end → Filled (blocks z pages (a .words) list i n)
   unfolding blocks
-  blocks-filled i zero h = tt
-  blocks-filled i (suc n) h = (rw (size-is i) (f i (omega arith) .formed .low), blocks-filled (suc i) n (omega arith))
+  blocks-filled i zero l h = tt
+  blocks-filled i (suc n) l h = (rw (size-is i) (f i l (omega arith) .formed .low), blocks-filled (suc i) n (omega arith) (omega arith))
 
-  blocks-count : (i n : ℕ) → z .b ≤ 16 → i + n ≤ end → length (records (blocks z pages (a .words) list i n)) ≤ 16 * n
+  blocks-count : (i n : ℕ) → z .b ≤ 16 → low ≤ i → i + n ≤ end → length (records (blocks z pages (a .words) list i n)) ≤ 16 * n
   unfolding blocks
-  blocks-count i zero b h = omega arith
-  blocks-count i (suc n) b h = rw length-append (omega (arith, blocks-count (suc i) n b (omega arith), size-is i, f i (omega arith) .formed .high))
+  blocks-count i zero b l h = omega arith
+  blocks-count i (suc n) b l h = rw length-append (omega (arith, blocks-count (suc i) n b (omega arith) (omega arith), size-is i, f i l (omega arith) .formed .high))
 
 side-start : (z : Layout) (pages : Bool) (ws list : List ℕ) (i end : ℕ) → side z pages ws list i 0 end ≡ blocks z pages ws list i (end - i)
 unfolding side
@@ -113,37 +112,39 @@ module _ (g : Geometry) (ws : List ℕ) (used : List Bool) (out xs ys : List ℕ
 
   -- the memory that step 3 starts from: the blocks before Y are listed
   abbrev pub begins : Memory
-  begins = record { words = ws; used = used; out = restedOut out 0 ys 0 (c .y); st = beginOf c cursor }
+  begins = record { words = ws; used = used; out = restedOut out 0 ys (c .start) (c .y - c .start); st = beginOf c cursor }
 
   sized : Sized z ws
   sized = sized-of g ws (k .valid) (k .words)
 
-  stands-lower : Listed z false begins ys (c .end)
-  stands-lower i h = stored-stands g ws used ys i (k .lower i h) (k .lower-rises i h)
+  stands-lower : Listed z false begins ys (c .start) (c .end)
+  stands-lower i l h = stored-stands g ws used ys i (k .lower i l h) (k .lower-rises i l h)
 
-  lower-within : Listed z false begins ys (c .yend)
-  lower-within i h = stands-lower i (let l = k .y-high in omega arith)
+  lower-within : Listed z false begins ys (c .y) (c .yend)
+  lower-within i l h = stands-lower i (let s = k .start-low in omega arith) (let e = k .y-high in omega arith)
 
-  stands-upper : Listed z (c .pages) begins xs (c .xend)
-  stands-upper i h = go (c .pages) refl
+  stands-upper : Listed z (c .pages) begins xs (c .x) (c .xend)
+  stands-upper i l h = go (c .pages) refl
     where
       go : (p : Bool) → c .pages ≡ p → Stands z p ws used xs i
-      go true e = page-stands g ws used xs i (let l = k .valid .ranged .b-low in omega arith) (k .paged e i h) (k .paged-rises e i h)
-      go false e = stored-stands g ws used xs i (k .upper e i h) (k .upper-rises e i h)
+      go true e = page-stands g ws used xs i (let b = k .valid .ranged .b-low in omega arith) (k .paged e i l h) (k .paged-rises e i l h)
+      go false e = stored-stands g ws used xs i (k .upper e i l h) (k .upper-rises e i l h)
 
   fits : c .y ≤ 4096
-  fits = let a = k .y-low in let b = k .y-high in let r = k .room in omega arith
+  fits = let a = k .y-low in let b = k .y-high in let r = k .end-high in omega arith
 
-  listed-same : (i : ℕ) → i < c .y → getD (restedOut out 0 ys 0 (c .y)) i 0 ≡ getD ys i 0
-  listed-same i h =
-      let e : 0 + i ≡ i = omega arith in
-      rw e at (rested-at out 0 ys 0 (c .y) i (omega (arith, fits)) h)
+  -- the blocks before Y begin where the list does
+  from-start : c .y - (c .y - c .start) ≡ c .start
+  from-start = let l = k .start-low in omega arith
 
-  long : length (restedOut out 0 ys 0 (c .y)) ≡ 4096
-  long = rested-length out 0 ys 0 (c .y) ∙ k .out-long
+  listed-same : (i : ℕ) → i < c .y - c .start → getD (begins .out) i 0 ≡ getD ys (c .start + i) 0
+  listed-same i h = rw zero-add at (rested-at out 0 ys (c .start) (c .y - c .start) i (omega (arith, fits, k .out-long)) h)
+
+  long : length (begins .out) ≡ 4096
+  long = rested-length out 0 ys (c .start) (c .y - c .start) ∙ k .out-long
 
   holds : Holds z (start begins) (relation.first z t xs ys begins .out) begins
-  holds = begin-holds z begins ys refl (omega (arith, fits, long)) listed-same
+  holds = rw from-start (begin-holds z begins ys (c .start) refl (omega (arith, fits, long)) listed-same)
 
   core : Core z t xs ys (relation.first z t xs ys begins .out) begins
   core =
@@ -152,10 +153,10 @@ module _ (g : Geometry) (ws : List ℕ) (used : List Bool) (out xs ys : List ℕ
         full = long;
         cursor = k .cursor-low;
         few = (let l = sized .b-low in omega arith);
-        upper = record { stands = stands-upper; low = k .x-low; inside = λ h. stands-upper (c .x) h .formed .low };
-        lower = record { stands = lower-within; low = k .y-low; inside = λ h. lower-within (c .y) h .formed .low };
-        listed = λ i h. rw (listed-same i h) (stands-lower i (let a = k .y-low in let b = k .y-high in omega arith) .place refl);
-        tail = begin-tail z begins ys refl (omega (arith, fits, long)) listed-same;
+        upper = record { stands = stands-upper; low = k .x-low; inside = λ h. stands-upper (c .x) (le-refl (c .x)) h .formed .low };
+        lower = record { stands = lower-within; low = k .y-low; inside = λ h. lower-within (c .y) (le-refl (c .y)) h .formed .low };
+        listed = λ i h. rw (listed-same i h) (stands-lower (c .start + i) (omega arith) (let a = k .y-low in let b = k .y-high in omega arith) .place refl);
+        tail = rw from-start (begin-tail z begins ys (c .start) refl (omega (arith, fits, long)) listed-same);
       }
 
   supplied : Supplied z t xs ys begins
@@ -167,8 +168,8 @@ module _ (g : Geometry) (ws : List ℕ) (used : List Bool) (out xs ys : List ℕ
         y-start = refl;
         writes = refl;
         x-high = k .x-high;
-        y-high = (let a = k .y-high in let r = k .room in omega arith);
-        room = (let a = k .y-low in let b = k .y-high in let r = k .room in omega arith);
+        y-high = (let a = k .y-high in let r = k .end-high in omega arith);
+        room = (let s = k .start-low in let a = k .y-low in let b = k .y-high in let r = k .room in omega arith);
         free = k .free;
       }
 
@@ -183,15 +184,15 @@ module _ (g : Geometry) (ws : List ℕ) (used : List Bool) (out xs ys : List ℕ
   state = relation.first z t xs ys begins
 
   filled-upper : Filled (state .upper)
-  filled-upper = rw (side-start z (c .pages) ws xs (c .x) (c .xend)) (blocks-filled z (c .pages) begins xs (c .xend) stands-upper (c .x) (c .xend - c .x) (let l = k .x-low in omega arith))
+  filled-upper = rw (side-start z (c .pages) ws xs (c .x) (c .xend)) (blocks-filled z (c .pages) begins xs (c .x) (c .xend) stands-upper (c .x) (c .xend - c .x) (le-refl (c .x)) (let l = k .x-low in omega arith))
 
   filled-lower : Filled (state .lower)
-  filled-lower = rw (side-start z false ws ys (c .y) (c .yend)) (blocks-filled z false begins ys (c .end) stands-lower (c .y) (c .yend - c .y) (let l = k .y-low in let h = k .y-high in omega arith))
+  filled-lower = rw (side-start z false ws ys (c .y) (c .yend)) (blocks-filled z false begins ys (c .start) (c .end) stands-lower (c .y) (c .yend - c .y) (k .start-low) (let l = k .y-low in let h = k .y-high in omega arith))
 
   few-left : left state ≤ limitOf c
   few-left =
-      let x = blocks-count z (c .pages) begins xs (c .xend) stands-upper (c .x) (c .xend - c .x) (sized .b-high) (let l = k .x-low in omega arith) in
-      let y = blocks-count z false begins ys (c .end) stands-lower (c .y) (c .yend - c .y) (sized .b-high) (let l = k .y-low in let h = k .y-high in omega arith) in
+      let x = blocks-count z (c .pages) begins xs (c .x) (c .xend) stands-upper (c .x) (c .xend - c .x) (sized .b-high) (le-refl (c .x)) (let l = k .x-low in omega arith) in
+      let y = blocks-count z false begins ys (c .start) (c .end) stands-lower (c .y) (c .yend - c .y) (sized .b-high) (k .start-low) (let l = k .y-low in let h = k .y-high in omega arith) in
       rw (side-start z (c .pages) ws xs (c .x) (c .xend), side-start z false ws ys (c .y) (c .yend)) (omega arith)
 
   abbrev pub ends : Memory
@@ -214,7 +215,7 @@ module _ (g : Geometry) (ws : List ℕ) (used : List Bool) (out xs ys : List ℕ
   y-at = let a = y-over in let b = both .0 .lower .low in omega arith
 
   end-room : ends .st .m + 1 + (c .end - c .yend) ≤ 4096
-  end-room = let b = turns-bounded z t xs ys begins supplied (limitOf c) .m in let r = k .room in let l = k .y-low in let h = k .y-high in omega arith
+  end-room = let b = turns-bounded z t xs ys begins supplied (limitOf c) .m in let r = k .room in let s = k .start-low in let l = k .y-low in let h = k .y-high in omega arith
 
   kept : Same z begins ends
   kept = turns-same z t xs ys (limitOf c) begins (λ i h. free-found (turns z t xs ys i begins .used) (g .p) (turns z t xs ys i begins .st .cursor) (begun-turns z t xs ys i begins (begun i) i (le-refl i) .0 .cursor) (budgets z t xs ys begins supplied i .free))
@@ -223,25 +224,23 @@ module _ (g : Geometry) (ws : List ℕ) (used : List Bool) (out xs ys : List ℕ
   pub closing : Closable z ys (c .end) ends
   closing =
       closable z t xs ys (c .end) (start begins) (iterate (limitOf c) (step (g .b) (c .bottom)) state .out) ends (both .0) (both .1 .out) (budgets z t xs ys begins supplied (limitOf c))
-      (listed-kept z begins ends sized kept false ys (c .end) stands-lower) (let r = k .room in omega arith) (let h = k .y-high in omega (arith, y-at)) (rw y-at end-room)
+      (λ i l. listed-kept z begins ends sized kept false ys (c .start) (c .end) stands-lower i (let s = k .start-low in let a = k .y-low in omega (arith, y-at))) (k .end-high) (let h = k .y-high in omega (arith, y-at)) (rw y-at end-room)
 
   laid : flashOf (closed z ys (c .end) ends) ≡ layAll z (start begins) (merged z t xs ys (limitOf c) (c .end) begins)
-  laid = merge-laid z t xs ys (limitOf c) (c .end) begins (begun (limitOf c)) stands-lower (k .y-high) ended end-room
+  laid = merge-laid z t xs ys (limitOf c) (c .end) begins (begun (limitOf c)) (λ i l. stands-lower i (let s = k .start-low in let a = k .y-low in omega arith)) (k .y-high) ended end-room
 
-  high-lower : (i n : ℕ) → i + n ≤ c .end → (j : ℕ) → j < i + n → getD ws (placeStart g (getD ys j 0)) 0 ≤ g .b
-  high-lower i n h j l = k .lower j (omega arith) .high
-
-  lower-is : (i n : ℕ) → i + n ≤ c .end → blocks z false ws ys i n ≡ blocksOf g ws ys i n
-  lower-is i n h = blocks-listed g ws ys i n (let r = k .room in let y = k .ys-long in omega arith) (high-lower i n h)
+  lower-is : (i n : ℕ) → c .start ≤ i → i + n ≤ c .end → blocks z false ws ys i n ≡ blocksOf g ws ys i n
+  lower-is i n l h = blocks-from g ws ys i n (let r = k .end-high in let y = k .ys-long in omega arith) (λ j a b. k .lower j (omega arith) (omega arith) .high)
 
   upper-is : blocks z (c .pages) ws xs (c .x) (c .xend - c .x) ≡ runOf (c .pages) g ws xs (c .x) (c .xend - c .x)
   upper-is =
-      blocks-run (c .pages) g ws xs (c .x) (c .xend - c .x) (λ e. let l = k .x-low in let h = k .x-high in let x = k .xs-long in omega arith) (λ e i l. k .upper e i (let w = k .x-low in omega arith) .high)
+      blocks-run (c .pages) g ws xs (c .x) (c .xend - c .x) (λ e. let l = k .x-low in let h = k .x-high in let x = k .xs-long in omega arith) (λ e i l h. k .upper e i l (let w = k .x-low in omega arith) .high)
 
   -- the merge of blocks that the machine makes is that of the store's blocks
   merged-is : merged z t xs ys (limitOf c) (c .end) begins ≡ mergeOf g ws xs ys c
   unfolding mergeOf
   merged-is =
+      let s = k .start-low in
       let l = k .y-low in
       let h = k .y-high in
       rw (
@@ -249,16 +248,17 @@ module _ (g : Geometry) (ws : List ℕ) (used : List Bool) (out xs ys : List ℕ
         side-start z (c .pages) ws xs (c .x) (c .xend),
         side-start z false ws ys (c .y) (c .yend),
         upper-is,
-        lower-is (c .y) (c .yend - c .y) (omega arith),
-        lower-is 0 (c .y) (omega arith),
-        lower-is (c .yend) (c .end - c .yend) (omega arith),
+        lower-is (c .y) (c .yend - c .y) s (omega arith),
+        from-start,
+        lower-is (c .start) (c .y - c .start) (omega arith) (omega arith),
+        lower-is (c .yend) (c .end - c .yend) (omega arith) (omega arith),
       )
 
   new-fit : NewFit (g .b) (merged z t xs ys (limitOf c) (c .end) begins)
   new-fit =
       let b = sized .b-low in
       merge-fit (g .b) (iterate (limitOf c) (step (g .b) (c .bottom)) state .out) (blocks z false ws ys (c .yend) (c .end - c .yend))
-      (steps-fit (g .b) (c .bottom) (limitOf c) state (omega arith) (record { few = omega arith; done = reverse-fit (g .b) (blocks z false ws ys 0 (c .y)) [] (listed-fit (g .b) z ws ys 0 (c .y)) tt }))
+      (steps-fit (g .b) (c .bottom) (limitOf c) state (omega arith) (record { few = omega arith; done = reverse-fit (g .b) (blocks z false ws ys (c .y - (c .y - c .start)) (c .y - c .start)) [] (listed-fit (g .b) z ws ys _ _) tt }))
       (listed-fit (g .b) z ws ys (c .yend) (c .end - c .yend))
 
   closed-long : length (closed z ys (c .end) ends .out) ≡ 4096

@@ -49,12 +49,12 @@ pub record Stands (z : Layout) (pages : Bool) (ws : List ℕ) (used : List Bool)
   pub page : pages ≡ true → k < z .top
   pub formed : Formed z ws (chunkOf z pages ws list k)
 
-abbrev pub Listed : Layout → Bool → Memory → List ℕ → ℕ → Type 0
-Listed z pages a list end = (k : ℕ) → k < end → Stands z pages (a .words) (a .used) list k
+abbrev pub Listed : Layout → Bool → Memory → List ℕ → ℕ → ℕ → Type 0
+Listed z pages a list low end = (k : ℕ) → low ≤ k → k < end → Stands z pages (a .words) (a .used) list k
 
--- a side stands at point p: its chunks stand, and p is a record of one of them, or its end
+-- a side stands at point p: its chunks from there on stand, and p is a record of one of them, or its end
 pub record SideAt (z : Layout) (pages : Bool) (ws : List ℕ) (used : List Bool) (list : List ℕ) (end : ℕ) (p : Point) : Type 0 where
-  pub stands : (k : ℕ) → k < end → Stands z pages ws used list k
+  pub stands : (k : ℕ) → p .i ≤ k → k < end → Stands z pages ws used list k
   pub low : p .i ≤ end
   pub inside : p .i < end → p .j < chunkOf z pages ws list (p .i) .n
 
@@ -90,13 +90,13 @@ pub record Sim (z : Layout) (t : Inputs) (xs ys : List ℕ) (d : Flash) (s : Sta
 abbrev pub start : Memory → Flash
 start a = record { words = a .words; used = a .used; cursor = a .st .cursor; writes = a .st .writes; list = [] }
 
--- the state that a merge starts from: the blocks before Y are the first m of the lower list
+-- the state that a merge starts from: the blocks before Y are the m before it in the lower list
 abbrev pub first : Layout → Inputs → List ℕ → List ℕ → Memory → State
 first z t xs ys a =
     record {
       upper = side z (t .pages) (a .words) xs (a .st .x .i) (a .st .x .j) (t .x);
       lower = side z false (a .words) ys (a .st .y .i) (a .st .y .j) (t .y);
-      out = record { buffer = []; done = reverse (blocks z false (a .words) ys 0 (a .st .m)) };
+      out = record { buffer = []; done = reverse (blocks z false (a .words) ys (a .st .y .i - a .st .m) (a .st .m)) };
     }
 
 -- what a merge asks of the store

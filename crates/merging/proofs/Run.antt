@@ -3,6 +3,7 @@ use Prim.Native.Nat.{ℕ, zero, suc, _≤_, _<_}
 use mathlib.Core.Path.{_≡_, _∙_, refl}
 use mathlib.Core.Bool.{Bool, true, false}
 use mathlib.Core.List.{List, []}
+use native.Mathlib.Nat.{le-refl}
 use native.Mathlib.Omega.{arith}
 use lib.ListN.{getD}
 use Rattle.levels.specs.Basics.{if_then_else_, iterate}
@@ -38,7 +39,7 @@ chunk-rises z pages ws used list i s h k =
 
 side-readable : {z : Layout} {pages : Bool} {ws : List ℕ} {used : List Bool} {list : List ℕ} {end : ℕ} {p : Point} → Sized z ws → end ≤ 4096 → SideAt z pages ws used list end p → Readable z pages ws list (p .i) (p .j) end
 side-readable {z = z} {pages = pages} {ws = ws} {used = used} {list = list} {p = p} s h k =
-    record { sized = s; end-high = h; place = λ g. k .stands (p .i) g .place; page = λ g. k .stands (p .i) g .page; inside = k .inside; count = λ g. k .stands (p .i) g .formed .high; rises = λ g. chunk-rises z pages ws used list (p .i) s (omega arith) (k .stands (p .i) g) }
+    record { sized = s; end-high = h; place = λ g. k .stands (p .i) (le-refl (p .i)) g .place; page = λ g. k .stands (p .i) (le-refl (p .i)) g .page; inside = k .inside; count = λ g. k .stands (p .i) (le-refl (p .i)) g .formed .high; rises = λ g. chunk-rises z pages ws used list (p .i) s (omega arith) (k .stands (p .i) (le-refl (p .i)) g) }
 
 module _ (z : Layout) (t : Inputs) (xs ys : List ℕ) (d : Flash) where
   -- the code's `requires` follow

@@ -5,6 +5,7 @@ use mathlib.Core.Bool.{Bool, true, false, _&&_, true≢false}
 use mathlib.Core.List.{List, [], _∷_, _++_}
 use native.Mathlib.Decide.{decLt}
 use native.Mathlib.Numerals.{add-one}
+use native.Mathlib.Nat.{le-refl}
 use native.Mathlib.Omega.{arith}
 use lib.Dec.{ltb, leb, eqb}
 use lib.ListN.{length, getD, set, length-append}
@@ -88,7 +89,7 @@ module _ {z : Layout} {pages : Bool} {ws : List ℕ} {used : List Bool} {list : 
   behind = side z pages ws list (p .i + 1) 0 end
 
   shows : Shows ws head top
-  shows = shows-at z ws chunk (p .j) (k .stands (p .i) g .formed) (k .inside g)
+  shows = shows-at z ws chunk (p .j) (k .stands (p .i) (le-refl (p .i)) g .formed) (k .inside g)
 
   bit-low : head .tombstone < 2
   bit-low = omega arith
@@ -99,11 +100,11 @@ module _ {z : Layout} {pages : Bool} {ws : List ℕ} {used : List Bool} {list : 
   found : placed top ≡ true → Placed z ws used (chunk .place) top
   found e =
       let w = shows .whole ∙ e in
-      subst (Placed z ws used (chunk .place)) (whole-is (and-right (chunk .listed) (eqb (p .j) 0) w)) (listed-placed z pages ws used list (p .i) (k .stands (p .i) g) (and-left (chunk .listed) (eqb (p .j) 0) w))
+      subst (Placed z ws used (chunk .place)) (whole-is (and-right (chunk .listed) (eqb (p .j) 0) w)) (listed-placed z pages ws used list (p .i) (k .stands (p .i) (le-refl (p .i)) g) (and-left (chunk .listed) (eqb (p .j) 0) w))
 
   -- the side after the block, or after the record
   next-at : SideAt z pages ws used list end (record { i = p .i + 1; j = 0 })
-  next-at = record { stands = k .stands; low = omega arith; inside = λ h. k .stands (p .i + 1) h .formed .low }
+  next-at = record { stands = λ i l. k .stands i (omega arith); low = omega arith; inside = λ h. k .stands (p .i + 1) (omega arith) h .formed .low }
 
   after-at : (r : Bool) → SideAt z pages ws used list end (pointAfter p (chunk .n) r)
   unfolding pointAfter

@@ -40,7 +40,7 @@ runOf false g ws list i n = blocksOf g ws list i n
 unfoldable pub mergeOf : Geometry → List ℕ → List ℕ → List ℕ → Cut → Level
 mergeOf g ws xs ys c =
     merge (g .b) (c .bottom)
-    (blocksOf g ws ys 0 (c .y))
+    (blocksOf g ws ys (c .start) (c .y - c .start))
     (runOf (c .pages) g ws xs (c .x) (c .xend - c .x))
     (blocksOf g ws ys (c .y) (c .yend - c .y))
     (blocksOf g ws ys (c .yend) (c .end - c .yend))
@@ -74,15 +74,17 @@ pub record Mergeable (g : Geometry) (ws : List ℕ) (used : List Bool) (out xs y
   pub cursor-low : cursor < g .p
   pub x-low : c .x ≤ c .xend
   pub x-high : c .xend ≤ listRoom
+  pub start-low : c .start ≤ c .y
   pub y-low : c .y ≤ c .yend
   pub y-high : c .yend ≤ c .end
-  pub upper : c .pages ≡ false → (k : ℕ) → k < c .xend → ListedBlock g ws used (getD xs k 0)
-  pub paged : c .pages ≡ true → (k : ℕ) → k < c .xend → FullPage g ws k
-  pub lower : (k : ℕ) → k < c .end → ListedBlock g ws used (getD ys k 0)
-  pub upper-rises : c .pages ≡ false → (k : ℕ) → k < c .xend → Rising 0 (blockAt g ws (getD xs k 0) .recs)
-  pub paged-rises : c .pages ≡ true → (k : ℕ) → k < c .xend → Rising 0 (pageAt g ws k .recs)
-  pub lower-rises : (k : ℕ) → k < c .end → Rising 0 (blockAt g ws (getD ys k 0) .recs)
-  pub room : c .end + 2 * ((c .xend - c .x) + (c .yend - c .y)) + 2 ≤ listRoom
+  pub end-high : c .end ≤ listRoom
+  pub upper : c .pages ≡ false → (k : ℕ) → c .x ≤ k → k < c .xend → ListedBlock g ws used (getD xs k 0)
+  pub paged : c .pages ≡ true → (k : ℕ) → c .x ≤ k → k < c .xend → FullPage g ws k
+  pub lower : (k : ℕ) → c .start ≤ k → k < c .end → ListedBlock g ws used (getD ys k 0)
+  pub upper-rises : c .pages ≡ false → (k : ℕ) → c .x ≤ k → k < c .xend → Rising 0 (blockAt g ws (getD xs k 0) .recs)
+  pub paged-rises : c .pages ≡ true → (k : ℕ) → c .x ≤ k → k < c .xend → Rising 0 (pageAt g ws k .recs)
+  pub lower-rises : (k : ℕ) → c .start ≤ k → k < c .end → Rising 0 (blockAt g ws (getD ys k 0) .recs)
+  pub room : (c .end - c .start) + 2 * ((c .xend - c .x) + (c .yend - c .y)) + 2 ≤ listRoom
   pub free : countMarks (g .p) used + ((c .xend - c .x) + (c .yend - c .y)) + 1 ≤ g .p
 
 -- the ends of X and Y, where the merge begins, and more steps than there are records
@@ -90,7 +92,7 @@ abbrev pub inputsOf : Cut → Inputs
 inputsOf c = record { x = c .xend; y = c .yend; pages = c .pages; bottom = c .bottom }
 
 abbrev pub beginOf : Cut → ℕ → Progress
-beginOf c cursor = record { x = record { i = c .x; j = 0 }; y = record { i = c .y; j = 0 }; m = c .y; writes = 0; cursor = cursor; buf = emptyBuffer }
+beginOf c cursor = record { x = record { i = c .x; j = 0 }; y = record { i = c .y; j = 0 }; m = c .y - c .start; writes = 0; cursor = cursor; buf = emptyBuffer }
 
 abbrev pub limitOf : Cut → ℕ
 limitOf c = 16 * ((c .xend - c .x) + (c .yend - c .y))

@@ -12,12 +12,13 @@ use stream::Inputs;
 use stream::Point;
 use stream::Progress;
 
-// Where a merge's blocks stand: X is the chunks x to xend of the upper level, Y the entries y to
-// yend of the lower level's list, which has `end` entries; X may be pages of level 0, and the lower
-// level may be level h.
+// Where a merge's blocks stand: X is the chunks x to xend of the upper level, the lower level's list
+// the entries start to end of an array, and Y the entries y to yend of it; X may be pages of level 0,
+// and the lower level may be level h.
 pub struct Cut {
     pub x: usize,
     pub xend: usize,
+    pub start: usize,
     pub y: usize,
     pub yend: usize,
     pub end: usize,
@@ -47,6 +48,7 @@ impl Cut {
 
     // The merge begins at X's and Y's first records; the blocks before Y are listed already.
     fn begin(self, cursor: usize) -> Progress
+        requires { ⌜ self .start ≤ self .y ⌝ }
         ensures { λ r. ⌜ r ≡ beginOf self cursor ⌝ }
     {
         let empty = blocks::empty();
@@ -55,7 +57,7 @@ impl Cut {
         Progress {
             x: x,
             y: y,
-            m: self.y,
+            m: self.y - self.start,
             writes: 0,
             cursor: cursor,
             buf: empty,
@@ -90,11 +92,12 @@ pub fn merge_blocks(
 {
     let z = Layout::of(g);
     let t = parts.inputs();
+    let start = parts.start;
     let y = parts.y;
     let end = parts.end;
     let st = parts.begin(cursor);
     let limit = parts.limit();
-    joins::copy_entries(out, ys, 0, 0, y);
+    joins::copy_entries(out, ys, 0, start, y);
     let v = stream::stream(s, used, out, xs, ys, z, t, st, limit);
     let r = joins::close(s, used, out, ys, z, v, end);
     Merged {

@@ -21,7 +21,7 @@ use Rattle.merging.specs.declared.Merged.{Merged}
 use Rattle.merging.specs.Contract.{ListedBlock, Leaves}
 use Rattle.merging.proofs.Settle.{NewFit}
 use Rattle.merging.proofs.Steps.{join-fit}
-use Rattle.pair.specs.Contract.{levelOf, InUse}
+use Rattle.pair.specs.Contract.{levelOf, InUse, Stored}
 use Rattle.pair.proofs.Kept.{Grown, settle-grows, area-length, base-drop, base-length, count-same, mark-same, block-same}
 
 -- the blocks of a list have places, so none of them is new
@@ -46,32 +46,28 @@ close-fit B i left right l r = join-fit B (reverse left) right (fresh-fit B (rev
 pub close-one : (B i : ℕ) (left right : Level) → fresh left ≡ 0 → fresh right ≡ 0 → fresh (close B (suc i) left right) ≤ 1
 close-one B i left right l r = omega (arith, close-writes B i left right)
 
+-- what stands after a merge of which m places are in use
+pub record Later (g : Geometry) (ws ws' : List ℕ) (used used' : List Bool) (r : Merged) (m : ℕ) : Type 0 where
+  pub long : length ws' ≡ storeLength g
+  pub cursor : r .cursor < g .p
+  pub in-use : InUse used'
+  pub count : length (in-use .places) ≡ m
+  pub block : (q : ℕ) → ListedBlock g ws used q → ListedBlock g ws' used' q
+  pub stored : (ps : List ℕ) (n : ℕ) → Stored g ws used ps n → Stored g ws' used' ps n × (levelOf g ws' ps n ≡ levelOf g ws ps n)
+
 module _ (g : Geometry) (ws ws' : List ℕ) (used used' : List Bool) (list : List ℕ) (r : Merged) (a : Allocation) (l : Level)
     (long : length ws ≡ storeLength g) (low : a .cursor < g .p) (free : length (a .used) + fresh l ≤ g .p) (fit : NewFit (g .b) l)
     (marks : Marks used (a .used)) (k : Leaves g (settle (g .p) a l) ws ws' used' list r) where
   grown : Grown g a (areaOf g ws) (settle (g .p) a l)
   grown = settle-grows g a (areaOf g ws) l (area-length g ws long) low free fit
 
-  pub after-long : length ws' ≡ storeLength g
-  after-long = rw (k .words) (base-length g ws long (writeBlocks g (areaOf g ws) (settle (g .p) a l .written)) (grown .full))
-
-  pub after-cursor : r .cursor < g .p
-  after-cursor = rw (k .cursor) (grown .cursor)
-
-  pub after-in-use : InUse used'
-  after-in-use = record { places = settle (g .p) a l .allocation .used; marks = k .marks }
-
-  pub after-count : length (after-in-use .places) ≡ length (a .used) + fresh l
-  unfolding after-in-use
-  after-count = settle-used (g .p) a l
-
-  after-words : (q : ℕ) → getD used q false ≡ true → placeWords g (areaOf g ws') q ≡ placeWords g (areaOf g ws) q
-  after-words q u =
+  words-same : (q : ℕ) → getD used q false ≡ true → placeWords g (areaOf g ws') q ≡ placeWords g (areaOf g ws) q
+  words-same q u =
       rw (k .words, base-drop g ws long (writeBlocks g (areaOf g ws) (settle (g .p) a l .written))) (grown .words q (sym (marks q) ∙ u))
 
-  pub after-block : (q : ℕ) → ListedBlock g ws used q → ListedBlock g ws' used' q
-  after-block q b =
-      let e = after-words q (b .taken) in
+  block-after : (q : ℕ) → ListedBlock g ws used q → ListedBlock g ws' used' q
+  block-after q b =
+      let e = words-same q (b .taken) in
       let c = count-same g ws ws' q e in
       record {
         place = b .place;
@@ -81,8 +77,21 @@ module _ (g : Geometry) (ws ws' : List ℕ) (used used' : List Bool) (list : Lis
         bits = rw (c, mark-same g ws ws' q e) (b .bits);
       }
 
-  pub after-level : (ps : List ℕ) (n : ℕ) → ((i : ℕ) → i < n → ListedBlock g ws used (getD ps i 0)) → levelOf g ws' ps n ≡ levelOf g ws ps n
-  after-level ps zero f = refl
-  after-level [] (suc n) f = refl
-  after-level (p ∷ ps) (suc n) f =
-      rw (block-same g ws ws' p (after-words p (f 0 (omega arith) .taken)), after-level ps n (λ i h. f (suc i) (omega arith)))
+  level-after : (ps : List ℕ) (n : ℕ) → ((i : ℕ) → i < n → ListedBlock g ws used (getD ps i 0)) → levelOf g ws' ps n ≡ levelOf g ws ps n
+  level-after ps zero f = refl
+  level-after [] (suc n) f = refl
+  level-after (p ∷ ps) (suc n) f =
+      rw (block-same g ws ws' p (words-same p (f 0 (omega arith) .taken)), level-after ps n (λ i h. f (suc i) (omega arith)))
+
+  pub later : Later g ws ws' used used' r (length (a .used) + fresh l)
+  later =
+      record {
+        long = rw (k .words) (base-length g ws long (writeBlocks g (areaOf g ws) (settle (g .p) a l .written)) (grown .full));
+        cursor = rw (k .cursor) (grown .cursor);
+        in-use = record { places = settle (g .p) a l .allocation .used; marks = k .marks };
+        count = settle-used (g .p) a l;
+        block = block-after;
+        stored = λ ps n s.
+            let e = level-after ps n (s .blocks) in
+            (record { long = s .long; high = s .high; blocks = λ i h. block-after (getD ps i 0) (s .blocks i h); rises = rw e (s .rises) }, e);
+      }

@@ -11,9 +11,9 @@ use Rattle.levels.specs.Choose.{choose, cutAt}
 use Rattle.levels.specs.Merge.{merge}
 use Rattle.levels.proofs.Cut.{cut-run}
 use Rattle.choice.specs.Fences.{Ordered, fenceOf}
-use Rattle.merging.specs.Contract.{runOf, mergeOf}
+use Rattle.merging.specs.Contract.{blocksOf, runOf, mergeOf}
 use Rattle.pair.specs.declared.Picked.{Picked}
-use Rattle.pair.specs.Contract.{levelOf, meetsAt, Chosen}
+use Rattle.pair.specs.Contract.{meetsAt, Chosen}
 use Rattle.pair.proofs.Chosen.{ends-in-order, ends-inside, before-is, over-is, behind-is}
 use Rattle.pair.proofs.Merges.{merge-is}
 
@@ -21,11 +21,11 @@ module _ (w : ℕ) (above under : Level) (r : Picked) (k : Chosen w above under 
   pub run-is : cutAt w (choose w above under .at) above under .run ≡ take w (drop (r .first) above)
   run-is = rw (← k .first) (cut-run w (r .first) above under)
 
-  pub met-merge : (g : Geometry) (ws xs lower : List ℕ) (n : ℕ) (pages bottom : Bool) → n ≤ length lower → length under ≡ n
-      → runOf pages g ws xs (r .first) w ≡ take w (drop (r .first) above) → levelOf g ws lower n ≡ under → let c = cutAt w (choose w above under .at) above under in
-      mergeOf g ws xs lower (meetsAt w n pages bottom r) ≡ merge (g .b) bottom (c .before) (c .run) (c .over) (c .behind)
-  met-merge g ws xs lower n pages bottom l lu er eu =
+  pub met-merge : (g : Geometry) (ws xs lists : List ℕ) (at n : ℕ) (pages bottom : Bool) → at + n ≤ length lists → length under ≡ n
+      → runOf pages g ws xs (r .first) w ≡ take w (drop (r .first) above) → blocksOf g ws lists at n ≡ under → let c = cutAt w (choose w above under .at) above under in
+      mergeOf g ws xs lists (meetsAt w at n pages bottom r) ≡ merge (g .b) bottom (c .before) (c .run) (c .over) (c .behind)
+  met-merge g ws xs lists at n pages bottom l lu er eu =
       let x : r .first + w - r .first ≡ w = omega arith in
       let m : r .end ≤ n = rw lu at (ends-inside w above under r k oa ou p h) in
-      merge-is g ws xs lower (meetsAt w n pages bottom r) (take w (drop (r .first) above)) under (ends-in-order w above under r k oa ou p h) m l (rw x er) eu
+      merge-is g ws xs lists (r .first) (r .first + w) at (r .start) (r .end) n pages bottom (take w (drop (r .first) above)) under (ends-in-order w above under r k oa ou p h) m l (rw x er) eu
       ∙ rw (run-is, before-is w above under r k oa ou p h, over-is w above under r k oa ou p h, behind-is w above under r k oa ou p h)

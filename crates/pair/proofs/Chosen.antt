@@ -2,12 +2,15 @@
 use Prim.Native.Nat.{ℕ, _+_, _-_, _≤_}
 use mathlib.Core.Path.{_≡_, sym, ap, _∙_}
 use mathlib.Core.List.{List, map}
+use native.Mathlib.Nat.{le-refl}
 use native.Mathlib.Omega.{arith}
 use lib.ListN.{length, take, drop, length-map}
+use lib.Seq.{take-length}
 use Rattle.geometry.specs.declared.Geometry.{Geometry}
 use Rattle.levels.specs.Record.{Level}
 use Rattle.levels.specs.Choose.{Least, choose, cutAt}
 use Rattle.levels.proofs.Cut.{cut-lengths}
+use Rattle.words.specs.Layout.{blockAt}
 use Rattle.choice.specs.declared.Choice.{Choice}
 use Rattle.choice.specs.declared.Stretch.{Stretch}
 use Rattle.choice.specs.Fences.{Fenced, Ordered, fenceOf, fencesOf, chooseFences, choiceOf, stretchOf}
@@ -18,7 +21,7 @@ use Rattle.choice.proofs.Cut.{cut-before, cut-over, cut-behind, cut-start, cut-
 use Rattle.choice.proofs.Keys.{level-fenced}
 use Rattle.fences.proofs.Words.{listed-fences}
 use Rattle.pair.specs.declared.Picked.{Picked}
-use Rattle.pair.specs.Contract.{levelOf, Chosen, Readables}
+use Rattle.pair.specs.Contract.{Chosen, Readables}
 
 -- what is found by fences is the choice by blocks
 pub picked : (firsts lasts starts ends : List ℕ) (a n w : ℕ) (c : Choice) → c ≡ choiceOf (chooseFences w (fencesOf firsts lasts a) (fencesOf starts ends n))
@@ -34,13 +37,13 @@ picked firsts lasts starts ends a n w c e above under ea eu =
     }
 
 -- lists of keys filled from the blocks of a place list
-module _ (g : Geometry) (ws list : List ℕ) (n : ℕ) (k : Readables g ws list n) (xs ys firsts lasts : List ℕ)
-    (e : firsts ≡ fill (λ i. listedFence g ws list i .first) n xs) (d : lasts ≡ fill (λ i. listedFence g ws list i .last) n ys) where
-  pub listed-are : fencesOf firsts lasts n ≡ map fenceOf (levelOf g ws list n)
-  listed-are = listed-fences g ws list n xs ys firsts lasts e d (let l = k .long in let h = k .high in omega arith)
+module _ (g : Geometry) (ws list : List ℕ) (k : Readables g ws list) (xs ys firsts lasts : List ℕ)
+    (e : firsts ≡ fill (λ i. listedFence g ws list i .first) (length list) xs) (d : lasts ≡ fill (λ i. listedFence g ws list i .last) (length list) ys) where
+  pub listed-are : fencesOf firsts lasts (length list) ≡ map fenceOf (map (blockAt g ws) list)
+  listed-are = rw take-length at (listed-fences g ws list (length list) xs ys firsts lasts e d (le-refl (length list)))
 
-  pub listed-fenced : n ≤ length firsts → n ≤ length lasts → Fenced firsts lasts 0 n
-  listed-fenced p q = level-fenced firsts lasts n (levelOf g ws list n) p q listed-are (k .ordered)
+  pub listed-fenced : length list ≤ length firsts → length list ≤ length lasts → Fenced firsts lasts 0 (length list)
+  listed-fenced p q = level-fenced firsts lasts (length list) (map (blockAt g ws) list) p q listed-are (k .ordered)
 
 -- What a chosen run has, of two levels in key order.
 module _ (w : ℕ) (above under : Level) (r : Picked) (k : Chosen w above under r) (oa : Ordered 0 (map fenceOf above)) (ou : Ordered 0 (map fenceOf under)) (p : 1 ≤ w) (h : w ≤ length above) where

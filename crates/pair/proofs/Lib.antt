@@ -5,7 +5,5 @@ pub mod Room
 pub mod Merges
 pub mod Below
 pub mod After
-pub mod Closing
 pub mod Pair
-pub mod Numbers
 pub mod Pages

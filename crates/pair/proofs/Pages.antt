@@ -10,6 +10,7 @@ use lib.ListN.{length, getD, take, drop, length-append}
 use lib.Seq.{take-all, take-at, drop-at}
 use Rattle.geometry.specs.declared.Geometry.{Geometry}
 use Rattle.geometry.specs.Geometry.{Valid, windowOf, capacityOf, topCapacityOf, marksStart, keysStart, paysStart, storeLength}
+use Rattle.geometry.specs.Room.{listRoom}
 use Rattle.geometry.proofs.Laws.{window-low, level-high}
 use Rattle.levels.specs.Basics.{each}
 use Rattle.levels.specs.Record.{Block, Level, records, rising, new, pages}
@@ -17,13 +18,15 @@ use Rattle.levels.specs.Rising.{Rising}
 use Rattle.levels.proofs.Rising.{test-rising}
 use Rattle.levels.specs.Choose.{choose}
 use Rattle.levels.specs.Choose as choosing
-use Rattle.levels.specs.Merge.{merge}
 use Rattle.levels.specs.Place.{Allocation, settle}
 use Rattle.levels.proofs.Overlap.{window-fits}
+use Rattle.levels.proofs.Settling.{settle-length}
 use Rattle.levels.proofs.Pages.{pack-full}
-use Rattle.words.specs.Layout.{word, slotsAt, pageSlots, topSlots, topRecs, topCountAt}
+use Rattle.words.specs.Layout.{word, blockAt, slotsAt, pageSlots, topSlots, topRecs, topCountAt}
 use Rattle.words.proofs.Slots.{slots-length}
 use Rattle.words.proofs.Top.{top-slots-length}
+use Rattle.lists.specs.Flat.{partStart, partRoom, partOf}
+use Rattle.lists.proofs.Flat.{part-inside}
 use Rattle.choice.specs.Fences.{Ordered, Fenced, fenceOf, fencesOf}
 use Rattle.fences.specs.Reading.{fill, pageFence}
 use Rattle.choice.proofs.Keys.{level-fenced}
@@ -34,14 +37,14 @@ use Rattle.fences.proofs.Words.{page-fences}
 use Rattle.blocks.specs.Blocks.{Marks}
 use Rattle.merging.specs.declared.Cut.{Cut}
 use Rattle.merging.specs.declared.Merged.{Merged}
-use Rattle.merging.specs.Contract.{pageAt, mergeOf, Mergeable, Leaves}
+use Rattle.merging.specs.Contract.{pageAt, mergeOf}
 use Rattle.pair.specs.declared.Picked.{Picked}
-use Rattle.pair.specs.Contract.{levelOf, meetsAt, cutOf, lowerAfter, InUse, Chosen, Readables, Paged, PagesReady, PagesLeaves}
+use Rattle.pair.specs.Contract.{listed, meetsAt, cutOf, lowerAfter, Chosen, Readables, Paged, Relistable, Relisted, PagesReady, PagesLeaves}
+use Rattle.pair.proofs.Lists.{slice-is, part-each}
 use Rattle.pair.proofs.Chosen.{run-inside, ends-in-order, ends-inside, overlap-is}
-use Rattle.pair.proofs.Room.{count-few}
-use Rattle.pair.proofs.Merges.{lower-leaves, block-rises, listed-rises}
+use Rattle.pair.proofs.Merges.{Sound, block-rises, listed-is, stored-sound, relistable, relisted-anew, lower-leaves}
 use Rattle.pair.proofs.Below.{met-merge}
-use Rattle.pair.proofs.Pair.{stored-ordered, stored-readable, stored-length}
+use Rattle.pair.proofs.Pair.{stored-ordered, stored-length, stored-readable, stored-room}
 
 -- n full pages from page i on: cut into pages, they are the pages that the words hold
 pages-each : (g : Geometry) (ws : List ℕ) (i n : ℕ) → 1 ≤ g .b → pages (g .b) (pageSlots g ws i n) ≡ each (pageAt g ws) i n
@@ -79,7 +82,7 @@ module _ (g : Geometry) (ws : List ℕ) (a : ℕ) (b : 1 ≤ g .b) (k : Paged g 
   pub paged-fenced : a ≤ length firsts → a ≤ length lasts → Fenced firsts lasts 0 a
   paged-fenced p q = level-fenced firsts lasts a (pages (g .b) (topRecs g ws)) p q paged-are (k .ordered)
 
-module _ (g : Geometry) (ws : List ℕ) (used : List Bool) (lower : List ℕ) (n cursor : ℕ) (k : PagesReady g ws used lower n cursor) where
+module _ (g : Geometry) (ws : List ℕ) (used : List Bool) (lists : List ℕ) (n cursor : ℕ) (k : PagesReady g ws used lists n cursor) where
   abbrev w : ℕ
   w = windowOf g 0
 
@@ -87,7 +90,17 @@ module _ (g : Geometry) (ws : List ℕ) (used : List Bool) (lower : List ℕ) (n
   above = pages (g .b) (topRecs g ws)
 
   abbrev under : Level
-  under = levelOf g ws lower n
+  under = listed g ws lists 1 n
+
+  abbrev at : ℕ
+  at = partStart (g .h) 1
+
+  n-room : n ≤ partRoom (g .h) 1
+  n-room = stored-room g ws used lists 1 n (k .lists-long) (k .under)
+
+  -- the list lies in the array
+  pub list-inside : at + n ≤ listRoom
+  list-inside = omega (arith, n-room, part-inside (g .h) 1)
 
   abbrev cut : choosing.Cut
   cut = cutOf g 0 above under
@@ -102,7 +115,7 @@ module _ (g : Geometry) (ws : List ℕ) (used : List Bool) (lower : List ℕ) (n
   la = ap length above-is ∙ length-each (pageAt g ws) 0 (capacityOf g 0)
 
   lu : length under ≡ n
-  lu = stored-length g ws used lower n (k .under)
+  lu = stored-length g ws used (partOf (g .h) lists 1) n (k .under)
 
   pages-rise : rising 0 (records (each (pageAt g ws) 0 (capacityOf g 0))) ≡ true
   pages-rise = rw (each-records g ws 0 (capacityOf g 0), ← top-full g ws (k .full)) (k .rises)
@@ -116,7 +129,7 @@ module _ (g : Geometry) (ws : List ℕ) (used : List Bool) (lower : List ℕ) (n
   oa = rw above-is (level-ordered 0 (each (pageAt g ws) 0 (capacityOf g 0)) (each-filled g ws 0 (capacityOf g 0) b-low) pages-rise)
 
   ou : Ordered 0 (map fenceOf under)
-  ou = stored-ordered g ws used lower n (k .under)
+  ou = stored-ordered g ws used (partOf (g .h) lists 1) n (k .under)
 
   w-low : 1 ≤ w
   w-low = window-low g (k .valid .ranged) 0
@@ -130,98 +143,71 @@ module _ (g : Geometry) (ws : List ℕ) (used : List Bool) (lower : List ℕ) (n
   fits : w ≤ length above
   fits = rw la window-in
 
-  -- the run can be chosen
-  pub pages-choosable : (a w : ℕ) → a ≡ capacityOf g 0 → w ≡ windowOf g 0 → Valid g × ((length ws ≡ storeLength g) × ((1 ≤ w) × ((w ≤ a) × (Paged g ws a × Readables g ws lower n))))
+  -- the run can be chosen, and is
+  pub pages-choosable : Valid g × ((length ws ≡ storeLength g) × ((1 ≤ w) × ((w ≤ capacityOf g 0) × (Paged g ws (capacityOf g 0) × Readables g ws (take (at + n - at) (drop at lists))))))
   unfolding topCapacityOf
-  pages-choosable a v ea ew =
+  pages-choosable =
       let f = k .full in
-      rw (ea, ew) (k .valid, (k .words, (w-low, (window-in, (record { count = f; fits = omega arith; high = omega (arith, few); ordered = oa }, stored-readable g ws used lower n (k .under))))))
+      rw (slice-is (g .h) 1 n lists n-room)
+      (k .valid, (k .words, (w-low, (window-in, (record { count = f; fits = omega arith; high = omega (arith, few); ordered = oa }, stored-readable g ws used (partOf (g .h) lists 1) n (k .under))))))
+
+  pub pages-chosen : (r : Picked) → Chosen w above (map (blockAt g ws) (take (at + n - at) (drop at lists))) r → Chosen w above under r
+  pages-chosen r = rw (slice-is (g .h) 1 n lists n-room) (λ c. c)
 
   module _ (r : Picked) (ch : Chosen w above under r) where
     inside : r .first + w ≤ capacityOf g 0
     inside = rw la at (run-inside w above under r ch oa ou w-low fits)
 
-    module _ (xs : List ℕ) (xl : length xs ≡ 4096) (bottom : Bool) (eb : bottom ≡ eqb 1 (g .h)) where
-      abbrev meets : Cut
-      meets = meetsAt w n true bottom r
+    -- where X and Y stand
+    pub pages-in : (r .first + w ≤ listRoom) × ((r .start ≤ r .end) × ((r .end ≤ n) × (at + n ≤ listRoom)))
+    pages-in = (omega (arith, inside, few), (ends-in-order w above under r ch oa ou w-low fits, (rw lu at (ends-inside w above under r ch oa ou w-low fits), list-inside)))
+
+    run-pages : each (pageAt g ws) (r .first) w ≡ take w (drop (r .first) above)
+    run-pages =
+        let h = inside in
+        sym (ap (λ (l : Level). take w (drop (r .first) l)) above-is
+        ∙ rw (each-drop (pageAt g ws) 0 (r .first) (capacityOf g 0), zero-add) (each-take (pageAt g ws) (r .first) w (capacityOf g 0 - r .first) (omega arith)))
+
+    abbrev meets : Cut
+    meets = meetsAt w at n true (eqb 1 (g .h)) r
+
+    module _ (xs : List ℕ) (xl : length xs ≡ listRoom) where
+      settled : (al : Allocation) → lowerAfter g 0 al cut ≡ settle (g .p) al (mergeOf g ws xs lists meets)
+      unfolding lowerAfter
+      settled al =
+          ap (settle (g .p) al)
+          (sym (met-merge w above under r ch oa ou w-low fits g ws xs lists at n true (eqb 1 (g .h)) (omega (arith, list-inside, k .lists-long)) lu run-pages (sym (listed-is g ws lists 1 n n-room))))
+
+      lower-few : length (mergeOf g ws xs lists meets) ≤ partRoom (g .h) 1
+      lower-few = let al : Allocation = record { used = []; cursor = cursor } in rw settle-length at (rw (settled al) at (k .fits al))
 
       -- steps 3 and 4 can be made
-      top-mergeable : InUse used × Mergeable g ws used lower xs lower meets cursor
-      top-mergeable =
+      pub pages-mergeable : Relistable g ws used lists xs meets cursor
+      pages-mergeable =
           let h = inside in
           let x : r .first + w - r .first ≡ w = omega arith in
           let y = overlap-is w above under r ch oa ou w-low fits in
           let f = k .free in
           let m = k .room in
           let s = few in
-          let c = count-few (g .p) used (k .in-use .places) (k .in-use .marks) in (
-            k .in-use,
-            record {
-              valid = k .valid;
-              words = k .words;
-              marks-long = k .marks-long;
-              out-long = k .under .long;
-              xs-long = xl;
-              ys-long = k .under .long;
-              cursor-low = k .cursor-low;
-              x-low = omega arith;
-              x-high = omega arith;
-              y-low = ends-in-order w above under r ch oa ou w-low fits;
-              y-high = rw lu at (ends-inside w above under r ch oa ou w-low fits);
-              upper = λ t. absurd (true≢false t);
-              paged = λ _ j b. record { low = omega arith; bits = k .bits j (omega arith) };
-              lower = k .under .blocks;
-              upper-rises = λ t. absurd (true≢false t);
-              paged-rises = λ _ j b. page-rises j (omega arith);
-              lower-rises = listed-rises g ws lower n (let l = k .under .long in let h = k .under .high in omega arith) (k .under .rises);
-              room = omega arith;
-              free = omega arith;
-            },
-          )
+          relistable g ws used lists xs cursor (k .valid) (k .words) (k .marks-long) (k .lists-long) xl (k .cursor-low) (k .in-use) 1 (r .first) (r .first + w) (r .start) (r .end) n true (eqb 1 (g .h)) (omega arith) (omega arith) (pages-in .1 .0) (pages-in .1 .1 .0) n-room
+          (λ t. absurd (true≢false t)) (λ _ j a b. (record { low = omega arith; bits = k .bits j (omega arith) }, page-rises j (omega arith)))
+          (part-each (Sound g ws used) (g .h) 1 n lists n-room (stored-sound g ws used (partOf (g .h) lists 1) n (k .under))) (omega arith) (omega arith) lower-few
 
-      run-pages : each (pageAt g ws) (r .first) w ≡ take w (drop (r .first) above)
-      run-pages =
-          let h = inside in
-          sym (ap (λ (l : Level). take w (drop (r .first) l)) above-is
-          ∙ rw (each-drop (pageAt g ws) 0 (r .first) (capacityOf g 0), zero-add) (each-take (pageAt g ws) (r .first) w (capacityOf g 0 - r .first) (omega arith)))
-
-      top-merge : mergeOf g ws xs lower meets ≡ merge (g .b) (eqb 1 (g .h)) (cut .before) (cut .run) (cut .over) (cut .behind)
-      top-merge =
-          let l = k .under .long in
-          let h = k .under .high in
-          met-merge w above under r ch oa ou w-low fits g ws xs lower n true bottom (omega arith) lu run-pages refl ∙ rw eb
-
-      -- what steps 3 and 4 leave
-      top-leaves : (ws2 : List ℕ) (used2 : List Bool) (lower2 : List ℕ) (v : Merged)
-          → ((al : Allocation) → al .cursor ≡ cursor → Marks used (al .used) → Leaves g (settle (g .p) al (mergeOf g ws xs lower meets)) ws ws2 used2 lower2 v)
+      -- what they leave
+      pub pages-leaves : (ws2 : List ℕ) (used2 : List Bool) (lists2 : List ℕ) (v : Merged)
+          → ((al : Allocation) → al .cursor ≡ cursor → Marks used (al .used) → Relisted g (settle (g .p) al (mergeOf g ws xs lists meets)) at ws ws2 used2 lists lists2 v)
           → (al : Allocation) → al .cursor ≡ cursor → Marks used (al .used)
-          → PagesLeaves g (lowerAfter g 0 al cut) (choose w above under) ws ws2 used2 lower2
+          → PagesLeaves g (lowerAfter g 0 al cut) (choose w above under) ws ws2 used2 lists lists2
           (record { above = capacityOf g 0 - w; under = v .count; cursor = v .cursor; writes = v .writes; first = r .first; overlap = r .overlap })
-      unfolding lowerAfter
-      top-leaves ws2 used2 lower2 v k3 al e m =
+      pages-leaves ws2 used2 lists2 v k3 al e m =
           let q = k3 al e m in
-          rw (← top-merge)
+          let anew = relisted-anew g al (mergeOf g ws xs lists meets) 1 ws ws2 used2 lists lists2 v q (k .valid) (omega arith) (k .valid .ranged .h-low) (k .lists-long) lower-few in
+          rw (settled al)
           (record {
-            words = q .words;
+            words = q .leaves .words;
             above = refl;
-            below = lower-leaves g _ ws ws2 used2 lower2 v q w above under r ch _ _;
-            writes = q .writes;
+            below = lower-leaves g _ 1 ws ws2 used2 (q .out) lists lists2 v (q .leaves) anew w above under r ch _ _;
+            kept = anew .others;
+            writes = q .leaves .writes;
           })
-
-  -- the same with the numbers as the code has them
-  pub pages-inside : (r : Picked) (v : ℕ) → v ≡ windowOf g 0 → Chosen v above under r → r .first + v ≤ 1024
-  pages-inside r v e = rw e (λ ch. omega (arith, inside r ch, few))
-
-  module _ (r : Picked) (xs : List ℕ) (xl : length xs ≡ 4096) (h : ℕ) (eh : h ≡ g .h) where
-    bottom-is : eqb 1 h ≡ eqb 1 (g .h)
-    bottom-is = rw eh
-
-    pub pages-mergeable : (v : ℕ) → v ≡ windowOf g 0 → Chosen v above under r → InUse used × Mergeable g ws used lower xs lower (meetsAt v n true (eqb 1 h) r) cursor
-    pages-mergeable v e = rw e (λ ch. top-mergeable r ch xs xl (eqb 1 h) bottom-is)
-
-    pub pages-leaves : (ws2 : List ℕ) (used2 : List Bool) (lower2 : List ℕ) (v : Merged) (a w : ℕ) → a ≡ capacityOf g 0 → w ≡ windowOf g 0 → Chosen w above under r
-        → ((al : Allocation) → al .cursor ≡ cursor → Marks used (al .used) → Leaves g (settle (g .p) al (mergeOf g ws xs lower (meetsAt w n true (eqb 1 h) r))) ws ws2 used2 lower2 v)
-        → (al : Allocation) → al .cursor ≡ cursor → Marks used (al .used)
-        → PagesLeaves g (lowerAfter g 0 al cut) (choose (windowOf g 0) above under) ws ws2 used2 lower2
-        (record { above = a - w; under = v .count; cursor = v .cursor; writes = v .writes; first = r .first; overlap = r .overlap })
-    pages-leaves ws2 used2 lower2 v a x ea ew = rw (ea, ew) (λ ch k3. top-leaves r ch xs xl (eqb 1 h) bottom-is ws2 used2 lower2 v k3)

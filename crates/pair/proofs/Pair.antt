@@ -2,42 +2,48 @@
 use Prim.Native.Nat.{ℕ, zero, suc, _+_, _-_, _≤_, _<_}
 use mathlib.Core.Path.{_≡_, refl, sym, ap, _∙_}
 use mathlib.Core.Bool.{Bool, false, true≢false}
-use mathlib.Core.List.{List, [], _∷_, _++_, map}
+use mathlib.Core.List.{List, [], _∷_, _++_, map, map-append}
+use mathlib.Core.Logic.{_≢_}
 use native.Mathlib.Omega.{arith}
 use lib.Dec.{eqb}
-use lib.ListN.{length, getD, take, drop, length-append}
-use lib.Seq.{take-take}
+use lib.ListN.{length, getD, take, drop, length-append, length-drop}
+use lib.Seq.{getD-take, length-take-le, take-at, drop-at}
+use Rattle.slices.specs.Slices.{putAt}
 use Rattle.geometry.specs.declared.Geometry.{Geometry}
-use Rattle.geometry.specs.Geometry.{windowOf, placesStart}
+use Rattle.geometry.specs.Geometry.{Valid, windowOf, placesStart, storeLength}
+use Rattle.geometry.specs.Room.{listRoom}
 use Rattle.geometry.proofs.Laws.{window-low}
 use Rattle.levels.specs.Record.{Level}
 use Rattle.levels.specs.Choose.{choose, cutAt}
 use Rattle.levels.specs.Choose as choosing
 use Rattle.levels.specs.Merge.{merge, close}
-use Rattle.levels.specs.Place.{Allocation, settle}
+use Rattle.levels.specs.Place.{Allocation, settle, placesOf}
 use Rattle.levels.specs.Taking.{fresh}
 use Rattle.levels.proofs.Fresh.{count-all}
+use Rattle.levels.proofs.Levels.{Filled}
+use Rattle.levels.proofs.Lists.{map-drop, map-take}
+use Rattle.levels.proofs.MergeWrites.{close-length}
 use Rattle.levels.proofs.Settling.{written-length, settle-length}
+use Rattle.pieces.specs.Pieces.{part}
+use Rattle.pieces.proofs.Parts.{part-length}
 use Rattle.words.specs.Layout.{blockAt, areaOf, writeBlocks}
 use Rattle.words.proofs.Blocks.{writes-append, block-size}
+use Rattle.lists.specs.Flat.{partStart, partRoom, partOf}
+use Rattle.lists.proofs.Flat.{part-inside, part-of-length}
 use Rattle.choice.specs.Fences.{Ordered, fenceOf}
-use Rattle.levels.proofs.Levels.{Filled}
 use Rattle.choice.proofs.Levels.{level-ordered}
-use Rattle.levels.proofs.Lists.{map-take, map-drop}
 use Rattle.blocks.specs.Blocks.{Marks}
 use Rattle.merging.specs.declared.Cut.{Cut}
 use Rattle.merging.specs.declared.Merged.{Merged}
-use Rattle.merging.specs.Contract.{ListedBlock, blocksOf, mergeOf, Mergeable, Leaves}
-use Rattle.merging.proofs.Settle.{NewFit}
+use Rattle.merging.specs.Contract.{ListedBlock, blocksOf, mergeOf, Leaves}
 use Rattle.pair.specs.declared.Picked.{Picked}
-use Rattle.pair.specs.Contract.{levelOf, meetsAt, cutOf, upperAfter, lowerAfter, InUse, Chosen, Readables, Stored, Closable, leftOf, rightOf, PairReady, PairLeaves}
-use Rattle.pair.proofs.Lists.{take-entry}
+use Rattle.pair.specs.Contract.{levelOf, listed, gapAt, meetsAt, cutOf, upperAfter, lowerAfter, Chosen, Readables, Stored, Relistable, Relisted, PairReady, PairLeaves}
+use Rattle.pair.proofs.Lists.{Anew, put-anew, slice-is, part-each, copied-length, copied-run, copied-entry, gone-put, gone-each}
 use Rattle.pair.proofs.Kept.{base-take, base-drop}
 use Rattle.pair.proofs.Chosen.{run-inside, ends-in-order, ends-inside, overlap-is}
 use Rattle.pair.proofs.Below.{met-merge}
-use Rattle.pair.proofs.Room.{count-few}
-use Rattle.pair.proofs.Merges.{lower-leaves, part-is, level-length, listed-rises}
-use Rattle.pair.proofs.After.{listed-fresh, close-fit, close-one, after-long, after-cursor, after-in-use, after-count, after-block, after-level}
+use Rattle.pair.proofs.Merges.{Sound, stored-sound, relistable, relisted-anew, lower-leaves, part-is, front-is, rest-is, listed-is, level-length, merge-is}
+use Rattle.pair.proofs.After.{Later, later, listed-fresh, close-fit, close-one}
 
 stored-filled : (g : Geometry) (ws : List ℕ) (used : List Bool) (list : List ℕ) (n : ℕ) → ((k : ℕ) → k < n → ListedBlock g ws used (getD list k 0)) → Filled (levelOf g ws list n)
 stored-filled g ws used list zero f = tt
@@ -47,22 +53,28 @@ stored-filled g ws used (p ∷ ps) (suc n) f =
     (rw (block-size g ws p (b .high)) (b .low), stored-filled g ws used ps n (λ k h. f (suc k) (omega arith)))
 
 -- stored blocks lie in key order, and can be read
-pub stored-ordered : (g : Geometry) (ws : List ℕ) (used : List Bool) (list : List ℕ) (n : ℕ) → Stored g ws used list n → Ordered 0 (map fenceOf (levelOf g ws list n))
-stored-ordered g ws used list n k = level-ordered 0 (levelOf g ws list n) (stored-filled g ws used list n (k .blocks)) (k .rises)
+module _ (g : Geometry) (ws : List ℕ) (used : List Bool) (list : List ℕ) (n : ℕ) (k : Stored g ws used list n) where
+  pub stored-ordered : Ordered 0 (map fenceOf (levelOf g ws list n))
+  stored-ordered = level-ordered 0 (levelOf g ws list n) (stored-filled g ws used list n (k .blocks)) (k .rises)
 
-pub stored-readable : (g : Geometry) (ws : List ℕ) (used : List Bool) (list : List ℕ) (n : ℕ) → Stored g ws used list n → Readables g ws list n
-stored-readable g ws used list n k = record {
-  long = k .long;
-  high = k .high;
-  read = λ i h. let b = k .blocks i h in record { inside = b .place; filled = b .low; fits = b .high };
-  ordered = stored-ordered g ws used list n k;
-}
+  pub stored-length : length (levelOf g ws list n) ≡ n
+  stored-length = level-length g ws list n (k .long)
 
-pub stored-length : (g : Geometry) (ws : List ℕ) (used : List Bool) (list : List ℕ) (n : ℕ) → Stored g ws used list n → length (levelOf g ws list n) ≡ n
-stored-length g ws used list n k = level-length g ws list n (let l = k .long in let h = k .high in omega arith)
+  pub stored-readable : Readables g ws (take n list)
+  stored-readable =
+      let l : length (take n list) ≡ n = length-take-le n list (k .long) in
+      record {
+        high = rw l (k .high);
+        read = λ i h. let m : i < n = rw l at h in let b = k .blocks i m in rw (getD-take n list i 0 m) (record { inside = b .place; filled = b .low; fits = b .high });
+        ordered = stored-ordered;
+      }
+
+-- a list has room in its part, and its part in the array
+pub stored-room : (g : Geometry) (ws : List ℕ) (used : List Bool) (lists : List ℕ) (j n : ℕ) → length lists ≡ listRoom → Stored g ws used (partOf (g .h) lists j) n → n ≤ partRoom (g .h) j
+stored-room g ws used lists j n l k = let m = k .long in omega (arith, part-of-length (g .h) j lists l)
 
 -- a merge writes no more blocks than it leaves
-pub leaves-writes : (g : Geometry) (a : Allocation) (l : Level) (ws ws' : List ℕ) (used' : List Bool) (out' : List ℕ) (r : Merged) → Leaves g (settle (g .p) a l) ws ws' used' out' r → r .writes ≤ 4096
+leaves-writes : (g : Geometry) (a : Allocation) (l : Level) (ws ws' : List ℕ) (used' : List Bool) (out' : List ℕ) (r : Merged) → Leaves g (settle (g .p) a l) ws ws' used' out' r → r .writes ≤ 4096
 leaves-writes g a l ws ws' used' out' r k =
     let w = k .writes in
     let c = k .count in
@@ -74,228 +86,265 @@ close-level : (B i : ℕ) (left right : Level) → 1 ≤ i → close B i left ri
 close-level B zero left right h = absurd (omega arith)
 close-level B (suc i) left right h = refl
 
-module _ (g : Geometry) (ws : List ℕ) (used : List Bool) (upper lower : List ℕ) (i a n cursor : ℕ) (k : PairReady g ws used upper lower i a n cursor)
-    (r : Picked) (ch : Chosen (windowOf g i) (levelOf g ws upper a) (levelOf g ws lower n) r)
-    (xs : List ℕ) (xl : length xs ≡ 4096) (ex : take a xs ≡ take a upper) where
+module _ (g : Geometry) (ws : List ℕ) (used : List Bool) (lists : List ℕ) (i a n cursor : ℕ) (k : PairReady g ws used lists i a n cursor) where
   abbrev w : ℕ
   w = windowOf g i
 
+  abbrev at : ℕ
+  at = partStart (g .h) i
+
+  abbrev low : ℕ
+  low = partStart (g .h) (suc i)
+
   abbrev above : Level
-  above = levelOf g ws upper a
+  above = listed g ws lists i a
 
   abbrev under : Level
-  under = levelOf g ws lower n
+  under = listed g ws lists (suc i) n
 
   abbrev cut : choosing.Cut
   cut = cutOf g i above under
 
-  abbrev left : Level
-  left = leftOf g ws upper (r .first)
+  a-room : a ≤ partRoom (g .h) i
+  a-room = stored-room g ws used lists i a (k .lists-long) (k .above)
 
-  abbrev right : Level
-  right = rightOf g ws upper (r .first) w a
+  n-room : n ≤ partRoom (g .h) (suc i)
+  n-room = stored-room g ws used lists (suc i) n (k .lists-long) (k .under)
+
+  -- both lists lie in the array
+  pub pair-inside : (at + a ≤ listRoom) × (low + n ≤ listRoom)
+  pair-inside = (omega (arith, a-room, part-inside (g .h) i), omega (arith, n-room, part-inside (g .h) (suc i)))
 
   w-low : 1 ≤ w
   w-low = window-low g (k .valid .ranged) i
 
   oa : Ordered 0 (map fenceOf above)
-  oa = stored-ordered g ws used upper a (k .above)
+  oa = stored-ordered g ws used (partOf (g .h) lists i) a (k .above)
 
   ou : Ordered 0 (map fenceOf under)
-  ou = stored-ordered g ws used lower n (k .under)
+  ou = stored-ordered g ws used (partOf (g .h) lists (suc i)) n (k .under)
 
   la : length above ≡ a
-  la = stored-length g ws used upper a (k .above)
+  la = stored-length g ws used (partOf (g .h) lists i) a (k .above)
 
   lu : length under ≡ n
-  lu = stored-length g ws used lower n (k .under)
+  lu = stored-length g ws used (partOf (g .h) lists (suc i)) n (k .under)
 
   fits : w ≤ length above
   fits = rw la (k .window)
 
-  pub inside : r .first + w ≤ a
-  inside = rw la at (run-inside w above under r ch oa ou w-low fits)
+  -- the lists, as the code lends them
+  abbrev us : List ℕ
+  us = take (at + a - at) (drop at lists)
 
-  -- step 2 can be made
-  pub pair-closable : Closable g ws used upper xs (r .first) w a cursor
-  pair-closable =
-      record {
-        valid = k .valid;
-        words = k .words;
-        marks-long = k .marks-long;
-        upper-long = k .above .long;
-        xs-long = xl;
-        same = ex;
-        cursor-low = k .cursor-low;
-        run = inside;
-        high = k .above .high;
-        blocks = k .above .blocks;
-        rises = k .above .rises;
-        in-use = k .in-use;
-        free = (let f = k .free in omega arith);
-      }
+  abbrev vs : List ℕ
+  vs = take (low + n - low) (drop low lists)
 
-  -- and is what document 01 asks for
-  left-is : cut .left ≡ left
-  unfolding cutAt
-  left-is =
-      let h = inside in
-      rw (← ch .first) (sym (map-take (blockAt g ws) (r .first) (take a upper)) ∙ ap (map (blockAt g ws)) (take-take (r .first) a upper (omega arith)))
+  -- the run can be chosen, and is
+  pub pair-choosable : Valid g × ((length ws ≡ storeLength g) × ((1 ≤ w) × ((w ≤ length us) × (Readables g ws us × Readables g ws vs))))
+  pair-choosable =
+      let l : length (take a (partOf (g .h) lists i)) ≡ a = length-take-le a (partOf (g .h) lists i) (k .above .long) in
+      rw (slice-is (g .h) i a lists a-room, slice-is (g .h) (suc i) n lists n-room)
+      (k .valid, (k .words, (w-low, (rw l (k .window), (stored-readable g ws used (partOf (g .h) lists i) a (k .above), stored-readable g ws used (partOf (g .h) lists (suc i)) n (k .under))))))
 
-  right-is : cut .right ≡ right
-  unfolding cutAt
-  right-is = rw (← ch .first) refl
+  pub pair-chosen : (r : Picked) → Chosen w (map (blockAt g ws) us) (map (blockAt g ws) vs) r → Chosen w above under r
+  pair-chosen r = rw (slice-is (g .h) i a lists a-room, slice-is (g .h) (suc i) n lists n-room) (λ c. c)
 
-  upper-is : close (g .b) i (cut .left) (cut .right) ≡ close (g .b) 1 left right
-  upper-is = close-level (g .b) i (cut .left) (cut .right) (k .level-low) ∙ rw (left-is, right-is)
+  module _ (r : Picked) (ch : Chosen w above under r) where
+    pub run-in : r .first + w ≤ a
+    run-in = rw la at (run-inside w above under r ch oa ou w-low fits)
 
-  left-old : fresh left ≡ 0
-  left-old = listed-fresh g ws (take (r .first) upper)
+    pub met-in : (r .start ≤ r .end) × (r .end ≤ n)
+    met-in = (ends-in-order w above under r ch oa ou w-low fits, rw lu at (ends-inside w above under r ch oa ou w-low fits))
 
-  right-old : fresh right ≡ 0
-  right-old = rw (← map-drop (blockAt g ws) (r .first + w) (take a upper)) (listed-fresh g ws (drop (r .first + w) (take a upper)))
+    abbrev left : Level
+    left = take (r .first) above
 
-  -- after step 2
-  module _ (ws1 : List ℕ) (used1 : List Bool) (upper1 : List ℕ) (u : Merged)
-      (k2 : (al : Allocation) → al .cursor ≡ cursor → Marks used (al .used) → Leaves g (settle (g .p) al (close (g .b) 1 left right)) ws ws1 used1 upper1 u) where
-    -- the places in use at its start
-    abbrev at-start : Allocation
-    at-start = record { used = k .in-use .places; cursor = cursor }
+    abbrev right : Level
+    right = drop (r .first + w) above
 
-    shut : Leaves g (settle (g .p) at-start (close (g .b) 1 left right)) ws ws1 used1 upper1 u
-    shut = k2 at-start refl (k .in-use .marks)
+    abbrev shut : Level
+    shut = close (g .b) 1 left right
 
-    shut-fit : NewFit (g .b) (close (g .b) 1 left right)
-    shut-fit = close-fit (g .b) 0 left right left-old right-old
+    -- step 2 is what document 01 asks for
+    upper-is : close (g .b) i (cut .left) (cut .right) ≡ shut
+    unfolding cutAt
+    upper-is = rw (← ch .first) (close-level (g .b) i left right (k .level-low))
 
-    shut-free : length (k .in-use .places) + fresh (close (g .b) 1 left right) ≤ g .p
-    shut-free = let f = k .free in omega (arith, close-one (g .b) 0 left right left-old right-old)
+    left-old : fresh left ≡ 0
+    left-old = rw (← map-take (blockAt g ws) (r .first) (take a (partOf (g .h) lists i))) (listed-fresh g ws (take (r .first) (take a (partOf (g .h) lists i))))
 
-    kept-block : (q : ℕ) → ListedBlock g ws used q → ListedBlock g ws1 used1 q
-    kept-block = after-block g ws ws1 used used1 upper1 u at-start (close (g .b) 1 left right) (k .words) (k .cursor-low) shut-free shut-fit (k .in-use .marks) shut
+    right-old : fresh right ≡ 0
+    right-old = rw (← map-drop (blockAt g ws) (r .first + w) (take a (partOf (g .h) lists i))) (listed-fresh g ws (drop (r .first + w) (take a (partOf (g .h) lists i))))
 
-    kept-level : (ps : List ℕ) (m : ℕ) → ((j : ℕ) → j < m → ListedBlock g ws used (getD ps j 0)) → levelOf g ws1 ps m ≡ levelOf g ws ps m
-    kept-level = after-level g ws ws1 used used1 upper1 u at-start (close (g .b) 1 left right) (k .words) (k .cursor-low) shut-free shut-fit (k .in-use .marks) shut
+    left-long : length left ≡ r .first
+    left-long = length-take-le (r .first) above (omega (arith, run-in, la))
 
-    pub used-then : InUse used1
-    used-then = after-in-use g ws ws1 used used1 upper1 u at-start (close (g .b) 1 left right) (k .words) (k .cursor-low) shut-free shut-fit (k .in-use .marks) shut
+    shut-few : length shut ≤ a - w
+    shut-few = omega (arith, close-length (g .b) 0 left right, left-long, length-drop (r .first + w) above, la, run-in)
 
-    used-few : length (used-then .places) ≤ suc (length (k .in-use .places))
-    unfolding used-then
-    used-few =
-        omega (
-          arith,
-          after-count g ws ws1 used used1 upper1 u at-start (close (g .b) 1 left right) (k .words) (k .cursor-low) shut-free shut-fit (k .in-use .marks) shut,
-          close-one (g .b) 0 left right left-old right-old,
-        )
+    -- the run is copied and leaves its list
+    module _ (zeros xs lists1 : List ℕ) (zl : length zeros ≡ listRoom) (ex : xs ≡ putAt (r .first) (take w (drop (at + r .first) lists)) zeros)
+        (e1 : lists1 ≡ putAt (at + r .first) (take (at + (a - w) - (at + r .first)) (drop (at + r .first + w) lists)) lists) where
+      abbrev m : ℕ
+      m = a - (r .first + w)
 
-    -- the list that X is read from names the blocks of the upper level
-    xs-block : (j : ℕ) → j < a → ListedBlock g ws used (getD xs j 0)
-    xs-block j h = rw (take-entry xs upper a j ex h) (k .above .blocks j h)
+      all : r .first + (w + m) ≡ a
+      all = omega (arith, run-in)
 
-    module _ (bottom : Bool) (eb : bottom ≡ eqb (suc i) (g .h)) where
-      abbrev pub meets : Cut
-      meets = meetsAt w n false bottom r
+      gone : lists1 ≡ putAt (at + r .first) (take m (drop (at + r .first + w) lists)) lists
+      gone = let e : at + (a - w) - (at + r .first) ≡ m = omega (arith, run-in) in rw e at e1
 
-      in-order : r .start ≤ r .end
-      in-order = ends-in-order w above under r ch oa ou w-low fits
+      inside : at + (r .first + (w + m)) ≤ length lists
+      inside = omega (arith, all, pair-inside .0, k .lists-long)
 
-      ends-in : r .end ≤ n
-      ends-in = rw lu at (ends-inside w above under r ch oa ou w-low fits)
+      anew1 : Anew (g .h) i (a - w) (part lists at (r .first) ++ part lists (at + r .first + w) m) lists lists1
+      anew1 =
+          let u = part-length lists at (r .first) (omega (arith, inside)) in
+          let v = part-length lists (at + r .first + w) m (omega (arith, inside)) in
+          let h = k .level-high in
+          put-anew (g .h) i (a - w) _ lists lists1 (k .valid .ranged .h-high) (k .level-low) (omega arith) (k .lists-long) (rw length-append (omega (arith, run-in))) (omega (arith, a-room)) (gone-put lists lists1 at (r .first) w m inside gone)
 
-      run-long : r .first + w - r .first ≡ w
-      run-long = omega arith
+      shut-level : blocksOf g ws lists1 at (a - w) ≡ left ++ right
+      unfolding part
+      shut-level =
+          let s : at + (r .first + w) ≡ at + r .first + w = omega arith in
+          sym (listed-is g ws lists1 i (a - w) (omega (arith, a-room))) ∙ ap (map (blockAt g ws)) (anew1 .here) ∙ map-append (blockAt g ws) (part lists at (r .first)) (part lists (at + r .first + w) m)
+          ∙ rw (listed-is g ws lists i a a-room, ← front-is g ws lists at a (r .first) (omega (arith, run-in)), ← rest-is g ws lists at a (r .first + w) run-in (omega (arith, pair-inside .0, k .lists-long)), s)
 
-      over-long : r .end - r .start ≡ choose w above under .value
-      over-long = overlap-is w above under r ch oa ou w-low fits
+      shut-is : mergeOf g ws xs lists1 (gapAt w at a r) ≡ shut
+      shut-is =
+          let z : r .first - r .first ≡ 0 = omega arith in
+          merge-is g ws xs lists1 0 0 at (r .first) (r .first) (a - w) false false [] (left ++ right) (omega arith) (omega (arith, run-in)) (omega (arith, anew1 .long, pair-inside .0)) refl shut-level
+          ∙ rw (z, take-at left right (r .first) left-long, drop-at left right (r .first) left-long)
 
-      -- steps 3 and 4 can be made
-      pub pair-mergeable : InUse used1 × Mergeable g ws1 used1 lower xs lower meets (u .cursor)
-      pair-mergeable =
-          let h = inside in
-          let e = in-order in
-          let l = ends-in in
-          let x = run-long in
-          let y = over-long in
+      xl : length xs ≡ listRoom
+      xl = copied-length xs zeros lists (r .first) (at + r .first) w (omega (arith, run-in, k .above .high)) (omega (arith, inside)) ex ∙ zl
+
+      -- step 2 can be made
+      pub pair-closable : Relistable g ws used lists1 xs (gapAt w at a r) cursor
+      pair-closable =
+          let h = run-in in
           let s = k .above .high in
           let f = k .free in
-          let m = k .room in
-          let c = count-few (g .p) used1 (used-then .places) (used-then .marks) in
-          let d = used-few in (
-            used-then,
-            record {
-              valid = k .valid;
-              words = after-long g ws ws1 used used1 upper1 u at-start (close (g .b) 1 left right) (k .words) (k .cursor-low) shut-free shut-fit (k .in-use .marks) shut;
-              marks-long = shut .marks-long;
-              out-long = k .under .long;
-              xs-long = xl;
-              ys-long = k .under .long;
-              cursor-low = after-cursor g ws ws1 used used1 upper1 u at-start (close (g .b) 1 left right) (k .words) (k .cursor-low) shut-free shut-fit (k .in-use .marks) shut;
-              x-low = omega arith;
-              x-high = omega arith;
-              y-low = e;
-              y-high = l;
-              upper = λ _ j b. kept-block (getD xs j 0) (xs-block j (omega arith));
-              paged = λ t. absurd (true≢false (sym t));
-              lower = λ j b. kept-block (getD lower j 0) (k .under .blocks j b);
-              upper-rises = λ _ j b. listed-rises g ws1 xs a (omega arith) (rw (kept-level xs a xs-block ∙ ap (map (blockAt g ws)) ex) (k .above .rises)) j (omega arith);
-              paged-rises = λ t. absurd (true≢false (sym t));
-              lower-rises = listed-rises g ws1 lower n (let l = k .under .long in let h = k .under .high in omega arith) (rw (kept-level lower n (k .under .blocks)) (k .under .rises));
-              room = omega arith;
-              free = omega arith;
-            },
-          )
+          let e = all in
+          relistable g ws used lists1 xs cursor (k .valid) (k .words) (k .marks-long) (anew1 .long) xl (k .cursor-low) (k .in-use) i 0 0 (r .first) (r .first) (a - w) false false (omega arith) (omega arith) (omega arith) (omega arith) (omega (arith, a-room))
+          (λ _ j x y. absurd (omega arith)) (λ t. absurd (true≢false (sym t)))
+          (λ j x y. gone-each lists lists1 at (r .first) w m inside gone (Sound g ws used) (λ l b d. part-each (Sound g ws used) (g .h) i a lists a-room (stored-sound g ws used (partOf (g .h) lists i) a (k .above)) l b (omega arith)) j x (omega arith))
+          (omega arith) (omega arith) (rw shut-is (omega (arith, shut-few, a-room)))
 
-      -- and are what document 01 asks for
-      run-blocks : blocksOf g ws1 xs (r .first) w ≡ take w (drop (r .first) above)
-      run-blocks =
-          part-is g ws1 xs (r .first) w a inside
-          ∙ ap (λ (l : Level). take w (drop (r .first) l)) (kept-level xs a xs-block ∙ ap (map (blockAt g ws)) ex)
+      -- after step 2
+      module _ (ws1 : List ℕ) (used1 : List Bool) (lists2 : List ℕ) (u : Merged)
+          (k2 : (al : Allocation) → al .cursor ≡ cursor → Marks used (al .used) → Relisted g (settle (g .p) al (mergeOf g ws xs lists1 (gapAt w at a r))) at ws ws1 used1 lists1 lists2 u) where
+        -- for the places in use at its start
+        abbrev at-start : Allocation
+        at-start = record { used = k .in-use .places; cursor = cursor }
 
-      lower-is : mergeOf g ws1 xs lower meets ≡ merge (g .b) (eqb (suc i) (g .h)) (cut .before) (cut .run) (cut .over) (cut .behind)
-      lower-is =
-          let l = k .under .long in
-          let h = k .under .high in
-          met-merge w above under r ch oa ou w-low fits g ws1 xs lower n false bottom (omega arith) lu run-blocks (kept-level lower n (k .under .blocks)) ∙ rw eb
+        relisted1 : (al : Allocation) → al .cursor ≡ cursor → Marks used (al .used) → Relisted g (settle (g .p) al shut) at ws ws1 used1 lists1 lists2 u
+        relisted1 al e d = rw shut-is at (k2 al e d)
 
-      -- after steps 3 and 4
-      module _ (ws2 : List ℕ) (used2 : List Bool) (lower2 : List ℕ) (v : Merged)
-          (k3 : (al : Allocation) → al .cursor ≡ u .cursor → Marks used1 (al .used) → Leaves g (settle (g .p) al (mergeOf g ws1 xs lower meets)) ws1 ws2 used2 lower2 v) where
-        pub pair-writes : u .writes + v .writes ≤ 8192
-        pair-writes =
-            let b = settle (g .p) at-start (close (g .b) 1 left right) .allocation in
-            omega (
-              arith,
-              leaves-writes g at-start (close (g .b) 1 left right) ws ws1 used1 upper1 u shut,
-              leaves-writes g b (mergeOf g ws1 xs lower meets) ws1 ws2 used2 lower2 v (k3 b (sym (shut .cursor)) (shut .marks)),
-            )
+        first-time : Relisted g (settle (g .p) at-start shut) at ws ws1 used1 lists1 lists2 u
+        first-time = relisted1 at-start refl (k .in-use .marks)
 
-        settled-upper : (al : Allocation) → upperAfter g i al cut ≡ settle (g .p) al (close (g .b) 1 left right)
-        unfolding upperAfter
-        settled-upper al = ap (settle (g .p) al) upper-is
+        after : Later g ws ws1 used used1 u (length (k .in-use .places) + fresh shut)
+        after =
+            later g ws ws1 used used1 (first-time .out) u at-start shut (k .words) (k .cursor-low) (let f = k .free in omega (arith, close-one (g .b) 0 left right left-old right-old)) (close-fit (g .b) 0 left right left-old right-old) (k .in-use .marks) (first-time .leaves)
 
-        settled-lower : (al : Allocation) → lowerAfter g i al cut ≡ settle (g .p) al (mergeOf g ws1 xs lower meets)
+        anew2 : (al : Allocation) → al .cursor ≡ cursor → Marks used (al .used) → Anew (g .h) i (u .count) (placesOf (settle (g .p) al shut .level)) lists1 lists2
+        anew2 al e d =
+            let h = k .level-high in
+            relisted-anew g al shut i ws ws1 used1 lists1 lists2 u (relisted1 al e d) (k .valid) (k .level-low) (omega arith) (anew1 .long) (omega (arith, shut-few, a-room))
+
+        others : (j : ℕ) → 1 ≤ j → j ≤ g .h → j ≢ i → partOf (g .h) lists2 j ≡ partOf (g .h) lists j
+        others j x y d = anew2 at-start refl (k .in-use .marks) .others j x y d ∙ anew1 .others j x y d
+
+        low-same : partOf (g .h) lists2 (suc i) ≡ partOf (g .h) lists (suc i)
+        low-same = others (suc i) (omega arith) (k .level-high) (λ e. omega arith)
+
+        long2 : length lists2 ≡ listRoom
+        long2 = anew2 at-start refl (k .in-use .marks) .long
+
+        upper-then : Stored g ws1 used1 (partOf (g .h) lists i) a × (levelOf g ws1 (partOf (g .h) lists i) a ≡ above)
+        upper-then = after .stored (partOf (g .h) lists i) a (k .above)
+
+        lower-then : Stored g ws1 used1 (partOf (g .h) lists2 (suc i)) n × (levelOf g ws1 (partOf (g .h) lists2 (suc i)) n ≡ under)
+        lower-then = rw low-same (after .stored (partOf (g .h) lists (suc i)) n (k .under))
+
+        abbrev meets : Cut
+        meets = meetsAt w low n false (eqb (suc i) (g .h)) r
+
+        -- X is read from the copy
+        run-blocks : blocksOf g ws1 xs (r .first) w ≡ take w (drop (r .first) above)
+        run-blocks =
+            ap (map (blockAt g ws1)) (copied-run xs zeros lists (r .first) (at + r .first) w (omega (arith, run-in, k .above .high)) (omega (arith, inside)) ex) ∙ part-is g ws1 lists at a (r .first) w run-in
+            ∙ ap (λ (l : Level). take w (drop (r .first) l)) (sym (listed-is g ws1 lists i a a-room) ∙ upper-then .1)
+
+        run-sound : (j : ℕ) → r .first ≤ j → j < r .first + w → Sound g ws1 used1 (getD xs j 0)
+        run-sound j x y =
+            rw (copied-entry xs zeros lists (r .first) (at + r .first) w (omega (arith, run-in, k .above .high)) (omega (arith, inside)) ex j x y)
+            (part-each (Sound g ws1 used1) (g .h) i a lists a-room (stored-sound g ws1 used1 (partOf (g .h) lists i) a (upper-then .0)) (at + r .first + (j - r .first)) (omega arith) (omega (arith, run-in)))
+
+        -- steps 3 and 4 are what document 01 asks for
+        lower-is : mergeOf g ws1 xs lists2 meets ≡ merge (g .b) (eqb (suc i) (g .h)) (cut .before) (cut .run) (cut .over) (cut .behind)
+        lower-is =
+            met-merge w above under r ch oa ou w-low fits g ws1 xs lists2 low n false (eqb (suc i) (g .h)) (omega (arith, pair-inside .1, long2)) lu run-blocks (sym (listed-is g ws1 lists2 (suc i) n n-room) ∙ lower-then .1)
+
+        settled-lower : (al : Allocation) → lowerAfter g i al cut ≡ settle (g .p) al (mergeOf g ws1 xs lists2 meets)
         unfolding lowerAfter
         settled-lower al = ap (settle (g .p) al) (sym lower-is)
 
-        pub pair-leaves : (al : Allocation) → al .cursor ≡ cursor → Marks used (al .used)
-            → PairLeaves g (upperAfter g i al cut) (lowerAfter g i (upperAfter g i al cut .allocation) cut) (choose w above under) ws ws2 used2 upper1 lower2
-            (record { above = u .count; under = v .count; cursor = v .cursor; writes = u .writes + v .writes; first = r .first; overlap = r .overlap })
-        pair-leaves al e m =
-            let p = k2 al e m in
-            let b = settle (g .p) al (close (g .b) 1 left right) .allocation in
-            let q = k3 b (sym (p .cursor)) (p .marks) in
-            let us = settle (g .p) al (close (g .b) 1 left right) .written in
-            let vs = settle (g .p) b (mergeOf g ws1 xs lower meets) .written in
-            let area = writeBlocks g (areaOf g ws) us in
-            let t : take (placesStart g) ws1 ≡ take (placesStart g) ws = ap (take (placesStart g)) (p .words) ∙ base-take g ws (k .words) area in
-            let d : areaOf g ws1 ≡ area = ap (areaOf g) (p .words) ∙ base-drop g ws (k .words) area in
-            rw (settled-upper al, settled-lower b)
-            (record {
-              words = q .words ∙ rw (t, d) (ap (λ (l : List ℕ). take (placesStart g) ws ++ l) (sym (writes-append g (areaOf g ws) us vs)));
-              upper = p .list;
-              upper-long = p .list-long;
-              above = p .count;
-              below = lower-leaves g _ ws1 ws2 used2 lower2 v q w above under r ch _ _;
-              writes = omega (arith, p .writes, q .writes, length-append us vs);
-            })
+        lower-few : length (mergeOf g ws1 xs lists2 meets) ≤ partRoom (g .h) (suc i)
+        lower-few = rw settle-length at (rw (settled-lower at-start) at (k .fits at-start))
+
+        -- and can be made
+        pub pair-mergeable : Relistable g ws1 used1 lists2 xs meets (u .cursor)
+        pair-mergeable =
+            let h = run-in in
+            let x : r .first + w - r .first ≡ w = omega arith in
+            let y = overlap-is w above under r ch oa ou w-low fits in
+            let s = k .above .high in
+            let f = k .free in
+            let m = k .room in
+            let d = after .count in
+            let c = close-one (g .b) 0 left right left-old right-old in
+            relistable g ws1 used1 lists2 xs (u .cursor) (k .valid) (after .long) (first-time .leaves .marks-long) long2 xl (after .cursor) (after .in-use) (suc i) (r .first) (r .first + w) (r .start) (r .end) n false (eqb (suc i) (g .h)) (omega arith) (omega arith) (met-in .0) (met-in .1) n-room
+            (λ _. run-sound) (λ t. absurd (true≢false (sym t))) (part-each (Sound g ws1 used1) (g .h) (suc i) n lists2 n-room (stored-sound g ws1 used1 (partOf (g .h) lists2 (suc i)) n (lower-then .0)))
+            (omega arith) (omega arith) lower-few
+
+        -- after steps 3 and 4
+        module _ (ws2 : List ℕ) (used2 : List Bool) (lists3 : List ℕ) (v : Merged)
+            (k3 : (al : Allocation) → al .cursor ≡ u .cursor → Marks used1 (al .used) → Relisted g (settle (g .p) al (mergeOf g ws1 xs lists2 meets)) low ws1 ws2 used2 lists2 lists3 v) where
+          pub pair-writes : u .writes + v .writes ≤ 8192
+          pair-writes =
+              let p = first-time .leaves in
+              let b = settle (g .p) at-start shut .allocation in
+              let q = k3 b (sym (p .cursor)) (p .marks) in
+              omega (arith, leaves-writes g at-start shut ws ws1 used1 (first-time .out) u p, leaves-writes g b (mergeOf g ws1 xs lists2 meets) ws1 ws2 used2 (q .out) v (q .leaves))
+
+          settled-upper : (al : Allocation) → upperAfter g i al cut ≡ settle (g .p) al shut
+          unfolding upperAfter
+          settled-upper al = ap (settle (g .p) al) upper-is
+
+          pub pair-leaves : (al : Allocation) → al .cursor ≡ cursor → Marks used (al .used)
+              → PairLeaves g i (upperAfter g i al cut) (lowerAfter g i (upperAfter g i al cut .allocation) cut) (choose w above under) ws ws2 used2 lists lists3
+              (record { above = u .count; under = v .count; cursor = v .cursor; writes = u .writes + v .writes; first = r .first; overlap = r .overlap })
+          pair-leaves al e d =
+              let p = relisted1 al e d .leaves in
+              let b = settle (g .p) al shut .allocation in
+              let q = k3 b (sym (p .cursor)) (p .marks) in
+              let us = settle (g .p) al shut .written in
+              let vs = settle (g .p) b (mergeOf g ws1 xs lists2 meets) .written in
+              let area = writeBlocks g (areaOf g ws) us in
+              let t : take (placesStart g) ws1 ≡ take (placesStart g) ws = ap (take (placesStart g)) (p .words) ∙ base-take g ws (k .words) area in
+              let o : areaOf g ws1 ≡ area = ap (areaOf g) (p .words) ∙ base-drop g ws (k .words) area in
+              let h = k .level-high in
+              let anew3 = relisted-anew g b (mergeOf g ws1 xs lists2 meets) (suc i) ws1 ws2 used2 lists2 lists3 v q (k .valid) (omega arith) (k .level-high) long2 lower-few in
+              rw (settled-upper al, settled-lower b)
+              (record {
+                words = q .leaves .words ∙ rw (t, o) (ap (λ (l : List ℕ). take (placesStart g) ws ++ l) (sym (writes-append g (areaOf g ws) us vs)));
+                upper = ap (take (u .count)) (anew3 .others i (k .level-low) (omega arith) (λ x. omega arith)) ∙ anew2 al e d .here;
+                above = p .count;
+                below = lower-leaves g _ (suc i) ws1 ws2 used2 (q .out) lists2 lists3 v (q .leaves) anew3 w above under r ch _ _;
+                kept = λ j x y a b. anew3 .others j x y b ∙ others j x y a;
+                writes = omega (arith, p .writes, q .leaves .writes, length-append us vs);
+              })

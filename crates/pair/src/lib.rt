@@ -1,25 +1,32 @@
 // Steps 1 to 4 of a merge: the run is chosen and leaves its level, and what it meets below is merged with it.
+// The place lists of all levels stand in one array, each in its level's part.
 
 ghost use mathlib.Core.Path.{_≡_};
 ghost use mathlib.Core.List.{map};
-ghost use Prim.Native.Nat.{_+_, _≤_};
+ghost use Prim.Native.Nat.{suc, _+_, _≤_};
 ghost use lib.ListN.{length};
 ghost use Rattle.geometry.specs.Geometry.{Valid, storeLength};
 ghost use Rattle.geometry.specs.Room.{listRoom};
 ghost use Rattle.levels.specs.Record.{Level, pages};
-ghost use Rattle.levels.specs.Merge.{close};
 ghost use Rattle.levels.specs.Place.{Allocation, settle};
-ghost use Rattle.words.specs.Layout.{topRecs};
+ghost use Rattle.words.specs.Layout.{topRecs, blockAt};
+ghost use Rattle.lists.specs.Flat.{partOf};
 ghost use Rattle.choice.specs.Fences.{Fenced, fenceOf, fencesOf};
 ghost use Rattle.blocks.specs.Blocks.{Marks};
-ghost use Rattle.merging.specs.Contract.{mergeOf, Mergeable, Leaves};
-ghost use Rattle.pair.specs.Contract.{levelOf, meetsAt, Chosen, Readables, Paged, InUse, Closable, leftOf, rightOf, PairReady, PairMerged, PagesReady, PagesMerged};
+ghost use Rattle.merging.specs.Contract.{mergeOf};
+ghost use Rattle.pair.specs.Contract.{levelOf, gapAt, meetsAt, Chosen, Readables, Paged, Relistable, Relisted, PairReady, PairMerged, PagesReady, PagesMerged};
 use geometry::Geometry;
 use merging::Cut;
 use merging::Merged;
 
 // The blocks of a level at most, whose first and last keys the choice goes by: 2 × K(i) during a call.
 const FENCES: usize = 2 * Geometry::MAX_BOTTOM;
+
+// The lengths of the two lists of a merge.
+pub struct Lengths {
+    pub above: usize,
+    pub under: usize,
+}
 
 // What a merge answers: the lengths of the two lists afterwards, the allocation cursor, the blocks
 // written, the run's first block and the number of blocks below that the run overlaps.
@@ -41,17 +48,35 @@ struct Picked {
 }
 
 impl Picked {
-    // Where X and Y stand, for the merge of a run of w blocks onto a level of n blocks.
-    fn cut(self, w: usize, n: usize, pages: bool, bottom: bool) -> Cut
-        requires { ⌜ self .first + w ≤ listRoom ⌝ }
-        ensures { λ r. ⌜ r ≡ meetsAt w n pages bottom self ⌝ }
+    // Step 2, a merge of nothing: what is left of the list of n entries, from entry `at` on, when the run of w blocks has left it.
+    fn gap(self, w: usize, at: usize, n: usize) -> Cut
+        requires { ⌜ (self .first + w ≤ n) × (at + n ≤ listRoom) ⌝ }
+        ensures { λ r. ⌜ r ≡ gapAt w at n self ⌝ }
+    {
+        Cut {
+            x: 0,
+            xend: 0,
+            start: at,
+            y: at + self.first,
+            yend: at + self.first,
+            end: at + (n - w),
+            pages: false,
+            bottom: false,
+        }
+    }
+
+    // Where X and Y stand, for the merge of a run of w blocks onto a list of n entries, from entry `at` on.
+    fn cut(self, w: usize, at: usize, n: usize, pages: bool, bottom: bool) -> Cut
+        requires { ⌜ (self .first + w ≤ listRoom) × ((self .start ≤ self .end) × ((self .end ≤ n) × (at + n ≤ listRoom))) ⌝ }
+        ensures { λ r. ⌜ r ≡ meetsAt w at n pages bottom self ⌝ }
     {
         Cut {
             x: self.first,
             xend: self.first + w,
-            y: self.start,
-            yend: self.end,
-            end: n,
+            start: at,
+            y: at + self.start,
+            yend: at + self.end,
+            end: at + n,
             pages: pages,
             bottom: bottom,
         }
@@ -61,19 +86,19 @@ impl Picked {
 // Step 1, over the fences of the level above and those of the listed level below.
 fn pick(
     s: &[u32],
-    lower: &[u32; Geometry::LIST_ROOM],
+    lower: &[u32],
     g: Geometry,
     firsts: &[u32],
     lasts: &[u32],
     a: usize,
-    n: usize,
     w: usize,
 ) -> Picked
-    requires { ⌜ Valid g × ((length (now s) ≡ storeLength g) × ((1 ≤ w) × ((w ≤ a) × (Fenced (now firsts) (now lasts) 0 a × Readables g (now s) (now lower) n)))) ⌝ }
-    ensures { λ r. ⌜ ((above : Level) → fencesOf (now (firsts .entry)) (now (lasts .entry)) a ≡ map fenceOf above → Chosen w above (levelOf g (now (s .entry)) (now (lower .entry)) n) r) ⌝ }
+    requires { ⌜ Valid g × ((length (now s) ≡ storeLength g) × ((1 ≤ w) × ((w ≤ a) × (Fenced (now firsts) (now lasts) 0 a × Readables g (now s) (now lower))))) ⌝ }
+    ensures { λ r. ⌜ ((above : Level) → fencesOf (now (firsts .entry)) (now (lasts .entry)) a ≡ map fenceOf above → Chosen w above (map (blockAt g (now (s .entry))) (now (lower .entry))) r) ⌝ }
 {
     let mut starts = [0u32; FENCES];
     let mut ends = [0u32; FENCES];
+    let n = lower.len();
     fences::fence_blocks(s, g, lower, n, &mut starts, &mut ends);
     let run = choice::choose_run(firsts, lasts, a, &starts, &ends, n, w);
     Picked {
@@ -85,116 +110,85 @@ fn pick(
 }
 
 // Step 1 between two listed levels.
-fn choose_listed(
-    s: &[u32],
-    upper: &[u32; Geometry::LIST_ROOM],
-    lower: &[u32; Geometry::LIST_ROOM],
-    g: Geometry,
-    a: usize,
-    n: usize,
-    w: usize,
-) -> Picked
-    requires { ⌜ Valid g × ((length (now s) ≡ storeLength g) × ((1 ≤ w) × ((w ≤ a) × (Readables g (now s) (now upper) a × Readables g (now s) (now lower) n)))) ⌝ }
-    ensures { λ r. ⌜ Chosen w (levelOf g (now (s .entry)) (now (upper .entry)) a) (levelOf g (now (s .entry)) (now (lower .entry)) n) r ⌝ }
+fn choose_listed(s: &[u32], upper: &[u32], lower: &[u32], g: Geometry, w: usize) -> Picked
+    requires { ⌜ Valid g × ((length (now s) ≡ storeLength g) × ((1 ≤ w) × ((w ≤ length (now upper)) × (Readables g (now s) (now upper) × Readables g (now s) (now lower))))) ⌝ }
+    ensures { λ r. ⌜ Chosen w (map (blockAt g (now (s .entry))) (now (upper .entry))) (map (blockAt g (now (s .entry))) (now (lower .entry))) r ⌝ }
 {
     let mut firsts = [0u32; FENCES];
     let mut lasts = [0u32; FENCES];
+    let a = upper.len();
     fences::fence_blocks(s, g, upper, a, &mut firsts, &mut lasts);
-    pick(s, lower, g, &firsts, &lasts, a, n, w)
+    pick(s, lower, g, &firsts, &lasts, a, w)
 }
 
 // Step 1 out of level 0, all of whose pages are full.
-fn choose_pages(
-    s: &[u32],
-    lower: &[u32; Geometry::LIST_ROOM],
-    g: Geometry,
-    a: usize,
-    n: usize,
-    w: usize,
-) -> Picked
-    requires { ⌜ Valid g × ((length (now s) ≡ storeLength g) × ((1 ≤ w) × ((w ≤ a) × (Paged g (now s) a × Readables g (now s) (now lower) n)))) ⌝ }
-    ensures { λ r. ⌜ Chosen w (pages (g .b) (topRecs g (now (s .entry)))) (levelOf g (now (s .entry)) (now (lower .entry)) n) r ⌝ }
+fn choose_pages(s: &[u32], lower: &[u32], g: Geometry, a: usize, w: usize) -> Picked
+    requires { ⌜ Valid g × ((length (now s) ≡ storeLength g) × ((1 ≤ w) × ((w ≤ a) × (Paged g (now s) a × Readables g (now s) (now lower))))) ⌝ }
+    ensures { λ r. ⌜ Chosen w (pages (g .b) (topRecs g (now (s .entry)))) (map (blockAt g (now (s .entry))) (now (lower .entry))) r ⌝ }
 {
     let mut firsts = [0u32; FENCES];
     let mut lasts = [0u32; FENCES];
     fences::fence_pages(s, g, a, &mut firsts, &mut lasts);
-    pick(s, lower, g, &firsts, &lasts, a, n, w)
+    pick(s, lower, g, &firsts, &lasts, a, w)
 }
 
 // Steps 3 and 4 with the new list put in the place of the old one, which its blocks are read from till the end.
 fn merge_list(
     s: &mut [u32],
     used: &mut [bool; Geometry::MAX_P],
-    list: &mut [u32; Geometry::LIST_ROOM],
+    lists: &mut [u32; Geometry::LIST_ROOM],
     xs: &[u32; Geometry::LIST_ROOM],
     g: Geometry,
     parts: Cut,
     cursor: usize,
 ) -> Merged
-    requires { ⌜ InUse (now used) × Mergeable g (now s) (now used) (now list) (now xs) (now list) parts cursor ⌝ }
+    requires { ⌜ Relistable g (now s) (now used) (now lists) (now xs) parts cursor ⌝ }
     ensures { λ r. ⌜ ((a : Allocation) → a .cursor ≡ cursor → Marks (now (used .entry)) (a .used)
-        → Leaves g (settle (g .p) a (mergeOf g (now (s .entry)) (now (xs .entry)) (now (list .entry)) parts)) (now (s .entry)) (now (s .exit)) (now (used .exit)) (now (list .exit)) r) ⌝ }
+        → Relisted g (settle (g .p) a (mergeOf g (now (s .entry)) (now (xs .entry)) (now (lists .entry)) parts)) (parts .start) (now (s .entry)) (now (s .exit)) (now (used .exit)) (now (lists .entry)) (now (lists .exit)) r) ⌝ }
 {
     let mut out = [0u32; Geometry::LIST_ROOM];
-    let r = merging::merge_blocks(s, used, &mut out, xs, list, g, parts, cursor);
+    let start = parts.start;
+    let r = merging::merge_blocks(s, used, &mut out, xs, lists, g, parts, cursor);
     let count = r.count;
-    joins::copy_entries(list, &out, 0, 0, count);
+    slices::copy(&out, 0, count, lists, start);
     r
 }
 
-// Step 2: the run leaves the list, and its two neighbours join if they can: a merge of nothing between them.
-fn close_run(
-    s: &mut [u32],
-    used: &mut [bool; Geometry::MAX_P],
-    upper: &mut [u32; Geometry::LIST_ROOM],
-    xs: &[u32; Geometry::LIST_ROOM],
-    g: Geometry,
-    first: usize,
-    w: usize,
-    a: usize,
-    cursor: usize,
-) -> Merged
-    requires { ⌜ Closable g (now s) (now used) (now upper) (now xs) first w a cursor ⌝ }
-    ensures { λ r. ⌜ ((al : Allocation) → al .cursor ≡ cursor → Marks (now (used .entry)) (al .used)
-        → Leaves g (settle (g .p) al (close (g .b) 1 (leftOf g (now (s .entry)) (now (upper .entry)) first) (rightOf g (now (s .entry)) (now (upper .entry)) first w a))) (now (s .entry)) (now (s .exit)) (now (used .exit)) (now (upper .exit)) r) ⌝ }
-{
-    joins::copy_entries(upper, xs, first, first + w, a);
-    let parts = Cut {
-        x: 0,
-        xend: 0,
-        y: first,
-        yend: first,
-        end: a - w,
-        pages: false,
-        bottom: false,
-    };
-    merge_list(s, used, upper, xs, g, parts, cursor)
-}
-
-// Steps 1 to 4 of a merge from a listed level to the next. Step 2 writes first, so its block takes its place before those of steps 3 and 4.
+// Steps 1 to 4 of a merge from a listed level to the next. The run leaves the lists before X is read, so its entries are kept apart.
+// Step 2 writes first, so its block takes its place before those of steps 3 and 4.
 pub fn merge_pair(
     s: &mut [u32],
     used: &mut [bool; Geometry::MAX_P],
-    upper: &mut [u32; Geometry::LIST_ROOM],
-    lower: &mut [u32; Geometry::LIST_ROOM],
+    lists: &mut [u32; Geometry::LIST_ROOM],
     g: Geometry,
     level: usize,
-    a: usize,
-    n: usize,
+    lengths: Lengths,
     cursor: usize,
 ) -> Step
-    requires { ⌜ PairReady g (now s) (now used) (now upper) (now lower) level a n cursor ⌝ }
+    requires { ⌜ PairReady g (now s) (now used) (now lists) level (lengths .above) (lengths .under) cursor ⌝ }
     ensures { λ r. ⌜ ((al : Allocation) → al .cursor ≡ cursor → Marks (now (used .entry)) (al .used)
-        → PairMerged g level (levelOf g (now (s .entry)) (now (upper .entry)) a) (levelOf g (now (s .entry)) (now (lower .entry)) n) al (now (s .entry)) (now (s .exit)) (now (used .exit)) (now (upper .exit)) (now (lower .exit)) r) ⌝ }
+        → PairMerged g level (levelOf g (now (s .entry)) (partOf (g .h) (now (lists .entry)) level) (lengths .above)) (levelOf g (now (s .entry)) (partOf (g .h) (now (lists .entry)) (suc level)) (lengths .under)) al (now (s .entry)) (now (s .exit)) (now (used .exit)) (now (lists .entry)) (now (lists .exit)) r) ⌝ }
 {
     let h = g.levels();
     let w = g.window(level);
-    let picked = choose_listed(s, upper, lower, g, a, n, w);
+    let at = lists::start_of(h, level);
+    let next = level + 1;
+    let below = lists::start_of(h, next);
+    let all = &lists[..];
+    let picked = choose_listed(
+        s,
+        &all[at..at + lengths.above],
+        &all[below..below + lengths.under],
+        g,
+        w,
+    );
+    let gap = picked.gap(w, at, lengths.above);
     let mut xs = [0u32; Geometry::LIST_ROOM];
-    joins::copy_entries(&mut xs, upper, 0, 0, a);
-    let u = close_run(s, used, upper, &xs, g, picked.first, w, a, cursor);
-    let parts = picked.cut(w, n, false, level + 1 == h);
-    let l = merge_list(s, used, lower, &xs, g, parts, u.cursor);
+    slices::copy(lists, gap.y, w, &mut xs, picked.first);
+    slices::copy_down(lists, gap.y + w, gap.end - gap.y, gap.y);
+    let u = merge_list(s, used, lists, &xs, g, gap, cursor);
+    let parts = picked.cut(w, below, lengths.under, false, next == h);
+    let l = merge_list(s, used, lists, &xs, g, parts, u.cursor);
     Step {
         above: u.count,
         under: l.count,
@@ -210,22 +204,24 @@ pub fn merge_pair(
 pub fn merge_pages(
     s: &mut [u32],
     used: &mut [bool; Geometry::MAX_P],
-    lower: &mut [u32; Geometry::LIST_ROOM],
+    lists: &mut [u32; Geometry::LIST_ROOM],
     g: Geometry,
     n: usize,
     cursor: usize,
 ) -> Step
-    requires { ⌜ PagesReady g (now s) (now used) (now lower) n cursor ⌝ }
+    requires { ⌜ PagesReady g (now s) (now used) (now lists) n cursor ⌝ }
     ensures { λ r. ⌜ ((al : Allocation) → al .cursor ≡ cursor → Marks (now (used .entry)) (al .used)
-        → PagesMerged g (levelOf g (now (s .entry)) (now (lower .entry)) n) al (now (s .entry)) (now (s .exit)) (now (used .exit)) (now (lower .exit)) r) ⌝ }
+        → PagesMerged g (levelOf g (now (s .entry)) (partOf (g .h) (now (lists .entry)) 1) n) al (now (s .entry)) (now (s .exit)) (now (used .exit)) (now (lists .entry)) (now (lists .exit)) r) ⌝ }
 {
     let h = g.levels();
     let a = g.capacity(0);
     let w = g.window(0);
-    let picked = choose_pages(s, lower, g, a, n, w);
+    let at = lists::start_of(h, 1);
+    let all = &lists[..];
+    let picked = choose_pages(s, &all[at..at + n], g, a, w);
     let xs = [0u32; Geometry::LIST_ROOM];
-    let parts = picked.cut(w, n, true, 1 == h);
-    let l = merge_list(s, used, lower, &xs, g, parts, cursor);
+    let parts = picked.cut(w, at, n, true, 1 == h);
+    let l = merge_list(s, used, lists, &xs, g, parts, cursor);
     Step {
         above: a - w,
         under: l.count,

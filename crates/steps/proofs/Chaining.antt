@@ -5,7 +5,7 @@ use mathlib.Core.Bool.{Bool, true, false}
 use mathlib.Core.List.{List, [], _∷_, _++_, append-assoc}
 use native.Mathlib.Omega.{arith}
 use lib.Dec.{eqb}
-use lib.ListN.{getD}
+use lib.ListN.{length, getD}
 use Rattle.geometry.specs.declared.Geometry.{Geometry}
 use Rattle.geometry.specs.Geometry.{Valid}
 use Rattle.levels.specs.Basics.{if_then_else_}
@@ -23,12 +23,15 @@ use Rattle.levels.proofs.MergeBounds.{merge-written}
 use Rattle.words.specs.Layout.{areaOf, writeBlocks}
 use Rattle.words.specs.Calls.{compactedBlocks}
 use Rattle.words.proofs.Blocks.{writes-append}
+use Rattle.lists.specs.Lists.{listsOf}
+use Rattle.blocks.specs.Blocks.{Marks}
 use Rattle.steps.specs.declared.Counts.{Counts}
 use Rattle.steps.specs.declared.Tally.{Tally}
 use Rattle.steps.specs.declared.Run.{Run}
-use Rattle.steps.specs.Running.{storeOf, Stands, numbersOf, plus, Few, Small, Grown, Leaving, Running, compactedCounts, mergedCounts, StepReady, stepCounts}
+use Rattle.steps.specs.Running.{named, storeOf, Stands, Markable, Marking, numbersOf, plus, Few, Small, Grown, Leaving, Running, compactedCounts, mergedCounts, StepReady, stepCounts}
 use Rattle.steps.proofs.Compacting.{needed-is, not-needed}
-use Rattle.steps.proofs.Merging.{level-low, merged-few}
+use Rattle.steps.proofs.Standing.{markable, marking}
+use Rattle.steps.proofs.Merging.{start-inside, level-low, merged-few}
 
 -- sums of counts
 pub plus-assoc : (a b c : levels.Counts) → plus (plus a b) c ≡ plus a (plus b c)
@@ -73,21 +76,21 @@ small-more n m t l k =
     record { one = few (t .one) (k .one); two = few (t .two) (k .two); three = few (t .three) (k .three) }
 
 -- one change after another
-pub leaving-chain : (g : Geometry) (t1 t2 : Store) (b1 b2 : List Block) (f1 f2 : ℕ → levels.Counts) (ws : List ℕ) (r : Run) (ws1 one1 two1 three1 : List ℕ) (r1 : Run) (ws2 one2 two2 three2 : List ℕ) (r2 : Run)
-    → Leaving g t1 b1 f1 ws r ws1 one1 two1 three1 r1 → Leaving g t2 b2 f2 ws1 r1 ws2 one2 two2 three2 r2 → Leaving g t2 (b1 ++ b2) (λ j. plus (f1 j) (f2 j)) ws r ws2 one2 two2 three2 r2
-leaving-chain g t1 t2 b1 b2 f1 f2 ws r ws1 one1 two1 three1 r1 ws2 one2 two2 three2 r2 a b = record {
+pub leaving-chain : (g : Geometry) (t1 t2 : Store) (b1 b2 : List Block) (f1 f2 : ℕ → levels.Counts) (ws : List ℕ) (r : Run) (ws1 lists1 : List ℕ) (r1 : Run) (ws2 lists2 : List ℕ) (r2 : Run)
+    → Leaving g t1 b1 f1 ws r ws1 lists1 r1 → Leaving g t2 b2 f2 ws1 r1 ws2 lists2 r2 → Leaving g t2 (b1 ++ b2) (λ j. plus (f1 j) (f2 j)) ws r ws2 lists2 r2
+leaving-chain g t1 t2 b1 b2 f1 f2 ws r ws1 lists1 r1 ws2 lists2 r2 a b = record {
   stands = b .stands;
   area = b .area ∙ ap (λ (x : List ℕ). writeBlocks g x b2) (a .area) ∙ sym (writes-append g (areaOf g ws) b1 b2);
   counts = grown-chain f1 f2 (r .tally) (r1 .tally) (r2 .tally) (a .counts) (b .counts);
 }
 
 -- a moment after a change
-pub running-after : (n : ℕ) (g : Geometry) (e t : Store) (ws one two three : List ℕ) (r : Run) → Valid g → Inside g e t → Stands g t ws one two three r → Small n (r .tally) → Running n g ws one two three r
-running-after n g e t ws one two three r v i s k = record {
+pub running-after : (n : ℕ) (g : Geometry) (e t : Store) (ws lists : List ℕ) (r : Run) → Valid g → Inside g e t → Stands g t ws lists r → Small n (r .tally) → Running n g ws lists r
+running-after n g e t ws lists r v i s k = record {
   valid = v;
   entry = e;
   inside = subst (Inside g e) (sym (s .store)) i;
-  stands = subst (λ (x : Store). Stands g x ws one two three r) (sym (s .store)) s;
+  stands = subst (λ (x : Store). Stands g x ws lists r) (sym (s .store)) s;
   small = k;
 }
 
@@ -110,13 +113,13 @@ step-counts m j =
 compacted-both : (cs ds : List Compaction) (j : ℕ) → compactedCounts (cs ++ ds) j ≡ plus (compactedCounts cs j) (compactedCounts ds j)
 compacted-both cs ds j = ap (λ (x : ℕ). record { merges = 0; written = 0; compacted = x }) (total-both j cs ds)
 
-compactions-chain : (g : Geometry) (t : Store) (cs ds : List Compaction) (ws : List ℕ) (r : Run) (ws1 one1 two1 three1 : List ℕ) (r1 : Run) (ws2 one2 two2 three2 : List ℕ) (r2 : Run)
-    → Leaving g (afterCompactions t cs) (compactedBlocks cs) (compactedCounts cs) ws r ws1 one1 two1 three1 r1 → Leaving g (afterCompactions (afterCompactions t cs) ds) (compactedBlocks ds) (compactedCounts ds) ws1 r1 ws2 one2 two2 three2 r2
-    → Leaving g (afterCompactions t (cs ++ ds)) (compactedBlocks (cs ++ ds)) (compactedCounts (cs ++ ds)) ws r ws2 one2 two2 three2 r2
-compactions-chain g t cs ds ws r ws1 one1 two1 three1 r1 ws2 one2 two2 three2 r2 a b =
-    let c = leaving-chain g _ _ _ _ _ _ ws r ws1 one1 two1 three1 r1 ws2 one2 two2 three2 r2 a b in
+compactions-chain : (g : Geometry) (t : Store) (cs ds : List Compaction) (ws : List ℕ) (r : Run) (ws1 lists1 : List ℕ) (r1 : Run) (ws2 lists2 : List ℕ) (r2 : Run)
+    → Leaving g (afterCompactions t cs) (compactedBlocks cs) (compactedCounts cs) ws r ws1 lists1 r1 → Leaving g (afterCompactions (afterCompactions t cs) ds) (compactedBlocks ds) (compactedCounts ds) ws1 r1 ws2 lists2 r2
+    → Leaving g (afterCompactions t (cs ++ ds)) (compactedBlocks (cs ++ ds)) (compactedCounts (cs ++ ds)) ws r ws2 lists2 r2
+compactions-chain g t cs ds ws r ws1 lists1 r1 ws2 lists2 r2 a b =
+    let c = leaving-chain g _ _ _ _ _ _ ws r ws1 lists1 r1 ws2 lists2 r2 a b in
     record {
-      stands = subst (λ (x : Store). Stands g x ws2 one2 two2 three2 r2) (sym (after-append t cs ds)) (c .stands);
+      stands = subst (λ (x : Store). Stands g x ws2 lists2 r2) (sym (after-append t cs ds)) (c .stands);
       area = c .area ∙ ap (writeBlocks g (areaOf g ws)) (sym (blocks-both cs ds));
       counts = grown-same _ (compactedCounts (cs ++ ds)) (r .tally) (r2 .tally) (λ j. sym (compacted-both cs ds j)) (c .counts);
     }
@@ -163,9 +166,19 @@ needed-few g e x zero v l h n = absurd (omega arith)
 needed-few g e x (suc i) v l h n = needed-low g e x i v h n
 
 -- The parts of a merge with its step 5.
-module _ (g : Geometry) (ws one two three : List ℕ) (level : ℕ) (r : Run) (k : StepReady 1900000000 g ws one two three level r) where
-  -- what `merge_level` asks
-  pub step-asks : StepReady 2000000000 g ws one two three level r
+module _ (g : Geometry) (ws lists : List ℕ) (level : ℕ) (r : Run) (k : StepReady 1900000000 g ws lists level r) where
+  stands-inside : Inside g (k .entry) (storeOf g ws lists r)
+  stands-inside = start-inside g (k .entry) (storeOf g ws lists r) level (k .valid) (k .facts)
+
+  -- what `marks` asks, and what it gives
+  pub step-markable : Markable (g .h) lists (r .ns)
+  step-markable = markable g (k .entry) (storeOf g ws lists r) ws lists r (k .valid) stands-inside (k .stands)
+
+  pub step-marks : (used : List Bool) (x : ℕ) → x ≡ g .h → Marks used (named (listsOf x lists (r .ns))) × (length used ≡ 8192) → Marking used (storeOf g ws lists r)
+  step-marks used x e m = marking g (k .entry) (storeOf g ws lists r) ws lists r (k .valid) stands-inside (k .stands) used (rw e at m)
+
+  -- what the merge asks
+  pub step-asks : StepReady 2000000000 g ws lists level r
   step-asks = record {
     valid = k .valid;
     entry = k .entry;
@@ -175,8 +188,8 @@ module _ (g : Geometry) (ws one two three : List ℕ) (level : ℕ) (r : Run) (k
     small = small-more 1900000000 2000000000 (r .tally) (omega arith) (k .small);
   }
 
-  module _ (t : Store) (et : t ≡ storeOf g ws one two three r) (ws1 one1 two1 three1 : List ℕ) (r1 : Run)
-      (a : Leaving g (mergeLevel g level t .finish) (mergeLevel g level t .written) (mergedCounts (mergeLevel g level t)) ws r ws1 one1 two1 three1 r1) where
+  module _ (t : Store) (et : t ≡ storeOf g ws lists r) (ws1 lists1 : List ℕ) (r1 : Run)
+      (a : Leaving g (mergeLevel g level t .finish) (mergeLevel g level t .written) (mergedCounts (mergeLevel g level t)) ws r ws1 lists1 r1) where
     abbrev pub merged : Merge
     merged = mergeLevel g level t
 
@@ -191,42 +204,42 @@ module _ (g : Geometry) (ws one two three : List ℕ) (level : ℕ) (r : Run) (k
     small-1 = grown-small (mergedCounts merged) (r .tally) (r1 .tally) 1900000000 1900008192 8192 (merged-low g (k .entry) t level (k .valid) facts) (omega arith) (k .small) (a .counts)
 
     -- what the first compaction asks
-    pub first-asks : Running 2000000000 g ws1 one1 two1 three1 r1
-    first-asks = running-after 2000000000 g (k .entry) (merged .finish) ws1 one1 two1 three1 r1 (k .valid) (facts .finish-inside) (a .stands) (small-more 1900008192 2000000000 (r1 .tally) (omega arith) small-1)
+    pub first-asks : Running 2000000000 g ws1 lists1 r1
+    first-asks = running-after 2000000000 g (k .entry) (merged .finish) ws1 lists1 r1 (k .valid) (facts .finish-inside) (a .stands) (small-more 1900008192 2000000000 (r1 .tally) (omega arith) small-1)
 
     -- the merge and what step 5 compacts
-    step-five : (cs : List Compaction) → merged .compactions ≡ cs → (ws2 one2 two2 three2 : List ℕ) (r2 : Run)
-        → Leaving g (afterCompactions (merged .finish) cs) (compactedBlocks cs) (compactedCounts cs) ws1 r1 ws2 one2 two2 three2 r2
-        → Leaving g (afterMerge merged) (merged .written ++ compactedBlocks (merged .compactions)) (stepCounts merged) ws r ws2 one2 two2 three2 r2
-    step-five cs q ws2 one2 two2 three2 r2 b =
-        let b' = subst (λ (ds : List Compaction). Leaving g (afterCompactions (merged .finish) ds) (compactedBlocks ds) (compactedCounts ds) ws1 r1 ws2 one2 two2 three2 r2) (sym q) b in
-        let c = leaving-chain g _ _ _ _ _ _ ws r ws1 one1 two1 three1 r1 ws2 one2 two2 three2 r2 a b' in
+    step-five : (cs : List Compaction) → merged .compactions ≡ cs → (ws2 lists2 : List ℕ) (r2 : Run)
+        → Leaving g (afterCompactions (merged .finish) cs) (compactedBlocks cs) (compactedCounts cs) ws1 r1 ws2 lists2 r2
+        → Leaving g (afterMerge merged) (merged .written ++ compactedBlocks (merged .compactions)) (stepCounts merged) ws r ws2 lists2 r2
+    step-five cs q ws2 lists2 r2 b =
+        let b' = subst (λ (ds : List Compaction). Leaving g (afterCompactions (merged .finish) ds) (compactedBlocks ds) (compactedCounts ds) ws1 r1 ws2 lists2 r2) (sym q) b in
+        let c = leaving-chain g _ _ _ _ _ _ ws r ws1 lists1 r1 ws2 lists2 r2 a b' in
         record { stands = c .stands; area = c .area; counts = grown-same _ (stepCounts merged) (r .tally) (r2 .tally) (step-counts merged) (c .counts) }
 
     -- out of level 0
-    pub step-top : (ws2 one2 two2 three2 : List ℕ) (r2 : Run) → level ≡ 0
-        → Leaving g (afterCompactions (merged .finish) (compactIfNeeded g 1 (merged .finish))) (compactedBlocks (compactIfNeeded g 1 (merged .finish))) (compactedCounts (compactIfNeeded g 1 (merged .finish))) ws1 r1 ws2 one2 two2 three2 r2
-        → Leaving g (afterMerge merged) (merged .written ++ compactedBlocks (merged .compactions)) (stepCounts merged) ws r ws2 one2 two2 three2 r2
-    step-top ws2 one2 two2 three2 r2 e = step-five (compactIfNeeded g 1 (merged .finish)) (five-top g t level e) ws2 one2 two2 three2 r2
+    pub step-top : (ws2 lists2 : List ℕ) (r2 : Run) → level ≡ 0
+        → Leaving g (afterCompactions (merged .finish) (compactIfNeeded g 1 (merged .finish))) (compactedBlocks (compactIfNeeded g 1 (merged .finish))) (compactedCounts (compactIfNeeded g 1 (merged .finish))) ws1 r1 ws2 lists2 r2
+        → Leaving g (afterMerge merged) (merged .written ++ compactedBlocks (merged .compactions)) (stepCounts merged) ws r ws2 lists2 r2
+    step-top ws2 lists2 r2 e = step-five (compactIfNeeded g 1 (merged .finish)) (five-top g t level e) ws2 lists2 r2
 
     -- out of another level
-    module _ (low : 1 ≤ level) (ws2 one2 two2 three2 : List ℕ) (r2 : Run)
-        (b : Leaving g (afterCompactions (merged .finish) first) (compactedBlocks first) (compactedCounts first) ws1 r1 ws2 one2 two2 three2 r2) where
+    module _ (low : 1 ≤ level) (ws2 lists2 : List ℕ) (r2 : Run)
+        (b : Leaving g (afterCompactions (merged .finish) first) (compactedBlocks first) (compactedCounts first) ws1 r1 ws2 lists2 r2) where
       high : level < g .h
       high = level-low g (k .entry) t level (k .valid) facts
 
       -- what the second compaction asks
-      pub second-asks : Running 2000000000 g ws2 one2 two2 three2 r2
+      pub second-asks : Running 2000000000 g ws2 lists2 r2
       unfolding high
       second-asks =
           let x : Store = merged .finish in
           let h = high in
-          running-after 2000000000 g (k .entry) (afterCompactions x (compactIfNeeded g level x)) ws2 one2 two2 three2 r2 (k .valid) (needed-inside g (k .entry) x level (k .valid) low (omega arith) (facts .finish-inside)) (b .stands)
+          running-after 2000000000 g (k .entry) (afterCompactions x (compactIfNeeded g level x)) ws2 lists2 r2 (k .valid) (needed-inside g (k .entry) x level (k .valid) low (omega arith) (facts .finish-inside)) (b .stands)
           (grown-small (compactedCounts (compactIfNeeded g level x)) (r1 .tally) (r2 .tally) 1900008192 2000000000 8192 (needed-few g (k .entry) x level (k .valid) low (omega arith) (facts .finish-inside)) (omega arith) small-1 (b .counts))
 
-      pub step-below : (i : ℕ) (ws3 one3 two3 three3 : List ℕ) (r3 : Run) → i ≡ suc level
-          → Leaving g (afterCompactions (afterCompactions (merged .finish) first) (compactIfNeeded g i (afterCompactions (merged .finish) first))) (compactedBlocks (compactIfNeeded g i (afterCompactions (merged .finish) first))) (compactedCounts (compactIfNeeded g i (afterCompactions (merged .finish) first))) ws2 r2 ws3 one3 two3 three3 r3
-          → Leaving g (afterMerge merged) (merged .written ++ compactedBlocks (merged .compactions)) (stepCounts merged) ws r ws3 one3 two3 three3 r3
-      step-below i ws3 one3 two3 three3 r3 e c =
+      pub step-below : (i : ℕ) (ws3 lists3 : List ℕ) (r3 : Run) → i ≡ suc level
+          → Leaving g (afterCompactions (afterCompactions (merged .finish) first) (compactIfNeeded g i (afterCompactions (merged .finish) first))) (compactedBlocks (compactIfNeeded g i (afterCompactions (merged .finish) first))) (compactedCounts (compactIfNeeded g i (afterCompactions (merged .finish) first))) ws2 r2 ws3 lists3 r3
+          → Leaving g (afterMerge merged) (merged .written ++ compactedBlocks (merged .compactions)) (stepCounts merged) ws r ws3 lists3 r3
+      step-below i ws3 lists3 r3 e c =
           let ds : List Compaction = compactIfNeeded g i (afterCompactions (merged .finish) first) in
-          step-five (first ++ ds) (five-below g t level i low e) ws3 one3 two3 three3 r3 (compactions-chain g (merged .finish) first ds ws1 r1 ws2 one2 two2 three2 r2 ws3 one3 two3 three3 r3 b c)
+          step-five (first ++ ds) (five-below g t level i low e) ws3 lists3 r3 (compactions-chain g (merged .finish) first ds ws1 r1 ws2 lists2 r2 ws3 lists3 r3 b c)

@@ -1,47 +1,50 @@
 -- Step 5 for one level, on words and lists.
 use Prim.Native.Nat.{ℕ, zero, suc, _+_, _≤_, _<_}
-use mathlib.Core.Path.{_≡_, refl, sym, ap, _∙_}
+use mathlib.Core.Path.{_≡_, refl, sym, ap, _∙_, subst}
 use mathlib.Core.Bool.{Bool, true, false}
 use mathlib.Core.List.{List, [], _∷_, map, append-nil}
+use mathlib.Core.Logic.{_≢_}
 use native.Mathlib.Nat.{add-zero}
+use native.Mathlib.Numerals.{add-one}
 use native.Mathlib.Omega.{arith}
 use lib.Dec.{eqb}
-use lib.ListN.{length, take, getD}
+use lib.ListN.{length, take, drop, getD, set}
 use lib.Seq.{getD-set-same}
+use Rattle.slices.specs.Slices.{putAt}
 use Rattle.geometry.specs.declared.Geometry.{Geometry}
 use Rattle.levels.specs.Basics.{if_then_else_}
-use Rattle.levels.specs.Record.{Level}
 use Rattle.levels.specs.Waste.{needsCompact}
 use Rattle.levels.specs.Waste as waste
-use Rattle.levels.specs.Place.{Settled, settle, placesOf}
+use Rattle.levels.specs.Place.{Allocation, Settled, settle, placesOf}
 use Rattle.levels.specs.Store.{Store, usedIn, allocationOf}
 use Rattle.levels.specs.Call.{Compaction, compactLevel, compactIfNeeded, afterCompactions}
 use Rattle.levels.specs.Count.{blocksCompacted}
 use Rattle.levels.specs.Count as levels
-use Rattle.levels.specs.Every.{Every, allBlocks}
-use Rattle.levels.specs.Sound.{BlockFits}
 use Rattle.levels.specs.InCall.{CompactionFacts}
-use Rattle.levels.proofs.Entry.{inside-fit, blocks-at}
 use Rattle.levels.proofs.Room.{compact-room-numbers}
+use Rattle.levels.proofs.StoreRows.{set-at}
 use Rattle.levels.proofs.Inside.{inside-used}
 use Rattle.levels.proofs.CompactInside.{compact-facts, compaction-newly}
-use Rattle.words.specs.Layout.{blockAt, areaOf, writeBlocks}
+use Rattle.words.specs.Layout.{blockAt, placeOf, areaOf, writeBlocks}
 use Rattle.words.specs.Calls.{compactedBlocks}
-use Rattle.words.proofs.Laid.{places-are}
 use Rattle.words.proofs.Steps.{laid-compaction}
+use Rattle.lists.specs.Flat.{partStart, partRoom, partOf}
+use Rattle.lists.specs.Lists.{listOf, listsOf, Listed, placesAt}
 use Rattle.lists.specs.Holds.{HoldsBut}
+use Rattle.lists.proofs.Flat.{part-inside, part-fits}
+use Rattle.lists.proofs.Arrays.{listed-put}
 use Rattle.lists.proofs.Laws.{but-area}
+use Rattle.blocks.specs.Blocks.{Marks}
 use Rattle.merging.specs.declared.Merged.{Merged}
-use Rattle.merging.specs.Contract.{ListedBlock, Leaves}
-use Rattle.compaction.specs.Machine.{Compactable}
-use Rattle.pair.specs.Contract.{InUse}
+use Rattle.merging.specs.Contract.{Leaves}
+use Rattle.compaction.specs.Machine.{Countable, Compactable}
 use Rattle.pair.proofs.Kept.{base-drop}
 use Rattle.pair.proofs.Room.{count-few}
 use Rattle.steps.specs.declared.Counts.{Counts}
 use Rattle.steps.specs.declared.Tally.{Tally}
-use Rattle.steps.specs.declared.One.{One}
-use Rattle.steps.specs.Running.{Listed, numbersOf, plus, sumOf, counted, Grown, compactedCounts, OneReady, OneLeft, anew}
-use Rattle.steps.proofs.Standing.{inside-short, listed-block, listed-level}
+use Rattle.steps.specs.declared.Run.{Run}
+use Rattle.steps.specs.Running.{named, storeOf, Marking, numbersOf, plus, sumOf, counted, Grown, Leaving, Running, compactedCounts}
+use Rattle.steps.proofs.Standing.{inside-short, stand, top-fits, places-new, level-is, entries-are, in-part, countable, mergeables, marking}
 
 -- the clauses of compactIfNeeded, as laws
 pub needed-is : (g : Geometry) (t : Store) (j : ℕ) → needsCompact (g .b) (getD (t .levels) j []) ≡ true → compactIfNeeded g (suc j) t ≡ compactLevel g (suc j) t ∷ []
@@ -71,7 +74,7 @@ abbrev none : levels.Counts
 none = record { merges = 0; written = 0; compacted = 0 }
 
 -- c more for level 1, 2 or 3
-counted-is : (t : Tally) (level : ℕ) (c : Counts) → 1 ≤ level → level ≤ 3 → counted t level c ≡ record { one = anew level (sumOf (t .one) c) 1 (t .one); two = anew level (sumOf (t .two) c) 2 (t .two); three = anew level (sumOf (t .three) c) 3 (t .three) }
+counted-is : (t : Tally) (level : ℕ) (c : Counts) → 1 ≤ level → level ≤ 3 → counted t level c ≡ record { one = if eqb level 1 then sumOf (t .one) c else t .one; two = if eqb level 2 then sumOf (t .two) c else t .two; three = if eqb level 3 then sumOf (t .three) c else t .three }
 unfolding counted
 counted-is t zero c l h = absurd (omega arith)
 counted-is t (suc zero) c l h = refl
@@ -86,7 +89,7 @@ grown-counted f t u level c l h e q = rw (e ∙ counted-is t level c l h) (recor
     at a true = refl
     at a false = same-counts (numbersOf a) none refl refl refl
 
-    more : (i : ℕ) (a : Counts) → numbersOf (anew level (sumOf a c) i a) ≡ plus (numbersOf a) (f i)
+    more : (i : ℕ) (a : Counts) → numbersOf (if eqb level i then sumOf a c else a) ≡ plus (numbersOf a) (f i)
     more i a = at a (eqb level i) ∙ ap (plus (numbersOf a)) (sym (q i))
 
 -- the counts of one compaction
@@ -101,84 +104,140 @@ compacted-one c n level e b i =
     go true = ap (λ (x : ℕ). record { merges = 0; written = 0; compacted = x }) (add-zero n)
     go false = refl
 
--- a list that a change leaves
-pub listed-new : (g : Geometry) (t : Store) (j : ℕ) (l : Level) (list : List ℕ) (n : ℕ) → Every (BlockFits g) (getD (t .levels) j []) → getD (t .levels) j [] ≡ l → length list ≡ 4096 → n ≡ length l → take n list ≡ placesOf l → Listed t j list n
-listed-new g t j l list n f e a b c = record {
-  long = a;
-  count = b ∙ ap length (sym e);
-  places = c ∙ ap placesOf (sym e) ∙ places-are g (getD (t .levels) j []) f;
-}
+-- what step 5 for a level leaves alone: level 0, and every other level
+needed-keeps : (g : Geometry) (t : Store) (j : ℕ) → (afterCompactions t (compactIfNeeded g (suc j) t) .top ≡ t .top) × ((i : ℕ) → i ≢ j → getD (afterCompactions t (compactIfNeeded g (suc j) t) .levels) i [] ≡ getD (t .levels) i [])
+unfolding compactLevel
+needed-keeps g t j = go (needsCompact (g .b) (getD (t .levels) j [])) refl
+  where
+    Keeps : List Compaction → Type 0
+    Keeps cs = (afterCompactions t cs .top ≡ t .top) × ((i : ℕ) → i ≢ j → getD (afterCompactions t cs .levels) i [] ≡ getD (t .levels) i [])
 
-module _ (e t : Store) (g : Geometry) (ws : List ℕ) (used : List Bool) (list : List ℕ) (j n cursor : ℕ) (tally : Tally) (k : OneReady e t g ws used list j n cursor tally) where
-  fit : Every (BlockFits g) (allBlocks (t .levels))
-  fit = inside-fit g e t (k .inside)
+    go : (b : Bool) → needsCompact (g .b) (getD (t .levels) j []) ≡ b → Keeps (compactIfNeeded g (suc j) t)
+    go true e = subst Keeps (sym (needed-is g t j e)) (refl, λ i n. set-at [] (λ l. l ≡ getD (t .levels) i []) (t .levels) j _ i (λ z. absurd (n z)) refl)
+    go false e = subst Keeps (sym (not-needed g t j e)) (refl, λ i n. refl)
 
-  level-is : map (blockAt g ws) (take n list) ≡ getD (t .levels) j []
-  level-is = listed-level g ws t (k .valid) fit (k .held) j list n (k .listed)
+-- Step 5 for level j + 1, whose list is lent.
+module _ (g : Geometry) (ws lists : List ℕ) (r : Run) (k : Running 2000000000 g ws lists r) (j level x : ℕ) (el : level ≡ suc j) (high : level ≤ g .h) (ex : x ≡ g .h) where
+  abbrev t : Store
+  t = storeOf g ws lists r
 
-  few : n ≤ 2048
-  few = omega (arith, k .listed .count, inside-short g e t (k .valid) (k .inside) j)
+  low : j < g .h
+  low = omega arith
 
-  listed : (i : ℕ) → i < n → ListedBlock g ws used (getD list i 0)
-  listed = listed-block g ws t (k .valid) fit (k .held) used (k .marks) j list n (k .listed)
+  -- what `entries` asks
+  pub entries-ask : (level ≤ x) × ((x ≤ 3) × ((getD (r .ns) j 0 ≤ partRoom x level) × (length lists ≡ 4096)))
+  entries-ask = rw (ex, el) (low, (k .valid .ranged .h-high, (in-part g (k .entry) t ws lists r (k .valid) (k .inside) (k .stands) j low, k .stands .listed .long)))
 
-  -- what a compaction asks
-  pub one-in-use : InUse used
-  one-in-use = record { places = usedIn t; marks = k .marks }
+  -- what it lends
+  abbrev list : List ℕ
+  list = take (getD (r .ns) j 0) (partOf x lists level)
 
-  pub one-compactable : Compactable g ws used list list n cursor
-  one-compactable = record {
-    valid = k .valid;
-    words = k .held .long;
-    marks-long = k .marks-long;
-    out-long = k .listed .long;
-    list-long = k .listed .long;
-    cursor-low = omega (arith, k .cursor-is, k .inside .cursor);
-    few = few;
-    blocks = listed;
-    free = omega (arith, count-few (g .p) used (usedIn t) (k .marks), compact-room-numbers g j (length (usedIn t)) n (k .valid) (k .level) (inside-used g e t (k .inside)) (omega (arith, k .listed .count, k .inside .doubled j)));
-  }
+  list-is : list ≡ listOf (g .h) lists (r .ns) j
+  list-is = rw (ex, el)
 
-  -- a level that is compacted
-  module _ (ws' : List ℕ) (used' : List Bool) (list' : List ℕ) (m : Merged) (h : needsCompact (g .b) (map (blockAt g ws) (take n list)) ≡ true)
-      (left : Leaves g (settle (g .p) (allocationOf t) (waste.compact (g .b) (map (blockAt g ws) (take n list)))) ws ws' used' list' m) where
-    st : Settled
-    st = settle (g .p) (allocationOf t) (waste.compact (g .b) (getD (t .levels) j []))
+  -- what `needs_compacting` asks
+  pub due-asks : Countable g ws list
+  due-asks = rw list-is (countable g (k .entry) t ws lists r (k .valid) (k .inside) (k .stands) j low)
 
-    left-is : Leaves g st ws ws' used' list' m
-    unfolding st
-    left-is = rw level-is at left
+  blocks-are : map (blockAt g ws) list ≡ getD (t .levels) j []
+  blocks-are = ap (map (blockAt g ws)) list-is ∙ level-is g (k .entry) t ws lists r (k .valid) (k .inside) (k .stands) j low
+
+  -- a level that does not need compacting
+  pub kept-level : needsCompact (g .b) (map (blockAt g ws) list) ≡ false → (s : Store) → s ≡ t
+      → Leaving g (afterCompactions s (compactIfNeeded g level s)) (compactedBlocks (compactIfNeeded g level s)) (compactedCounts (compactIfNeeded g level s)) ws r ws lists r
+  unfolding writeBlocks
+  kept-level h s es =
+      rw (es, el, not-needed g t j (ap (needsCompact (g .b)) (sym blocks-are) ∙ h)) (record { stands = k .stands; area = refl; counts = grown-none (compactedCounts []) (r .tally) (λ i. (refl, refl, refl)) })
+
+  -- a level that needs it, with the marks of the places in use
+  module _ (h : needsCompact (g .b) (map (blockAt g ws) list) ≡ true) (used : List Bool) (ms : Marks used (named (listsOf x lists (r .ns))) × (length used ≡ 8192)) where
+    marks : Marking used t
+    marks = marking g (k .entry) t ws lists r (k .valid) (k .inside) (k .stands) used (rw ex at ms)
 
     needs : needsCompact (g .b) (getD (t .levels) j []) ≡ true
-    needs = rw level-is at h
+    needs = ap (needsCompact (g .b)) (sym blocks-are) ∙ h
 
     c : Compaction
     c = compactLevel g (suc j) t
 
-    facts : CompactionFacts g e c
+    facts : CompactionFacts g (k .entry) c
     unfolding c
-    facts = compact-facts g e t j (k .valid) (k .level) (k .inside) needs
+    facts = compact-facts g (k .entry) t j (k .valid) low (k .inside) needs
 
-    pub one-few : m .writes ≤ 8192
-    unfolding c st compactLevel
-    one-few = omega (arith, facts .room, left-is .writes, k .valid .places-high)
+    st : Settled
+    st = settle (g .p) (allocationOf t) (waste.compact (g .b) (getD (t .levels) j []))
 
-    pub one-left : (r : One) → (u : Tally) → u ≡ counted tally (j + 1) (record { merges = 0; written = 0; compacted = m .writes }) → r ≡ record { n = m .count; cursor = m .cursor; tally = u }
-        → OneLeft (afterCompactions t (compactIfNeeded g (suc j) t)) (compactedBlocks (compactIfNeeded g (suc j) t)) (compactedCounts (compactIfNeeded g (suc j) t)) g ws ws' list' j tally r
+    here : getD (c .finish .levels) j [] ≡ st .level
     unfolding c st compactLevel
-    one-left r u eu er =
-        let area : List ℕ = writeBlocks g (areaOf g ws) (st .written) in
-        let held : HoldsBut g ws' (c .finish) = rw (left-is .words) (but-area g ws area t (c .finish) (k .valid) (k .held) refl refl (laid-compaction g e c (areaOf g ws) facts (k .held .laid))) in
-        let here : getD (c .finish .levels) j [] ≡ st .level = getD-set-same (t .levels) j (st .level) [] (omega (arith, k .inside .many, k .level)) in
-        let fits = blocks-at (BlockFits g) (c .finish .levels) j (inside-fit g e (c .finish) (facts .finish-inside)) in
-        let one : j + 1 ≡ suc j = omega arith in
-        let w : blocksCompacted c ≡ m .writes = compaction-newly g e c facts ∙ sym (left-is .writes) in
-        rw (needed-is g t j needs, er, append-nil)
+    here = getD-set-same (t .levels) j (st .level) [] (omega (arith, k .inside .many, low))
+
+    new : (placesOf (st .level) ≡ placesAt (c .finish) j) × (length (st .level) ≡ length (placesAt (c .finish) j))
+    new = places-new g (k .entry) (c .finish) (facts .finish-inside) j (st .level) here
+
+    fits : length (st .level) ≤ partRoom (g .h) (suc j)
+    fits = part-fits g (k .valid) (suc j) (length (st .level)) low (omega (arith, facts .finish-inside .doubled j, ap length here)) .0
+
+    -- what `compact` asks
+    pub list-asks : Compactable g ws used list (r .cursor)
+    list-asks =
+        let s = k .stands in
+        let e = entries-are g (k .entry) t ws lists r (k .valid) (k .inside) s j low in
+        rw list-is
         (record {
-          held = held;
-          listed = listed-new g (c .finish) j (st .level) list' (m .count) fits here (left-is .list-long) (left-is .count) (left-is .list);
-          cursor = left-is .cursor;
-          area = ap (areaOf g) (left-is .words) ∙ base-drop g ws (k .held .long) area;
-          counts = grown-counted (compactedCounts (c ∷ [])) tally u (suc j) (record { merges = 0; written = 0; compacted = m .writes }) (omega arith) (omega (arith, k .level, k .valid .ranged .h-high)) (rw one at eu)
-              (compacted-one c (m .writes) (suc j) refl w);
+          valid = k .valid;
+          words = s .held .long;
+          marks-long = marks .1;
+          cursor-low = omega (arith, s .cursor, k .inside .cursor);
+          few = omega (arith, e, inside-short g (k .entry) t (k .valid) (k .inside) j);
+          blocks = mergeables g (k .entry) t ws lists r (k .valid) (k .inside) s j low used (marks .0);
+          free = omega (arith, e, count-few (g .p) used (usedIn t) (marks .0), compact-room-numbers g j (length (usedIn t)) (getD (r .ns) j 0) (k .valid) low (inside-used g (k .entry) t (k .inside)) (omega (arith, e, k .inside .doubled j)));
         })
+
+    -- what it leaves
+    module _ (ws' : List ℕ) (used' : List Bool) (out : List ℕ) (m : Merged)
+        (left : (a : Allocation) → a .cursor ≡ r .cursor → Marks used (a .used) → Leaves g (settle (g .p) a (waste.compact (g .b) (map (blockAt g ws) list))) ws ws' used' out m) where
+      left-is : Leaves g st ws ws' used' out m
+      unfolding st
+      left-is = rw blocks-are at (left (allocationOf t) (sym (k .stands .cursor)) (marks .0))
+
+      pub out-long : 4096 ≡ length out
+      out-long = sym (left-is .list-long)
+
+      pub list-few : m .writes ≤ 8192
+      unfolding c st compactLevel
+      list-few = omega (arith, facts .room, left-is .writes, k .valid .places-high)
+
+      -- the new list, put in its place
+      module _ (at : ℕ) (ea : at ≡ partStart x level) where
+        at-is : at ≡ partStart (g .h) (suc j)
+        at-is = ea ∙ rw (ex, el)
+
+        pub copy-asks : (0 + m .count ≤ length out) × (at + m .count ≤ length lists)
+        copy-asks = (omega (arith, left-is .count-high, left-is .list-long), omega (arith, at-is, left-is .count, fits, k .stands .listed .long, part-inside (g .h) (suc j)))
+
+        relisted : Listed (g .h) (g .h) (putAt at (take (m .count) (drop 0 out)) lists) (set (r .ns) j (m .count)) (placesAt (c .finish))
+        unfolding c st
+        relisted =
+            let q : length (placesOf (st .level)) ≡ m .count = ap length (new .0) ∙ sym (new .1) ∙ sym (left-is .count) in
+            rw (at-is, left-is .list, ← q)
+            (listed-put (g .h) (g .h) (g .h) j lists (r .ns) (placesOf (st .level)) (placesAt t) (placesAt (c .finish)) (k .stands .listed) low (omega arith) (omega arith) (k .valid .ranged .h-high) (λ i a b. a)
+            (omega (arith, q, left-is .count, fits)) (sym (new .0)) (λ i a. ap (map placeOf) (other i a)))
+          where
+            other : (i : ℕ) → i ≢ j → getD (c .finish .levels) i [] ≡ getD (t .levels) i []
+            other = rw (needed-is g t j needs) at (needed-keeps g t j .1)
+
+        pub compacted : (lists' : List ℕ) (u : Run) (tally : Tally) → lists' ≡ putAt at (take (m .count) (drop 0 out)) lists → tally ≡ counted (r .tally) (j + 1) (record { merges = 0; written = 0; compacted = m .writes })
+            → u ≡ record { ns = set (r .ns) j (m .count); cursor = m .cursor; tally = tally } → (s : Store) → s ≡ t
+            → Leaving g (afterCompactions s (compactIfNeeded g level s)) (compactedBlocks (compactIfNeeded g level s)) (compactedCounts (compactIfNeeded g level s)) ws r ws' lists' u
+        unfolding c st compactLevel
+        compacted lists' u tally ep et eu s es =
+            let area : List ℕ = writeBlocks g (areaOf g ws) (st .written) in
+            let held : HoldsBut g ws' (c .finish) = rw (left-is .words) (but-area g ws area t (c .finish) (k .valid) (k .stands .held) refl refl (laid-compaction g (k .entry) c (areaOf g ws) facts (k .stands .held .laid))) in
+            let w : blocksCompacted c ≡ m .writes = compaction-newly g (k .entry) c facts ∙ sym (left-is .writes) in
+            rw (es, el, needed-is g t j needs, eu, append-nil, ep)
+            (record {
+              stands = stand g (k .entry) (c .finish) ws' _ _ (k .valid) (facts .finish-inside) held (top-fits g (k .entry) t ws lists r (k .valid) (k .inside) (k .stands)) relisted (left-is .cursor);
+              area = ap (areaOf g) (left-is .words) ∙ base-drop g ws (k .stands .held .long) area;
+              counts = grown-counted (compactedCounts (c ∷ [])) (r .tally) tally (suc j) (record { merges = 0; written = 0; compacted = m .writes }) (omega arith) (omega (arith, low, k .valid .ranged .h-high))
+                  (et ∙ ap (λ (i : ℕ). counted (r .tally) i (record { merges = 0; written = 0; compacted = m .writes })) (add-one j)) (compacted-one c (m .writes) (suc j) refl w);
+            })

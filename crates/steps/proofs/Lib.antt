@@ -1,9 +1,6 @@
 pub mod Marking
 pub mod Standing
 pub mod Compacting
-pub mod Relisting
-pub mod Stepping
 pub mod Merging
 pub mod Paging
-pub mod Leveling
 pub mod Chaining

@@ -2,17 +2,20 @@
 use Prim.Native.Nat.{ℕ, suc, _+_, _*_, _≤_, _<_}
 use mathlib.Core.Path.{_≡_, refl, sym, ap, _∙_, subst}
 use mathlib.Core.Bool.{Bool, true, false}
-use mathlib.Core.List.{List, []}
+use mathlib.Core.List.{List, [], map}
+use mathlib.Core.Logic.{_≢_}
+use native.Mathlib.Decide.{ℕ-discrete}
 use native.Mathlib.Omega.{arith}
 use lib.Dec.{eqb}
 use lib.ListN.{length, getD, set, length-set}
-use lib.Seq.{getD-set-same}
+use lib.Seq.{getD-set-same, getD-set-other}
 use Rattle.geometry.specs.declared.Geometry.{Geometry}
 use Rattle.geometry.specs.Geometry.{Valid, windowOf}
 use Rattle.geometry.proofs.Laws.{level-high}
 use Rattle.levels.specs.Basics.{if_then_else_}
-use Rattle.levels.specs.Record.{Level, records, rising}
+use Rattle.levels.specs.Record.{Level}
 use Rattle.levels.specs.Choose.{choose}
+use Rattle.levels.specs.Choose as choosing
 use Rattle.levels.specs.Place.{Allocation, Settled}
 use Rattle.levels.specs.Store.{Store, blocksOf, usedIn, allocationOf}
 use Rattle.levels.specs.Call.{Merge, mergeCut, mergeRun, mergeLevel}
@@ -21,31 +24,35 @@ use Rattle.levels.specs.Count as levels
 use Rattle.levels.specs.declared.Ticket.{Ticket}
 use Rattle.levels.specs.Tickets.{ticketOf}
 use Rattle.levels.specs.InCall.{Due, MergeFacts}
-use Rattle.levels.specs.Every.{Every, allBlocks}
-use Rattle.levels.specs.Sound.{BlockFits}
 use Rattle.levels.specs.Inside.{Inside}
 use Rattle.levels.proofs.Capacity.{window-half, window-capacity-half}
+use Rattle.levels.proofs.Chosen.{due-double}
 use Rattle.levels.proofs.Levels.{rising-ordered, sized-filled}
 use Rattle.levels.proofs.Overlap.{window-fits, choose-window}
-use Rattle.levels.proofs.Rising.{rising-test}
 use Rattle.levels.proofs.Room.{merge-room-numbers}
-use Rattle.levels.proofs.Entry.{inside-fit, blocks-at}
+use Rattle.levels.proofs.Settling.{settle-length}
 use Rattle.levels.proofs.StoreRows.{set-at}
 use Rattle.levels.proofs.Inside.{inside-used}
 use Rattle.levels.proofs.MergeBounds.{overlap-is, merge-written}
-use Rattle.words.specs.Layout.{areaOf, writeBlocks}
-use Rattle.words.proofs.Steps.{laid-merge}
-use Rattle.lists.proofs.Laws.{but-area}
-use Rattle.pair.specs.declared.Step.{Step}
-use Rattle.pair.specs.Contract.{levelOf, cutOf, upperAfter, lowerAfter, Stored, PairReady, PairLeaves}
-use Rattle.pair.proofs.Kept.{base-drop}
-use Rattle.steps.specs.declared.Counts.{Counts}
-use Rattle.steps.specs.declared.Tally.{Tally}
-use Rattle.steps.specs.declared.Two.{Two}
-use Rattle.steps.specs.Running.{Listed, counted, Grown, mergedCounts, TwoReady, TwoLeft}
-use Rattle.steps.proofs.Standing.{inside-short, listed-block, listed-level}
-use Rattle.steps.proofs.Compacting.{grown-counted, listed-new}
 use Rattle.levels.proofs.InCall.{merge-level}
+use Rattle.words.specs.Layout.{placeOf, areaOf, writeBlocks}
+use Rattle.words.proofs.Steps.{laid-merge}
+use Rattle.lists.specs.Flat.{partRoom}
+use Rattle.lists.specs.Lists.{Listed, placesAt}
+use Rattle.lists.specs.Holds.{HoldsBut}
+use Rattle.lists.proofs.Flat.{part-fits}
+use Rattle.lists.proofs.Arrays.{At, at-new, at-other, at-kept}
+use Rattle.lists.proofs.Laws.{but-area}
+use Rattle.blocks.specs.Blocks.{Marks}
+use Rattle.pair.specs.declared.Step.{Step}
+use Rattle.pair.specs.Contract.{listed, cutOf, upperAfter, lowerAfter, PairReady, PairLeaves, PairMerged}
+use Rattle.pair.proofs.Kept.{base-drop}
+use Rattle.steps.specs.declared.Tally.{Tally}
+use Rattle.steps.specs.declared.Run.{Run}
+use Rattle.steps.specs.declared.Ticketed.{Ticketed}
+use Rattle.steps.specs.Running.{storeOf, Marking, counted, Grown, Leaving, mergedCounts, StepReady, LevelMerged}
+use Rattle.steps.proofs.Standing.{inside-short, places-new, stand, top-fits, level-is, entries-are, stored}
+use Rattle.steps.proofs.Compacting.{grown-counted}
 
 -- Of a merge out of level i of the store t that is due: what the choice and its numbers say.
 module _ (g : Geometry) (e t : Store) (i : ℕ) (v : Valid g) (f : MergeFacts g e (mergeLevel g i t)) where
@@ -81,6 +88,10 @@ module _ (g : Geometry) (e t : Store) (i : ℕ) (v : Valid g) (f : MergeFacts g 
   pub due-room : length (blocksOf g (suc i) t) + 2 * (windowOf g i + choose (windowOf g i) (blocksOf g i t) (blocksOf g (suc i) t) .value) + 2 ≤ 4096
   due-room =
       omega (arith, start-due .roomy, due-overlap, window-half g (v .ranged) i, window-capacity-half g (v .ranged) (suc i), level-high g v {i = suc i} level-low)
+
+  pub due-fits : (al : Allocation) → length (lowerAfter g i al (cutOf g i (blocksOf g i t) (blocksOf g (suc i) t)) .level) ≤ partRoom (g .h) (suc i)
+  unfolding lowerAfter
+  due-fits al = rw settle-length (part-fits g v (suc i) _ level-low (due-double g i (blocksOf g i t) (blocksOf g (suc i) t) (v .ranged) start-due (eqb (suc i) (g .h))) .0)
 
   -- no count of blocks is high
   pub merged-few : length (mergeLevel g i t .written) ≤ 8192
@@ -118,108 +129,144 @@ module _ (g : Geometry) (e t : Store) (i : ℕ) (v : Valid g) (f : MergeFacts g 
       of : ℕ → ℕ → ℕ → ℕ → Ticket
       of l first overlap n = record { level = l; first = first; overlap = overlap; written = n }
 
--- the merge of listed levels, as the contract of `merge_pair` has it
-PairOf : Geometry → Allocation → List ℕ → List ℕ → List Bool → List ℕ → List ℕ → Step → ℕ → Level → Level → Type 0
-PairOf g al ws ws' used' upper' lower' r i x y =
-    PairLeaves g (upperAfter g i al (cutOf g i x y)) (lowerAfter g i (upperAfter g i al (cutOf g i x y) .allocation) (cutOf g i x y)) (choose (windowOf g i) x y) ws ws' used' upper' lower' r
+-- what a merge out of level j + 1 leaves alone: the levels other than that and the next, and level 0
+merge-keeps : (g : Geometry) (t : Store) (j x : ℕ) → x ≢ j → x ≢ suc j → getD (mergeLevel g (suc j) t .finish .levels) x [] ≡ getD (t .levels) x []
+unfolding mergeLevel mergeRun mergeCut
+merge-keeps g t j x a b =
+    set-at [] (λ l. l ≡ getD (t .levels) x []) (set (t .levels) j _) (suc j) _ x (λ z. absurd (b z))
+    (set-at [] (λ l. l ≡ getD (t .levels) x []) (t .levels) j _ x (λ z. absurd (a z)) refl)
 
-module _ (e t : Store) (j : ℕ) (g : Geometry) (ws : List ℕ) (used : List Bool) (upper lower : List ℕ) (level a n cursor : ℕ) (tally : Tally) (k : TwoReady e t j g ws used upper lower level a n cursor tally) where
-  inside : Inside g e t
-  inside = start-inside g e t (suc j) (k .valid) (k .facts)
+-- A merge from level j + 1 to level j + 2.
+module _ (g : Geometry) (ws lists : List ℕ) (level : ℕ) (r : Run) (k : StepReady 2000000000 g ws lists level r) (used : List Bool) (m : Marking used (storeOf g ws lists r)) (j : ℕ) (el : level ≡ suc j) where
+  abbrev t : Store
+  t = storeOf g ws lists r
 
-  fit : Every (BlockFits g) (allBlocks (t .levels))
-  fit = inside-fit g e t inside
+  facts : MergeFacts g (k .entry) (mergeLevel g (suc j) t)
+  facts = subst (λ (i : ℕ). MergeFacts g (k .entry) (mergeLevel g i t)) el (k .facts)
 
-  above-is : levelOf g ws upper a ≡ getD (t .levels) j []
-  above-is = listed-level g ws t (k .valid) fit (k .held) j upper a (k .above)
+  inside : Inside g (k .entry) t
+  inside = start-inside g (k .entry) t (suc j) (k .valid) facts
 
-  under-is : levelOf g ws lower n ≡ getD (t .levels) (suc j) []
-  under-is = listed-level g ws t (k .valid) fit (k .held) (suc j) lower n (k .under)
+  low : suc j < g .h
+  low = level-low g (k .entry) t (suc j) (k .valid) facts
 
-  stored : (i : ℕ) (list : List ℕ) (m : ℕ) → Listed t i list m → levelOf g ws list m ≡ getD (t .levels) i [] → rising 0 (records (getD (t .levels) i [])) ≡ true → Stored g ws used list m
-  stored i list m l q r = record {
-    long = l .long;
-    high = omega (arith, l .count, inside-short g e t (k .valid) inside i);
-    blocks = listed-block g ws t (k .valid) fit (k .held) used (k .marks) i list m l;
-    rises = ap (λ (x : Level). rising 0 (records x)) q ∙ r;
-  }
+  abbrev a : ℕ
+  a = getD (r .ns) j 0
+
+  above-is : listed g ws lists (suc j) a ≡ getD (t .levels) j []
+  above-is = level-is g (k .entry) t ws lists r (k .valid) inside (k .stands) j (omega (arith, low))
+
+  under-is : listed g ws lists (suc (suc j)) (getD (r .ns) (suc j) 0) ≡ getD (t .levels) (suc j) []
+  under-is = level-is g (k .entry) t ws lists r (k .valid) inside (k .stands) (suc j) low
+
+  abbrev cut : choosing.Cut
+  cut = cutOf g (suc j) (getD (t .levels) j []) (getD (t .levels) (suc j) [])
+
+  -- the two levels afterwards
+  abbrev us : Settled
+  us = upperAfter g (suc j) (allocationOf t) cut
+
+  abbrev ls : Settled
+  ls = lowerAfter g (suc j) (us .allocation) cut
+
+  abbrev z : Store
+  z = mergeLevel g (suc j) t .finish
+
+  upper-is : getD (z .levels) j [] ≡ us .level
+  unfolding upperAfter lowerAfter mergeLevel mergeRun mergeCut
+  upper-is = set-at [] (λ l. l ≡ us .level) (set (t .levels) j (us .level)) (suc j) (ls .level) j (λ q. absurd (omega (arith, q))) (getD-set-same (t .levels) j (us .level) [] (omega (arith, inside .many, low)))
+
+  lower-is : getD (z .levels) (suc j) [] ≡ ls .level
+  unfolding upperAfter lowerAfter mergeLevel mergeRun mergeCut
+  lower-is = getD-set-same (set (t .levels) j (us .level)) (suc j) (ls .level) [] (omega (arith, inside .many, length-set (t .levels) j (us .level), low))
 
   -- what `merge_pair` asks
-  pub two-ready : PairReady g ws used upper lower level a n cursor
-  two-ready =
+  ready : PairReady g ws used lists (suc j) a (getD (r .ns) (suc j) 0) (r .cursor)
+  ready =
       let v = k .valid in
-      let d = start-due g e t (suc j) v (k .facts) in
-      let w = ap (windowOf g) (k .level-is) in
+      let e = entries-are g (k .entry) t ws lists r v inside (k .stands) in
+      let d = start-due g (k .entry) t (suc j) v facts in
       record {
         valid = v;
-        words = k .held .long;
-        marks-long = k .marks-long;
-        cursor-low = omega (arith, k .cursor-is, inside .cursor);
-        level-low = omega (arith, k .level-is);
-        level-high = omega (arith, k .level-is, level-low g e t (suc j) v (k .facts));
-        window = omega (arith, w, k .above .count, due-window g e t (suc j) v (k .facts));
-        above = stored j upper a (k .above) above-is (rising-test 0 (records (getD (t .levels) j [])) (d .above-sorted));
-        under = stored (suc j) lower n (k .under) under-is (rising-test 0 (records (getD (t .levels) (suc j) [])) (d .under-sorted));
-        in-use = record { places = usedIn t; marks = k .marks };
-        free = subst (λ (i : ℕ). length (usedIn t) + (windowOf g i + choose (windowOf g i) (levelOf g ws upper a) (levelOf g ws lower n) .value) + 2 ≤ g .p) (sym (k .level-is))
-            (subst (λ (x : Level). length (usedIn t) + (windowOf g (suc j) + choose (windowOf g (suc j)) x (levelOf g ws lower n) .value) + 2 ≤ g .p) (sym above-is)
-            (subst (λ (x : Level). length (usedIn t) + (windowOf g (suc j) + choose (windowOf g (suc j)) (getD (t .levels) j []) x .value) + 2 ≤ g .p) (sym under-is) (due-free g e t (suc j) v (k .facts))));
-        room = subst (λ (i : ℕ). n + 2 * (windowOf g i + choose (windowOf g i) (levelOf g ws upper a) (levelOf g ws lower n) .value) + 2 ≤ 4096) (sym (k .level-is))
-            (subst (λ (x : Level). n + 2 * (windowOf g (suc j) + choose (windowOf g (suc j)) x (levelOf g ws lower n) .value) + 2 ≤ 4096) (sym above-is)
-            (subst (λ (x : Level). n + 2 * (windowOf g (suc j) + choose (windowOf g (suc j)) (getD (t .levels) j []) x .value) + 2 ≤ 4096) (sym under-is) (rw (k .under .count) (due-room g e t (suc j) v (k .facts)))));
+        words = k .stands .held .long;
+        marks-long = m .1;
+        lists-long = k .stands .listed .long;
+        cursor-low = omega (arith, k .stands .cursor, inside .cursor);
+        level-low = omega arith;
+        level-high = low;
+        window = omega (arith, e j (omega (arith, low)), due-window g (k .entry) t (suc j) v facts);
+        above = stored g (k .entry) t ws lists r v inside (k .stands) j (omega (arith, low)) used (m .0) (d .above-sorted);
+        under = stored g (k .entry) t ws lists r v inside (k .stands) (suc j) low used (m .0) (d .under-sorted);
+        in-use = record { places = usedIn t; marks = m .0 };
+        free = rw (above-is, under-is) (due-free g (k .entry) t (suc j) v facts);
+        room = rw (above-is, under-is, e (suc j) low .1) (due-room g (k .entry) t (suc j) v facts);
+        fits = rw (above-is, under-is) (due-fits g (k .entry) t (suc j) v facts);
       }
 
-  module _ (ws' : List ℕ) (used' : List Bool) (upper' lower' : List ℕ) (r : Step)
-      (left : PairLeaves g (upperAfter g level (allocationOf t) (cutOf g level (levelOf g ws upper a) (levelOf g ws lower n)))
-      (lowerAfter g level (upperAfter g level (allocationOf t) (cutOf g level (levelOf g ws upper a) (levelOf g ws lower n)) .allocation) (cutOf g level (levelOf g ws upper a) (levelOf g ws lower n)))
-      (choose (windowOf g level) (levelOf g ws upper a) (levelOf g ws lower n)) ws ws' used' upper' lower' r) where
-    left-is : PairOf g (allocationOf t) ws ws' used' upper' lower' r (suc j) (getD (t .levels) j []) (getD (t .levels) (suc j) [])
-    unfolding PairOf
-    left-is =
-        subst (λ (x : Level). PairOf g (allocationOf t) ws ws' used' upper' lower' r (suc j) (getD (t .levels) j []) x) under-is
-        (subst (λ (x : Level). PairOf g (allocationOf t) ws ws' used' upper' lower' r (suc j) x (levelOf g ws lower n)) above-is
-        (subst (λ (i : ℕ). PairOf g (allocationOf t) ws ws' used' upper' lower' r i (levelOf g ws upper a) (levelOf g ws lower n)) (k .level-is) left))
+  pub two-ready : PairReady g ws used lists level (getD (r .ns) j 0) (getD (r .ns) level 0) (r .cursor)
+  two-ready = subst (λ (i : ℕ). PairReady g ws used lists i a (getD (r .ns) i 0) (r .cursor)) (sym el) ready
 
-    writes-is : r .writes ≡ length (mergeLevel g (suc j) t .written)
-    unfolding left-is PairOf upperAfter lowerAfter mergeLevel mergeRun mergeCut
+  module _ (ws' : List ℕ) (used' : List Bool) (lists' : List ℕ) (p : Step)
+      (left : (al : Allocation) → al .cursor ≡ r .cursor → Marks used (al .used) → PairMerged g level (listed g ws lists level (getD (r .ns) j 0)) (listed g ws lists (suc level) (getD (r .ns) level 0)) al ws ws' used' lists lists' p) where
+    left-is : PairLeaves g (suc j) us ls (choose (windowOf g (suc j)) (getD (t .levels) j []) (getD (t .levels) (suc j) [])) ws ws' used' lists lists' p
+    left-is =
+        let al = allocationOf t in
+        subst (λ (x : Level). PairMerged g (suc j) (getD (t .levels) j []) x al ws ws' used' lists lists' p) under-is
+        (subst (λ (x : Level). PairMerged g (suc j) x (listed g ws lists (suc (suc j)) (getD (r .ns) (suc j) 0)) al ws ws' used' lists lists' p) above-is
+        (subst (λ (i : ℕ). PairMerged g i (listed g ws lists i a) (listed g ws lists (suc i) (getD (r .ns) i 0)) al ws ws' used' lists lists' p) el (left al (sym (k .stands .cursor)) (m .0))))
+
+    writes-is : p .writes ≡ length (mergeLevel g (suc j) t .written)
+    unfolding upperAfter lowerAfter mergeLevel mergeRun mergeCut
     writes-is = left-is .writes
 
-    pub two-few : r .writes ≤ 8192
-    two-few = omega (arith, writes-is, merged-few g e t (suc j) (k .valid) (k .facts))
+    pub two-few : p .writes ≤ 8192
+    two-few = omega (arith, writes-is, merged-few g (k .entry) t (suc j) (k .valid) facts)
 
-    chosen-is : (r .first ≡ choose (windowOf g (suc j)) (getD (t .levels) j []) (getD (t .levels) (suc j) []) .at) × (r .overlap ≡ choose (windowOf g (suc j)) (getD (t .levels) j []) (getD (t .levels) (suc j) []) .value)
-    unfolding left-is PairOf
-    chosen-is = (left-is .below .first, left-is .below .overlap)
-
-    -- what `ticket` asks, and what it gives
-    pub two-words : (level ≤ 8192) × ((r .first ≤ 8192) × ((r .overlap ≤ 8192) × (r .writes ≤ 8192)))
+    -- what `ticket` asks
+    pub two-words : (level ≤ 8192) × ((p .first ≤ 8192) × ((p .overlap ≤ 8192) × (p .writes ≤ 8192)))
     two-words =
         let v = k .valid in
-        let w = merged-words g e t (suc j) v (k .facts) (r .first) (r .overlap) (chosen-is .0) (chosen-is .1) (omega (arith, inside-short g e t v inside j)) in
-        (omega (arith, k .level-is, level-low g e t (suc j) v (k .facts), v .ranged .h-high), (w .0, (w .1, two-few)))
+        let w = merged-words g (k .entry) t (suc j) v facts (p .first) (p .overlap) (left-is .below .first) (left-is .below .overlap) (omega (arith, inside-short g (k .entry) t v inside j)) in
+        (omega (arith, el, low, v .ranged .h-high), (w .0, (w .1, two-few)))
 
-    pub two-ticket : (x : Ticket) → x ≡ record { level = level; first = r .first; overlap = r .overlap; written = r .writes } → x ≡ ticketOf g (mergeLevel g (suc j) t)
-    two-ticket x = merged-ticket g e t (suc j) (k .valid) (k .facts) level (r .first) (r .overlap) (r .writes) x (k .level-is) (chosen-is .0) (chosen-is .1) writes-is
+    -- the lists
+    relisted : Listed (g .h) (g .h) lists' (set (set (r .ns) j (p .above)) (suc j) (p .under)) (placesAt z)
+    relisted =
+        record {
+          long = left-is .below .lists-long;
+          three = length-set (set (r .ns) j (p .above)) (suc j) (p .under) ∙ one-long;
+          counts = λ i l. at i l (ℕ-discrete i j) (ℕ-discrete i (suc j)) .0;
+          places = λ i l. at i l (ℕ-discrete i j) (ℕ-discrete i (suc j)) .1;
+          none = λ i l. getD-set-other (set (r .ns) j (p .above)) (suc j) i (p .under) 0 (λ e. omega (arith, e, low)) ∙ getD-set-other (r .ns) j i (p .above) 0 (λ e. omega (arith, e, low)) ∙ k .stands .listed .none i l;
+        }
+      where
+        one-long : length (set (r .ns) j (p .above)) ≡ 3
+        one-long = length-set (r .ns) j (p .above) ∙ k .stands .listed .three
 
-    pub two-left : (u : Two) (more : Tally) (x : Ticket) → more ≡ counted tally (level + 1) (record { merges = 1; written = r .writes; compacted = 0 }) → u ≡ record { a = r .above; n = r .under; cursor = r .cursor; tally = more; ticket = x }
-        → TwoLeft (mergeLevel g (suc j) t .finish) (mergeLevel g (suc j) t .written) (mergedCounts (mergeLevel g (suc j) t)) j g ws ws' upper' lower' tally u
-    unfolding PairOf upperAfter lowerAfter mergeLevel mergeRun mergeCut
-    two-left u more x em eu =
+        upper : At (g .h) lists' (set (r .ns) j (p .above)) (placesAt z) j
+        upper = let q = places-new g (k .entry) z (facts .finish-inside) j (us .level) upper-is in at-new (g .h) lists' (r .ns) (placesAt z) j (p .above) (omega (arith, k .stands .listed .three, low, k .valid .ranged .h-high)) (left-is .above ∙ q .1) (left-is .upper ∙ q .0)
+
+        at : (i : ℕ) → i < g .h → Dec (i ≡ j) → Dec (i ≡ suc j) → At (g .h) lists' (set (set (r .ns) j (p .above)) (suc j) (p .under)) (placesAt z) i
+        at i l (yes e) d = rw e (at-other (g .h) lists' (set (r .ns) j (p .above)) (placesAt z) (suc j) (p .under) j (λ q. omega (arith, q)) upper)
+        at i l (no x) (yes e) =
+            let q = places-new g (k .entry) z (facts .finish-inside) (suc j) (ls .level) lower-is in
+            rw e (at-new (g .h) lists' (set (r .ns) j (p .above)) (placesAt z) (suc j) (p .under) (omega (arith, one-long, low, k .valid .ranged .h-high)) (left-is .below .under ∙ q .1) (left-is .below .lower ∙ q .0))
+        at i l (no x) (no y) =
+            at-other (g .h) lists' (set (r .ns) j (p .above)) (placesAt z) (suc j) (p .under) i y
+            (at-other (g .h) lists' (r .ns) (placesAt z) j (p .above) i x
+            (at-kept (g .h) lists lists' (r .ns) (placesAt t) (placesAt z) i (left-is .kept (suc i) (omega arith) l (λ e. x (omega arith)) (λ e. y (omega arith))) (ap (map placeOf) (merge-keeps g t j i x y))
+            (k .stands .listed .counts i l, k .stands .listed .places i l)))
+
+    pub two-merged : (u : Ticketed) (more : Tally) (ns : List ℕ) (x : Ticket) → more ≡ counted (r .tally) (level + 1) (record { merges = 1; written = p .writes; compacted = 0 }) → ns ≡ set (set (r .ns) j (p .above)) level (p .under)
+        → x ≡ record { level = level; first = p .first; overlap = p .overlap; written = p .writes } → u ≡ record { run = record { ns = ns; cursor = p .cursor; tally = more }; ticket = x } → LevelMerged g level ws lists r ws' lists' u
+    unfolding upperAfter lowerAfter mergeLevel mergeRun mergeCut
+    two-merged u more ns x em en ex eu s es =
         let v = k .valid in
-        let z : Store = mergeLevel g (suc j) t .finish in
         let area : List ℕ = writeBlocks g (areaOf g ws) (mergeLevel g (suc j) t .written) in
-        let us : Settled = upperAfter g (suc j) (allocationOf t) (cutOf g (suc j) (getD (t .levels) j []) (getD (t .levels) (suc j) [])) in
-        let ls : Settled = lowerAfter g (suc j) (us .allocation) (cutOf g (suc j) (getD (t .levels) j []) (getD (t .levels) (suc j) [])) in
-        let low = level-low g e t (suc j) v (k .facts) in
-        let f = inside-fit g e z (k .facts .finish-inside) in
-        let ha : getD (z .levels) j [] ≡ us .level = set-at [] (λ l. l ≡ us .level) (set (t .levels) j (us .level)) (suc j) (ls .level) j (λ q. absurd (omega (arith, q))) (getD-set-same (t .levels) j (us .level) [] (omega (arith, inside .many))) in
-        let hu : getD (z .levels) (suc j) [] ≡ ls .level = getD-set-same (set (t .levels) j (us .level)) (suc j) (ls .level) [] (omega (arith, inside .many, length-set (t .levels) j (us .level))) in
-        rw eu
-        (record {
-          held = rw (left-is .words) (but-area g ws area t z v (k .held) refl refl (laid-merge g e (mergeLevel g (suc j) t) (areaOf g ws) (k .facts) (k .held .laid)));
-          above = listed-new g z j (us .level) upper' (r .above) (blocks-at (BlockFits g) (z .levels) j f) ha (left-is .upper-long) (left-is .above) (left-is .upper);
-          under = listed-new g z (suc j) (ls .level) lower' (r .under) (blocks-at (BlockFits g) (z .levels) (suc j) f) hu (left-is .below .lower-long) (left-is .below .under) (left-is .below .lower);
-          cursor = left-is .below .cursor;
-          area = ap (areaOf g) (left-is .words) ∙ base-drop g ws (k .held .long) area;
-          counts = merged-grown g e t (suc j) v (k .facts) tally more (level + 1) (r .writes) (omega (arith, k .level-is)) writes-is em;
-        })
+        let held : HoldsBut g ws' z = rw (left-is .words) (but-area g ws area t z v (k .stands .held) refl refl (laid-merge g (k .entry) (mergeLevel g (suc j) t) (areaOf g ws) facts (k .stands .held .laid))) in
+        let q : Leaving g z (mergeLevel g (suc j) t .written) (mergedCounts (mergeLevel g (suc j) t)) ws r ws' lists' (record { ns = set (set (r .ns) j (p .above)) (suc j) (p .under); cursor = p .cursor; tally = more }) = record {
+          stands = stand g (k .entry) z ws' lists' _ v (facts .finish-inside) held (top-fits g (k .entry) t ws lists r v inside (k .stands)) relisted (left-is .below .cursor);
+          area = ap (areaOf g) (left-is .words) ∙ base-drop g ws (k .stands .held .long) area;
+          counts = merged-grown g (k .entry) t (suc j) v facts (r .tally) more (level + 1) (p .writes) (omega (arith, el)) writes-is em;
+        } in
+        rw (es, eu, en, el) (q, merged-ticket g (k .entry) t (suc j) v facts level (p .first) (p .overlap) (p .writes) x el (left-is .below .first) (left-is .below .overlap) writes-is ex)

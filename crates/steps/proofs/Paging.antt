@@ -2,7 +2,8 @@
 use Prim.Native.Nat.{ℕ, _+_, _*_, _^_, _≤_, _<_}
 use mathlib.Core.Path.{_≡_, refl, sym, ap, _∙_, subst}
 use mathlib.Core.Bool.{Bool, true}
-use mathlib.Core.List.{List, [], _∷_, _++_}
+use mathlib.Core.List.{List, [], _∷_, _++_, map}
+use mathlib.Core.Logic.{_≢_}
 use native.Mathlib.Nat.{add-zero, mul-le-mul-right}
 use native.Mathlib.Omega.{arith}
 use lib.Dec.{ltb}
@@ -13,22 +14,23 @@ use Rattle.geometry.specs.declared.Geometry.{Geometry}
 use Rattle.geometry.specs.Geometry.{Valid, capacityOf, topCapacityOf, windowOf, marksStart, listStart, placesStart}
 use Rattle.geometry.proofs.Laws.{store-length-low, level-high}
 use Rattle.levels.specs.Basics.{all, each}
-use Rattle.levels.specs.Record.{Rec, Level, records, rising, pages}
+use Rattle.levels.specs.Record.{Rec, rising, pages}
 use Rattle.levels.specs.Choose.{choose, cutAt}
-use Rattle.levels.specs.Place.{Settled}
+use Rattle.levels.specs.Choose as choosing
+use Rattle.levels.specs.Place.{Allocation, Settled}
 use Rattle.levels.specs.Store.{Store, rows, blocksOf, usedIn, allocationOf}
 use Rattle.levels.specs.Count.{aboveOf, underOf}
 use Rattle.levels.specs.Call.{mergeCut, mergeRun, mergeLevel}
 use Rattle.levels.specs.declared.Ticket.{Ticket}
-use Rattle.levels.specs.Tickets.{ticketOf}
 use Rattle.levels.specs.Every.{Every, allBlocks}
 use Rattle.levels.specs.Sound.{BlockFits}
 use Rattle.levels.specs.Inside.{Inside}
 use Rattle.levels.proofs.Compaction.{pages-full}
 use Rattle.levels.proofs.Rising.{rising-test}
 use Rattle.levels.proofs.Rows.{risings-at}
-use Rattle.levels.proofs.Entry.{inside-fit, blocks-at}
-use Rattle.words.specs.Layout.{word, topCountAt, topSlots, topRecs, areaOf, topWords, writeBlocks, topLength}
+use Rattle.levels.proofs.Entry.{inside-fit}
+use Rattle.levels.proofs.StoreRows.{set-at}
+use Rattle.words.specs.Layout.{word, placeOf, topCountAt, topSlots, topRecs, areaOf, topWords, writeBlocks, topLength}
 use Rattle.words.specs.Form.{topUnusedZero}
 use Rattle.words.proofs.Slots.{padRecs, pad-blank}
 use Rattle.words.proofs.Top.{top-words-length, top-marks, top-read}
@@ -38,21 +40,24 @@ use Rattle.words.proofs.State.{top-end, top-inside, lists-length}
 use Rattle.words.proofs.Steps.{laid-merge}
 use Rattle.slices.specs.Slices.{putAt}
 use Rattle.slices.proofs.Put.{set-put, put-length, put-drop}
+use Rattle.lists.specs.Lists.{Listed, placesAt}
 use Rattle.lists.specs.Holds.{HoldsBut}
+use Rattle.lists.proofs.Arrays.{listed-new}
 use Rattle.lists.proofs.Laws.{but-area, but-top}
-use Rattle.lists.proofs.Laws as listed
+use Rattle.lists.proofs.Laws as words
 use Rattle.top.specs.Top.{TopReady}
 use Rattle.top.specs.Top as top
 use Rattle.top.proofs.Laws.{pages-close}
 use Rattle.pair.specs.declared.Step.{Step}
-use Rattle.pair.specs.Contract.{levelOf, cutOf, lowerAfter, PagesReady, PagesLeaves}
+use Rattle.blocks.specs.Blocks.{Marks}
+use Rattle.pair.specs.Contract.{listed, cutOf, lowerAfter, PagesReady, PagesLeaves, PagesMerged}
 use Rattle.pair.proofs.Kept.{base-drop}
 use Rattle.steps.specs.declared.Tally.{Tally}
-use Rattle.steps.specs.declared.One.{One}
-use Rattle.steps.specs.Running.{counted, mergedCounts, OneLeft, PageReady}
-use Rattle.steps.proofs.Standing.{inside-short, listed-block, listed-level, but-top-read}
-use Rattle.steps.proofs.Compacting.{listed-new}
-use Rattle.steps.proofs.Merging.{start-due, start-inside, due-free, due-room, merged-few, merged-grown, merged-words, merged-ticket}
+use Rattle.steps.specs.declared.Run.{Run}
+use Rattle.steps.specs.declared.Ticketed.{Ticketed}
+use Rattle.steps.specs.Running.{storeOf, Marking, counted, StepReady, LevelMerged}
+use Rattle.steps.proofs.Standing.{but-top-read, places-new, stand, level-is, entries-are, stored}
+use Rattle.steps.proofs.Merging.{start-due, start-inside, level-low, due-fits, due-free, due-room, merged-few, merged-grown, merged-words, merged-ticket}
 use Rattle.levels.proofs.Each.{all-each-at}
 
 -- Words that hold t, whose level 0 has room, are ready for level 0's edits.
@@ -88,7 +93,7 @@ module _ (g : Geometry) (ws : List ℕ) (t : Store) (v : Valid g) (k : HoldsBut 
   }
 
   -- other records in level 0's words, as `top` and as `lists` have it
-  pub same-top : (rs : List Rec) → length rs ≤ topCapacityOf g → (top.withTop g ws rs ≡ listed.withTop g rs ws) × (areaOf g (top.withTop g ws rs) ≡ areaOf g ws)
+  pub same-top : (rs : List Rec) → length rs ≤ topCapacityOf g → (top.withTop g ws rs ≡ words.withTop g rs ws) × (areaOf g (top.withTop g ws rs) ≡ areaOf g ws)
   unfolding top.withTop putAt marksStart
   same-top rs h =
       let n : length (topWords g rs) ≡ topLength g = top-words-length g rs (omega (arith, v .ranged .b-low)) h in
@@ -100,56 +105,78 @@ module _ (g : Geometry) (ws : List ℕ) (t : Store) (v : Valid g) (k : HoldsBut 
       let e = top-end g in
       let z : 12 + length (topWords g rs) ≡ listStart g 1 = omega arith in
       let d : drop (12 + length (topWords g rs)) us ≡ drop (listStart g 1) ws = put-drop 8 (12 + length (topWords g rs)) (length rs ∷ []) ws (omega arith) (omega arith) ∙ ap (λ (x : ℕ). drop x ws) z in
-      let q : top.withTop g ws rs ≡ listed.withTop g rs ws = rw (← a, ← d) in
+      let q : top.withTop g ws rs ≡ words.withTop g rs ws = rw (← a, ← d) in
       let us-long : length us ≡ length ws = put-length 8 (length rs ∷ []) ws (omega arith) in
       (q, ap (areaOf g) q ∙ put-drop 12 (placesStart g) (topWords g rs) us (omega (arith, lists-length g)) (omega arith) ∙ put-drop 8 (placesStart g) (length rs ∷ []) ws (omega (arith, lists-length g)) (omega arith))
 
-PagesOf : Geometry → Store → List ℕ → List ℕ → List Bool → List ℕ → Step → Level → Level → Type 0
-PagesOf g t ws ws' used' list' r x y = PagesLeaves g (lowerAfter g 0 (allocationOf t) (cutOf g 0 x y)) (choose (windowOf g 0) x y) ws ws' used' list' r
+-- what a merge out of level 0 leaves alone
+top-keeps : (g : Geometry) (t : Store) (x : ℕ) → x ≢ 0 → getD (mergeLevel g 0 t .finish .levels) x [] ≡ getD (t .levels) x []
+unfolding mergeLevel mergeRun mergeCut
+top-keeps g t x a = set-at [] (λ l. l ≡ getD (t .levels) x []) (t .levels) 0 _ x (λ z. absurd (a z)) refl
 
-module _ (e t : Store) (g : Geometry) (ws : List ℕ) (used : List Bool) (list : List ℕ) (n cursor : ℕ) (tally : Tally) (k : PageReady e t g ws used list n cursor tally) where
-  within : Inside g e t
-  within = start-inside g e t 0 (k .valid) (k .facts)
+module _ (g : Geometry) (ws lists : List ℕ) (r : Run) (k : StepReady 2000000000 g ws lists 0 r) (used : List Bool) (m : Marking used (storeOf g ws lists r)) where
+  abbrev t : Store
+  t = storeOf g ws lists r
+
+  within : Inside g (k .entry) t
+  within = start-inside g (k .entry) t 0 (k .valid) (k .facts)
 
   fit : Every (BlockFits g) (allBlocks (t .levels))
-  fit = inside-fit g e t within
+  fit = inside-fit g (k .entry) t within
 
-  top-fits : length (t .top) ≤ topCapacityOf g
-  top-fits = omega (arith, k .full)
+  full : length (t .top) ≡ topCapacityOf g
+  full = k .full refl
+
+  top-low : length (t .top) ≤ topCapacityOf g
+  top-low = omega (arith, full)
+
+  low : 0 < g .h
+  low = level-low g (k .entry) t 0 (k .valid) (k .facts)
 
   pages-are : pages (g .b) (topRecs g ws) ≡ blocksOf g 0 t
-  pages-are = ap (pages (g .b)) (top-is g ws t (k .valid) (k .held) top-fits fit)
+  pages-are = ap (pages (g .b)) (top-is g ws t (k .valid) (k .stands .held) top-low fit)
 
-  under-is : levelOf g ws list n ≡ getD (t .levels) 0 []
-  under-is = listed-level g ws t (k .valid) fit (k .held) 0 list n (k .listed)
+  abbrev n : ℕ
+  n = getD (r .ns) 0 0
+
+  under-is : listed g ws lists 1 n ≡ getD (t .levels) 0 []
+  under-is = level-is g (k .entry) t ws lists r (k .valid) within (k .stands) 0 low
 
   top-rises : rising 0 (t .top) ≡ true
   top-rises = rising-test 0 (t .top) (risings-at (rows t) 0 (within .sorted))
 
+  abbrev cut : choosing.Cut
+  cut = cutOf g 0 (blocksOf g 0 t) (blocksOf g 1 t)
+
+  -- level 1 afterwards
+  abbrev ls : Settled
+  ls = lowerAfter g 0 (allocationOf t) cut
+
+  abbrev x : Store
+  x = mergeLevel g 0 t .finish
+
+  lower-is : getD (x .levels) 0 [] ≡ ls .level
+  unfolding lowerAfter mergeLevel mergeRun mergeCut
+  lower-is = getD-set-same (t .levels) 0 (ls .level) [] (omega (arith, within .many, low))
+
   -- what `merge_pages` asks
-  pub page-ready : PagesReady g ws used list n cursor
+  pub page-ready : PagesReady g ws used lists n (r .cursor)
   page-ready =
       let v = k .valid in
-      let d = start-due g e t 0 v (k .facts) in
       record {
         valid = v;
-        words = k .held .long;
-        marks-long = k .marks-long;
-        cursor-low = omega (arith, k .cursor-is, within .cursor);
-        full = k .held .count ∙ k .full;
-        bits = mark-bits g ws t v (k .held) top-fits;
-        rises = rw (top-is g ws t v (k .held) top-fits fit) top-rises;
-        under = record {
-          long = k .listed .long;
-          high = omega (arith, k .listed .count, inside-short g e t v within 0);
-          blocks = listed-block g ws t v fit (k .held) used (k .marks) 0 list n (k .listed);
-          rises = ap (λ (x : Level). rising 0 (records x)) under-is ∙ rising-test 0 (records (getD (t .levels) 0 [])) (d .under-sorted);
-        };
-        in-use = record { places = usedIn t; marks = k .marks };
-        free = subst (λ (x : Level). length (usedIn t) + (windowOf g 0 + choose (windowOf g 0) x (levelOf g ws list n) .value) + 1 ≤ g .p) (sym pages-are)
-            (subst (λ (x : Level). length (usedIn t) + (windowOf g 0 + choose (windowOf g 0) (blocksOf g 0 t) x .value) + 1 ≤ g .p) (sym under-is) (omega (arith, due-free g e t 0 v (k .facts))));
-        room = subst (λ (x : Level). n + 2 * (windowOf g 0 + choose (windowOf g 0) x (levelOf g ws list n) .value) + 2 ≤ 4096) (sym pages-are)
-            (subst (λ (x : Level). n + 2 * (windowOf g 0 + choose (windowOf g 0) (blocksOf g 0 t) x .value) + 2 ≤ 4096) (sym under-is) (rw (k .listed .count) (due-room g e t 0 v (k .facts))));
+        words = k .stands .held .long;
+        marks-long = m .1;
+        lists-long = k .stands .listed .long;
+        cursor-low = omega (arith, k .stands .cursor, within .cursor);
+        full = k .stands .held .count ∙ full;
+        bits = mark-bits g ws t v (k .stands .held) top-low;
+        rises = rw (top-is g ws t v (k .stands .held) top-low fit) top-rises;
+        under = stored g (k .entry) t ws lists r v within (k .stands) 0 low used (m .0) (start-due g (k .entry) t 0 v (k .facts) .under-sorted);
+        in-use = record { places = usedIn t; marks = m .0 };
+        free = rw (pages-are, under-is) (omega (arith, due-free g (k .entry) t 0 v (k .facts)));
+        room = rw (pages-are, under-is, entries-are g (k .entry) t ws lists r v within (k .stands) 0 low .1) (due-room g (k .entry) t 0 v (k .facts));
+        fits = rw (pages-are, under-is) (due-fits g (k .entry) t 0 v (k .facts));
       }
 
   -- where the run lies, and what is left of level 0
@@ -158,95 +185,89 @@ module _ (e t : Store) (g : Geometry) (ws : List ℕ) (used : List Bool) (list :
 
   run-inside : at + windowOf g 0 ≤ capacityOf g 0
   unfolding at mergeLevel mergeRun aboveOf underOf topCapacityOf
-  run-inside = omega (arith, k .facts .mergeable .whole, pages-full (g .b) (capacityOf g 0) (t .top) (omega (arith, k .valid .ranged .b-low)) (k .full))
+  run-inside = omega (arith, k .facts .mergeable .whole, pages-full (g .b) (capacityOf g 0) (t .top) (omega (arith, k .valid .ranged .b-low)) full)
 
   pages-few : length (blocksOf g 0 t) ≤ 2048
   unfolding topCapacityOf
-  pages-few = omega (arith, pages-full (g .b) (capacityOf g 0) (t .top) (omega (arith, k .valid .ranged .b-low)) (k .full), level-high g (k .valid) {i = 0} (omega arith))
+  pages-few = omega (arith, pages-full (g .b) (capacityOf g 0) (t .top) (omega (arith, k .valid .ranged .b-low)) full, level-high g (k .valid) {i = 0} (omega arith))
 
-  gap-top : mergeLevel g 0 t .finish .top ≡ take (at * g .b) (t .top) ++ drop ((at + windowOf g 0) * g .b) (t .top)
+  gap-top : x .top ≡ take (at * g .b) (t .top) ++ drop ((at + windowOf g 0) * g .b) (t .top)
   unfolding at mergeLevel mergeRun mergeCut cutAt
   gap-top = pages-close (g .b) at (windowOf g 0) (t .top) (omega (arith, k .valid .ranged .b-low))
 
-  pub gap-short : length (mergeLevel g 0 t .finish .top) ≤ topCapacityOf g
-  gap-short = rw (gap-top, length-append, length-take, length-drop) (omega (arith, k .full, mul-le-mul-right {m = at} {n = at + windowOf g 0} (g .b) (omega arith)))
+  gap-short : length (x .top) ≤ topCapacityOf g
+  gap-short = rw (gap-top, length-append, length-take, length-drop) (omega (arith, full, mul-le-mul-right {m = at} {n = at + windowOf g 0} (g .b) (omega arith)))
 
-  module _ (ws' : List ℕ) (used' : List Bool) (list' : List ℕ) (r : Step)
-      (left : PagesLeaves g (lowerAfter g 0 (allocationOf t) (cutOf g 0 (pages (g .b) (topRecs g ws)) (levelOf g ws list n))) (choose (windowOf g 0) (pages (g .b) (topRecs g ws)) (levelOf g ws list n)) ws ws' used' list' r) where
-    left-is : PagesOf g t ws ws' used' list' r (blocksOf g 0 t) (blocksOf g 1 t)
-    unfolding PagesOf
-    left-is =
-        subst (λ (x : Level). PagesOf g t ws ws' used' list' r (blocksOf g 0 t) x) under-is
-        (subst (λ (x : Level). PagesOf g t ws ws' used' list' r x (levelOf g ws list n)) pages-are left)
+  module _ (ws' : List ℕ) (used' : List Bool) (lists' : List ℕ) (p : Step)
+      (left : (al : Allocation) → al .cursor ≡ r .cursor → Marks used (al .used) → PagesMerged g (listed g ws lists 1 n) al ws ws' used' lists lists' p) where
+    left-is : PagesLeaves g ls (choose (windowOf g 0) (blocksOf g 0 t) (blocksOf g 1 t)) ws ws' used' lists lists' p
+    left-is = rw (pages-are, under-is) at (left (allocationOf t) (sym (k .stands .cursor)) (m .0))
 
     -- the store with level 0 as it was
     between : Store
-    between = record { live = t .live; cursor = t .cursor; top = t .top; levels = mergeLevel g 0 t .finish .levels }
+    between = record { live = t .live; cursor = t .cursor; top = t .top; levels = x .levels }
 
     held-between : HoldsBut g ws' between
-    unfolding between PagesOf lowerAfter mergeLevel mergeRun mergeCut
+    unfolding between lowerAfter mergeLevel mergeRun mergeCut
     held-between =
         let area : List ℕ = writeBlocks g (areaOf g ws) (mergeLevel g 0 t .written) in
-        rw (left-is .words) (but-area g ws area t between (k .valid) (k .held) refl refl
-        (laid-levels g area (mergeLevel g 0 t .finish) between refl (laid-merge g e (mergeLevel g 0 t) (areaOf g ws) (k .facts) (k .held .laid))))
+        rw (left-is .words) (but-area g ws area t between (k .valid) (k .stands .held) refl refl
+        (laid-levels g area x between refl (laid-merge g (k .entry) (mergeLevel g 0 t) (areaOf g ws) (k .facts) (k .stands .held .laid))))
 
     fit-between : Every (BlockFits g) (allBlocks (between .levels))
     unfolding between
-    fit-between = inside-fit g e (mergeLevel g 0 t .finish) (k .facts .finish-inside)
+    fit-between = inside-fit g (k .entry) x (k .facts .finish-inside)
 
     top-between : topRecs g ws' ≡ t .top
     unfolding between
-    top-between = top-is g ws' between (k .valid) held-between top-fits fit-between
+    top-between = top-is g ws' between (k .valid) held-between top-low fit-between
 
-    first-is : r .first ≡ at
-    unfolding PagesOf at
+    first-is : p .first ≡ at
+    unfolding at
     first-is = left-is .below .first
 
     -- what `close_gap` asks
-    pub gap-ready : (w : ℕ) → w ≡ windowOf g 0 → TopReady g ws' × ((topCountAt ws' ≡ topCapacityOf g) × (r .first + w ≤ capacityOf g 0))
+    pub gap-ready : (w : ℕ) → w ≡ windowOf g 0 → TopReady g ws' × ((topCountAt ws' ≡ topCapacityOf g) × (p .first + w ≤ capacityOf g 0))
     unfolding between
-    gap-ready w ew = (held-ready g ws' between (k .valid) held-between top-fits fit-between top-rises, (held-between .count ∙ k .full, omega (arith, first-is, ew, run-inside)))
+    gap-ready w ew = (held-ready g ws' between (k .valid) held-between top-low fit-between top-rises, (held-between .count ∙ full, omega (arith, first-is, ew, run-inside)))
 
-    writes-is : r .writes ≡ length (mergeLevel g 0 t .written)
-    unfolding PagesOf lowerAfter mergeLevel mergeRun mergeCut
+    writes-is : p .writes ≡ length (mergeLevel g 0 t .written)
+    unfolding lowerAfter mergeLevel mergeRun mergeCut
     writes-is = left-is .writes
 
-    pub page-few : r .writes ≤ 8192
-    page-few = omega (arith, writes-is, merged-few g e t 0 (k .valid) (k .facts))
+    pub page-few : p .writes ≤ 8192
+    page-few = omega (arith, writes-is, merged-few g (k .entry) t 0 (k .valid) (k .facts))
 
-    -- what `ticket` asks, and what it gives
-    pub page-words : (0 ≤ 8192) × ((r .first ≤ 8192) × ((r .overlap ≤ 8192) × (r .writes ≤ 8192)))
-    unfolding PagesOf
+    -- what `ticket` asks
+    pub page-words : (0 ≤ 8192) × ((p .first ≤ 8192) × ((p .overlap ≤ 8192) × (p .writes ≤ 8192)))
     page-words =
-        let v = k .valid in
-        let w = merged-words g e t 0 v (k .facts) (r .first) (r .overlap) (left-is .below .first) (left-is .below .overlap) pages-few in
+        let w = merged-words g (k .entry) t 0 (k .valid) (k .facts) (p .first) (p .overlap) (left-is .below .first) (left-is .below .overlap) pages-few in
         (omega arith, (w .0, (w .1, page-few)))
 
-    pub page-ticket : (x : Ticket) → x ≡ record { level = 0; first = r .first; overlap = r .overlap; written = r .writes } → x ≡ ticketOf g (mergeLevel g 0 t)
-    unfolding PagesOf
-    page-ticket x = merged-ticket g e t 0 (k .valid) (k .facts) 0 (r .first) (r .overlap) (r .writes) x refl (left-is .below .first) (left-is .below .overlap) writes-is
-
-    words-are : (w : ℕ) (ws2 : List ℕ) → w ≡ windowOf g 0 → ws2 ≡ top.withTop g ws' (take (r .first * g .b) (topRecs g ws') ++ drop ((r .first + w) * g .b) (topRecs g ws')) → ws2 ≡ top.withTop g ws' (mergeLevel g 0 t .finish .top)
+    words-are : (w : ℕ) (ws2 : List ℕ) → w ≡ windowOf g 0 → ws2 ≡ top.withTop g ws' (take (p .first * g .b) (topRecs g ws') ++ drop ((p .first + w) * g .b) (topRecs g ws')) → ws2 ≡ top.withTop g ws' (x .top)
     words-are w ws2 ew e2 = e2 ∙ rw (top-between, first-is, ew, gap-top)
 
-    pub page-left : (w : ℕ) (ws2 : List ℕ) (u : One) (more : Tally) → w ≡ windowOf g 0 → ws2 ≡ top.withTop g ws' (take (r .first * g .b) (topRecs g ws') ++ drop ((r .first + w) * g .b) (topRecs g ws'))
-        → more ≡ counted tally 1 (record { merges = 1; written = r .writes; compacted = 0 }) → u ≡ record { n = r .under; cursor = r .cursor; tally = more }
-        → OneLeft (mergeLevel g 0 t .finish) (mergeLevel g 0 t .written) (mergedCounts (mergeLevel g 0 t)) g ws ws2 list' 0 tally u
-    unfolding between PagesOf lowerAfter mergeLevel mergeRun mergeCut
-    page-left w ws2 u more ew e2 em eu =
+    relisted : Listed (g .h) (g .h) lists' (set (r .ns) 0 (p .under)) (placesAt x)
+    relisted =
+        let q = places-new g (k .entry) x (k .facts .finish-inside) 0 (ls .level) lower-is in
+        listed-new (g .h) (g .h) (g .h) 0 (p .under) lists lists' (r .ns) (placesAt t) (placesAt x) (k .stands .listed) low (omega arith) (omega arith) (k .valid .ranged .h-high) (λ i a b. a) (left-is .below .lists-long)
+        (left-is .below .under ∙ q .1) (left-is .below .lower ∙ q .0) (left-is .kept) (λ i a. ap (map placeOf) (top-keeps g t i a))
+
+    pub page-merged : (w : ℕ) (ws2 : List ℕ) (u : Ticketed) (more : Tally) (ns : List ℕ) (y : Ticket) → w ≡ windowOf g 0 → ws2 ≡ top.withTop g ws' (take (p .first * g .b) (topRecs g ws') ++ drop ((p .first + w) * g .b) (topRecs g ws'))
+        → more ≡ counted (r .tally) 1 (record { merges = 1; written = p .writes; compacted = 0 }) → ns ≡ set (r .ns) 0 (p .under)
+        → y ≡ record { level = 0; first = p .first; overlap = p .overlap; written = p .writes } → u ≡ record { run = record { ns = ns; cursor = p .cursor; tally = more }; ticket = y } → LevelMerged g 0 ws lists r ws2 lists' u
+    unfolding between lowerAfter mergeLevel mergeRun mergeCut
+    page-merged w ws2 u more ns y ew e2 em en ey eu s es =
         let v = k .valid in
-        let x : Store = mergeLevel g 0 t .finish in
         let area : List ℕ = writeBlocks g (areaOf g ws) (mergeLevel g 0 t .written) in
-        let ls : Settled = lowerAfter g 0 (allocationOf t) (cutOf g 0 (blocksOf g 0 t) (blocksOf g 1 t)) in
-        let s = same-top g ws' between v held-between top-fits (x .top) gap-short in
+        let d = same-top g ws' between v held-between top-low (x .top) gap-short in
         let q = words-are w ws2 ew e2 in
-        let hu : getD (x .levels) 0 [] ≡ ls .level = getD-set-same (t .levels) 0 (ls .level) [] (omega (arith, within .many, v .ranged .h-low)) in
-        let f = inside-fit g e x (k .facts .finish-inside) in
-        rw eu
-        (record {
-          held = rw (q ∙ s .0) (but-top g ws' between x v held-between refl refl gap-short);
-          listed = listed-new g x 0 (ls .level) list' (r .under) (blocks-at (BlockFits g) (x .levels) 0 f) hu (left-is .below .lower-long) (left-is .below .under) (left-is .below .lower);
-          cursor = left-is .below .cursor;
-          area = ap (areaOf g) q ∙ s .1 ∙ ap (areaOf g) (left-is .words) ∙ base-drop g ws (k .held .long) area;
-          counts = merged-grown g e t 0 v (k .facts) tally more 1 (r .writes) refl writes-is em;
-        })
+        let held : HoldsBut g ws2 x = rw (q ∙ d .0) (but-top g ws' between x v held-between refl refl gap-short) in
+        rw (es, eu, en) (
+          record {
+            stands = stand g (k .entry) x ws2 lists' _ v (k .facts .finish-inside) held gap-short relisted (left-is .below .cursor);
+            area = ap (areaOf g) q ∙ d .1 ∙ ap (areaOf g) (left-is .words) ∙ base-drop g ws (k .stands .held .long) area;
+            counts = merged-grown g (k .entry) t 0 v (k .facts) (r .tally) more 1 (p .writes) refl writes-is em;
+          },
+          merged-ticket g (k .entry) t 0 v (k .facts) 0 (p .first) (p .overlap) (p .writes) y refl (left-is .below .first) (left-is .below .overlap) writes-is ey,
+        )

@@ -1,6 +1,7 @@
 use Prim.Native.Nat.{_≤_, _-_}
 use native.Mathlib.Omega.{arith}
 use mathlib.Core.Path.{_≡_, refl}
+use lib.ListN.{length}
 use Rattle.blocks.specs.Blocks.{marked}
 use Rattle.blocks.proofs.Laws.{marked-more}
 use borrow.Author.Needs.{needs}
@@ -20,19 +21,19 @@ unfolding marked
 loop-holds c = (search needs, refl)
 
 mul-q : tie.Need-mul-q Inv-loop μ-loop
-mul-q c = omega arith
+mul-q c = search needs
 
-element-copy-out-q : tie.Need-element-copy-out-q Inv-loop μ-loop
-element-copy-out-q c = omega arith
+shared-slice-read-q : tie.Need-shared-slice-read-q Inv-loop μ-loop
+shared-slice-read-q c = omega arith
 
 cast-q : tie.Need-cast-q Inv-loop μ-loop
-cast-q c = omega (arith, c .before .before .before .pre .1 (c .before .before .loop .i) (omega arith))
+cast-q c = omega (arith, c .before .before .before .pre (c .before .before .loop .i) (omega arith))
 
 element-write-used : tie.Need-element-write-used Inv-loop μ-loop
-element-write-used c = c .before .before .before .pre .1 _ (omega arith)
+element-write-used c = c .before .before .before .pre _ (omega arith)
 
 add-i : tie.Need-add-i Inv-loop μ-loop
-add-i c = omega arith
+add-i c = search needs
 
 loop-less : tie.Need-loop-less Inv-loop μ-loop
 loop-less c = omega arith
@@ -42,7 +43,7 @@ loop-again c = (omega arith, rw (c .before .before .loop .inv .1) (marked-more _
 
 returns : tie.Need-returns Inv-loop μ-loop
 returns c =
-    let e : c .before .loop .i ≡ c .before .before .args .n = omega arith in
+    let e : c .before .loop .i ≡ length (c .before .before .args .list .now) = omega arith in
     rw e at (c .before .loop .inv .1)
 
 pub mark-listed-spec : {M : Type 1} → statement M
@@ -53,7 +54,7 @@ mark-listed-spec =
     μ-loop
     loop-holds
     mul-q
-    element-copy-out-q
+    shared-slice-read-q
     cast-q
     element-write-used
     add-i

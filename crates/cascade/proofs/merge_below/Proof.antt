@@ -14,47 +14,49 @@ use Rattle.cascade.proofs.deepest.Reads as deepest-reads
 use Rattle.cascade.proofs.file_row.Reads as file-row-reads
 use Rattle.steps.proofs.merge_step.Reads as merge-step-reads
 
--- the merges to come, and the rows for their tickets
 abbrev Inv-loop : tie.InvT-loop
-Inv-loop s₀ one₀ two₀ three₀ g rows₀ v₀ filed₀ s one two three rows v filed = Turn 98304 g s₀ one₀ two₀ three₀ v₀ rows₀ s one two three v rows filed
+Inv-loop s₀ lists₀ g rows₀ v₀ filed₀ s lists rows v filed = Turn 98304 g s₀ lists₀ v₀ rows₀ s lists v rows filed
 
 abbrev μ-loop : tie.MeasureT-loop
-μ-loop s₀ one₀ two₀ three₀ g rows₀ v₀ filed₀ s one two three rs v filed = load (rows (storeOf g s one two three v))
+μ-loop s₀ lists₀ g rows₀ v₀ filed₀ s lists rs v filed = load (rows (storeOf g s lists v))
 
 loop-holds : tie.Need-loop-holds Inv-loop μ-loop
-loop-holds c = turn-first 98304 _ _ _ _ _ _ _ (c .before .pre)
+loop-holds c = turn-first 98304 _ _ _ _ _ (c .before .pre)
 
 deepest-requires : tie.Need-deepest-requires Inv-loop μ-loop
-deepest-requires c κs = c .loop .inv .goes .rolling .valid .ranged
+deepest-requires c κs = c .before .loop .inv .goes .rolling .valid .ranged
 
 merge-step-requires : tie.Need-merge-step-requires Inv-loop μ-loop
-merge-step-requires c κs = goes-asks 98304 _ _ _ _ _ _ _ _ _ _ _ (c .before .before .before .before .before .before .loop .inv .goes) _ (c .before .before .before .before .before .deepest .ensures) (c .before .before .before .before .before .deepest .result - 1) (omega (arith, c .before .before .before .before .if1 .left))
+merge-step-requires c κs = goes-asks 98304 _ _ _ _ _ _ _ (c .before .before .before .before .before .loop .inv .goes) _ (c .before .before .before .deepest .ensures) (c .before .before .before .deepest .result - 1) (omega (arith, c .before .before .if1 .left))
 
 file-row-requires : tie.Need-file-row-requires Inv-loop μ-loop
 file-row-requires c κs = search needs
 
 add-filed : tie.Need-add-filed Inv-loop μ-loop
-add-filed c = omega (arith, c .before .before .before .before .before .before .before .before .before .before .before .before .before .loop .inv .files .low)
+add-filed c = omega (arith, c .before .before .before .before .before .before .before .before .before .before .before .before .loop .inv .files .low)
 
 loop-less : tie.Need-loop-less Inv-loop μ-loop
-loop-less c = goes-less 98304 _ _ _ _ _ _ _ _ _ _ _ (c .before .before .before .before .before .before .before .before .before .before .before .before .before .before .loop .inv .goes) _ (c .before .before .before .before .before .before .before .before .before .before .before .before .before .deepest .ensures) (c .before .before .before .before .before .before .before .before .before .before .before .before .before .deepest .result - 1) (omega (arith, c .before .before .before .before .before .before .before .before .before .before .before .before .if1 .left)) _ _ _ _ _ (c .before .before .before .before .before .before .before .merge-step .ensures _ refl .0)
+loop-less c = goes-less 98304 _ _ _ _ _ _ _ (c .before .before .before .before .before .before .before .before .before .before .before .before .before .loop .inv .goes) _ (c .before .before .before .before .before .before .before .before .before .before .before .deepest .ensures) (c .before .before .before .before .before .before .before .before .before .before .before .deepest .result - 1) (omega (arith, c .before .before .before .before .before .before .before .before .before .before .if1 .left)) _ _ _ (c .before .before .before .before .before .before .before .merge-step .ensures _ refl .0)
 
 loop-again : tie.Need-loop-again Inv-loop μ-loop
-loop-again c = record {
-  goes = goes-on 98304 _ _ _ _ _ _ _ _ _ _ _ (c .before .before .before .before .before .before .before .before .before .before .before .before .before .before .loop .inv .goes) _ (c .before .before .before .before .before .before .before .before .before .before .before .before .before .deepest .ensures) (c .before .before .before .before .before .before .before .before .before .before .before .before .before .deepest .result - 1) (omega (arith, c .before .before .before .before .before .before .before .before .before .before .before .before .if1 .left)) _ _ _ _ _ (c .before .before .before .before .before .before .before .merge-step .ensures _ refl .0);
-  files = files-on 98304 _ _ _ _ _ _ _ _ _ _ _ (c .before .before .before .before .before .before .before .before .before .before .before .before .before .before .loop .inv .goes) _ (c .before .before .before .before .before .before .before .before .before .before .before .before .before .deepest .ensures) (c .before .before .before .before .before .before .before .before .before .before .before .before .before .deepest .result - 1) (omega (arith, c .before .before .before .before .before .before .before .before .before .before .before .before .if1 .left)) _ _ _ _ _ (c .before .before .before .before .before .before .before .merge-step .ensures _ refl .0) _ _ _ _ _ (c .before .before .before .before .before .before .before .before .before .before .before .before .before .before .loop .inv .files) (c .before .before .before .before .before .before .before .merge-step .ensures _ refl .1) (c .before .before .file-row .ensures);
-}
+loop-again c =
+    let i = c .before .before .before .before .before .before .before .before .before .before .before .before .before .loop .inv in
+    let m = c .before .before .before .before .before .before .before .merge-step .ensures _ refl in
+    record {
+      goes = goes-on 98304 _ _ _ _ _ _ _ (i .goes) _ (c .before .before .before .before .before .before .before .before .before .before .before .deepest .ensures) (c .before .before .before .before .before .before .before .before .before .before .before .deepest .result - 1) (omega (arith, c .before .before .before .before .before .before .before .before .before .before .if1 .left)) _ _ _ (m .0);
+      files = files-on 98304 _ _ _ _ _ _ _ (i .goes) _ (c .before .before .before .before .before .before .before .before .before .before .before .deepest .ensures) (c .before .before .before .before .before .before .before .before .before .before .before .deepest .result - 1) (omega (arith, c .before .before .before .before .before .before .before .before .before .before .if1 .left)) _ _ _ (m .0) _ _ _ _ _ (i .files) (m .1) (c .before .before .file-row .ensures);
+    }
 
 same-length : tie.Need-same-length Inv-loop μ-loop
-same-length c = c .before .before .loop .inv .goes .rolling .stands .held .long ∙ sym (c .before .before .before .before .pre .stands .held .long)
+same-length c = c .before .before .before .loop .inv .goes .rolling .stands .held .long ∙ sym (c .before .before .before .before .before .pre .stands .held .long)
 
 same-length-2 : tie.Need-same-length-2 Inv-loop μ-loop
-same-length-2 c = c .before .before .loop .inv .files .long
+same-length-2 c = c .before .before .before .loop .inv .files .long
 
 returns : tie.Need-returns Inv-loop μ-loop
 returns c =
-    let i = c .before .before .loop .inv in
-    λ t e. (goes-last 98304 _ _ _ _ _ _ _ _ _ _ _ (i .goes) _ (c .before .deepest .ensures) _ refl (c .if1 .taken) t e, files-last 98304 _ _ _ _ _ _ _ _ _ _ _ (i .goes) _ (c .before .deepest .ensures) _ _ _ (i .files) (c .if1 .taken) t e)
+    let i = c .before .before .before .loop .inv in
+    λ t e. (goes-last 98304 _ _ _ _ _ _ _ (i .goes) _ (c .before .deepest .ensures) _ refl (c .if1 .taken) t e, files-last 98304 _ _ _ _ _ _ _ (i .goes) _ (c .before .deepest .ensures) _ _ _ (i .files) (c .if1 .taken) t e)
 
 pub merge-below-spec : {M : Type 1} → statement M
 merge-below-spec =

@@ -1,49 +1,101 @@
-use Prim.Native.Nat.{_+_}
-use mathlib.Core.Path.{refl}
+use Prim.Native.Nat.{suc, _+_, _-_, _≤_, _<_}
+use mathlib.Core.Path.{_≡_}
 use native.Mathlib.Omega.{arith}
 use Rattle.geometry.proofs.Laws.{store-length-low}
-use Rattle.lists.proofs.Room.{room-most, room-high, listed-inside, copied-listed}
+use Rattle.words.specs.Layout.{listedAt}
+use Rattle.lists.specs.Lists.{Listed}
+use Rattle.lists.proofs.Arrays.{listed-none, load-inside, load-more}
 use borrow.Author.Needs.{needs}
 use Rattle.lists.proofs.load.Statement.{statement}
 use Rattle.lists.proofs.load.Tie as tie
 use Rattle.lists.proofs.load.Reads as reads
 use Rattle.lists.proofs.load.Lts as lts
+use Rattle.geometry.proofs.Geometry.levels.Reads as levels-reads
 use Rattle.geometry.proofs.Geometry.list_start.Reads as list-start-reads
+use Rattle.lists.proofs.start_of.Reads as start-of-reads
 use Rattle.slices.proofs.copy.Reads as copy-reads
+use Rattle.slices.proofs.word.Reads as word-reads
 
-add-n : tie.Need-add-n
-add-n c = search needs
+abbrev Inv-loop : tie.InvT-loop
+Inv-loop s g lists₀ h ns₀ i₀ lists ns i = (i ≤ h) × Listed (g .h) i lists ns (λ j. listedAt g s (suc j))
 
-mul-n : tie.Need-mul-n
-mul-n c = search needs
+abbrev μ-loop : tie.MeasureT-loop
+μ-loop s g lists₀ h ns₀ i₀ lists ns i = h - i
 
-shared-slice-read-n : tie.Need-shared-slice-read-n
-shared-slice-read-n c =
-    let p = c .before .before .pre in
-    omega (arith, p .1 .0, p .1 .1 .1 .0, store-length-low _ (p .0))
+levels-requires : tie.Need-levels-requires Inv-loop μ-loop
+levels-requires c κs = search needs
 
-cast-n : tie.Need-cast-n
-cast-n c = omega (arith, c .shared-slice-known2 .given (_+_ 8 (c .before .before .args .level)))
+loop-holds : tie.Need-loop-holds Inv-loop μ-loop
+loop-holds c = (omega arith, listed-none _ _ _ (c .before .before .pre .1 .1 .0))
 
-list-start-requires : tie.Need-list-start-requires
+add-word : tie.Need-add-word Inv-loop μ-loop
+add-word c = search needs
+
+word-requires : tie.Need-word-requires Inv-loop μ-loop
+word-requires c κs = omega (arith, c .before .before .before .before .pre .1 .0, store-length-low _ (c .before .before .before .before .pre .0), c .before .before .levels .ensures, c .before .before .before .before .pre .0 .ranged .h-high)
+
+add-list-start : tie.Need-add-list-start Inv-loop μ-loop
+add-list-start c = search needs
+
+list-start-requires : tie.Need-list-start-requires Inv-loop μ-loop
 list-start-requires c κs = search needs
 
-copy-requires : tie.Need-copy-requires
-copy-requires c κs =
-    let p = c .before .before .before .before .pre in
-    let i = listed-inside _ _ _ (p .0) (p .1 .1 .0) (p .1 .1 .1 .0) (p .1 .1 .1 .1) in
-    (omega (arith, c .before .list-start .ensures, p .1 .0, i), omega (arith, c .copy-arg .given .0 .1, p .1 .1 .1 .1, room-high _ (c .before .before .before .before .args .level) (p .0)))
+add-start-of : tie.Need-add-start-of Inv-loop μ-loop
+add-start-of c = search needs
 
-returns : tie.Need-returns
+start-of-requires : tie.Need-start-of-requires Inv-loop μ-loop
+start-of-requires c κs = search needs
+
+copy-requires : tie.Need-copy-requires Inv-loop μ-loop
+copy-requires c κs =
+    let p = c .before .before .before .before .before .before .before .before .pre in
+    let i : c .before .before .before .before .before .loop .i < c .before .before .before .before .before .before .before .before .args .g .h = omega (arith, c .before .before .before .before .before .before .levels .ensures, c .before .before .before .before .loop-test .taken) in
+    let f = load-inside _ (c .before .before .before .before .before .before .before .before .args .s .now) (p .0) (p .1 .0) (c .before .before .before .before .before .loop .i) (c .before .before .before .before .before .loop .i + 1) _ (omega arith) (omega arith) (p .1 .1 .1 _ i) (c .before .before .before .word .ensures .0) in
+    rw (c .before .before .list-start .ensures, c .before .start-of .ensures, c .before .before .before .before .before .before .levels .ensures) (f .0, omega (arith, f .1, c .before .before .before .before .before .loop .inv .1 .long))
+
+mul-ns : tie.Need-mul-ns Inv-loop μ-loop
+mul-ns c = search needs
+
+array-write-ns : tie.Need-array-write-ns Inv-loop μ-loop
+array-write-ns c = search needs
+
+add-i : tie.Need-add-i Inv-loop μ-loop
+add-i c = search needs
+
+loop-less : tie.Need-loop-less Inv-loop μ-loop
+loop-less c = omega arith
+
+loop-again : tie.Need-loop-again Inv-loop μ-loop
+loop-again c =
+    let p = c .before .before .before .before .before .before .before .before .before .pre in
+    let l = c .before .before .before .before .before .before .loop in
+    let i : l .i < c .before .before .before .before .before .before .before .before .before .args .g .h = omega (arith, c .before .before .before .before .before .before .before .levels .ensures, c .before .before .before .before .before .loop-test .taken) in
+    let t = rw (c .before .before .before .before .before .before .before .levels .ensures) at (c .before .before .start-of .ensures) in
+    (omega (arith, c .before .before .before .before .before .loop-test .taken), rw (c .copy .ensures) (load-more _ _ (p .0) (p .1 .0) (l .i) (l .i + 1) _ (omega arith) (omega arith) (p .1 .1 .1 (l .i) i) (c .before .before .before .before .word .ensures .0) (l .lists) (l .ns) _ _ (c .before .before .before .list-start .ensures) t (l .inv .1)))
+
+returns : tie.Need-returns Inv-loop μ-loop
 returns c =
-    let p = c .before .before .before .before .before .pre in
-    let a = c .before .before .before .before .before .args in
-    let i = listed-inside _ _ _ (p .0) (p .1 .1 .0) (p .1 .1 .1 .0) (p .1 .1 .1 .1) in
-    let e = rw (c .before .before .list-start .ensures) at (c .copy .ensures) in
-    let r = copied-listed (a .g) (a .s .now) (a .out .now) (a .level) _ refl (omega (arith, p .1 .1 .1 .1, room-most (a .g) (a .level))) (omega (arith, p .1 .0, i)) in
-    (refl, (rw e r, omega (arith, c .copy .kept .1 .1 .1 .0, c .before .copy-arg .given .0 .1)))
+    let i : c .before .loop .i ≡ c .before .before .before .before .args .g .h = omega (arith, c .before .loop .inv .0, c .loop-test .left, c .before .before .levels .ensures) in
+    rw i at (c .before .loop .inv .1)
 
 pub load-spec : {M : Type 1} → statement M
 load-spec =
     tie.close
-    (tie.spec add-n mul-n shared-slice-read-n cast-n list-start-requires copy-requires returns)
+    (tie.spec
+    Inv-loop
+    μ-loop
+    levels-requires
+    loop-holds
+    add-word
+    word-requires
+    add-list-start
+    list-start-requires
+    add-start-of
+    start-of-requires
+    copy-requires
+    mul-ns
+    array-write-ns
+    add-i
+    loop-less
+    loop-again
+    returns)

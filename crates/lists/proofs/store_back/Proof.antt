@@ -1,9 +1,14 @@
-use Prim.Native.Nat.{_≤_}
-use mathlib.Core.Path.{_≡_, _∙_}
-use native.Mathlib.Omega.{arith}
 use Rattle.geometry.proofs.Laws.{store-length-low}
-use Rattle.words.proofs.Form.{room-level}
-use Rattle.lists.proofs.Room.{room-high, one-stored, two-stored, three-stored}
+use Rattle.lists.proofs.Room.{list-in-store, fit-high, lists-none, lists-more, lists-put}
+use Prim.Native.Nat.{_+_, _-_, _≤_}
+use mathlib.Core.Path.{_≡_, refl, _∙_}
+use native.Mathlib.Numerals.{add-one}
+use native.Mathlib.Omega.{arith}
+use lib.ListN.{length}
+use Rattle.slices.specs.Slices.{putAt}
+use Rattle.geometry.specs.Geometry.{listStart}
+use Rattle.levels.specs.Basics.{each}
+use Rattle.lists.specs.Lists.{listOf, placeLists}
 use borrow.Author.Needs.{needs}
 use Rattle.lists.proofs.store_back.Statement.{statement}
 use Rattle.lists.proofs.store_back.Tie as tie
@@ -13,95 +18,73 @@ use Rattle.geometry.proofs.Geometry.levels.Reads as levels-reads
 use Rattle.lists.proofs.put_counts.Reads as put-counts-reads
 use Rattle.lists.proofs.put_list.Reads as put-list-reads
 
-put-counts-requires : tie.Need-put-counts-requires
+abbrev Inv-loop : tie.InvT-loop
+Inv-loop s₀ g lists cursor ns h i₀ s i = (i ≤ h) × ((length s ≡ length s₀) × (s ≡ putAt (listStart g 1) (placeLists g 1 (each (listOf (g .h) lists ns) 0 i)) s₀))
+
+abbrev μ-loop : tie.MeasureT-loop
+μ-loop s₀ g lists cursor ns h i₀ s i = h - i
+
+put-counts-requires : tie.Need-put-counts-requires Inv-loop μ-loop
 put-counts-requires c κs =
     let p = c .before .before .pre in
-    let h = room-high (c .before .before .args .g) in
-    (omega (arith, p .1 .0, store-length-low _ (p .0)), (omega (arith, p .1 .1 .0, h 1 (p .0)), (omega (arith, p .1 .1 .1 .0, h 2 (p .0)), (omega (arith, p .1 .1 .1 .1 .0, h 3 (p .0)), omega (arith, p .1 .1 .1 .1 .1, p .0 .places-high)))))
+    (omega (arith, p .1 .0, store-length-low _ (p .0)), (p .1 .1 .0 .three, (fit-high _ _ _ (p .0) (p .1 .1 .0), omega (arith, p .1 .1 .1, p .0 .places-high))))
 
-levels-requires : tie.Need-levels-requires
+levels-requires : tie.Need-levels-requires Inv-loop μ-loop
 levels-requires c κs = search needs
 
-put-list-requires : tie.Need-put-list-requires
+loop-holds : tie.Need-loop-holds Inv-loop μ-loop
+loop-holds c = (omega arith, (refl, lists-none _ _ _ (c .before .before .before .before .before .before .pre .1 .1 .0) _))
+
+mul-n : tie.Need-mul-n Inv-loop μ-loop
+mul-n c = search needs
+
+array-read-n : tie.Need-array-read-n Inv-loop μ-loop
+array-read-n c = search needs
+
+add-put-list : tie.Need-add-put-list Inv-loop μ-loop
+add-put-list c = search needs
+
+put-list-requires : tie.Need-put-list-requires Inv-loop μ-loop
 put-list-requires c κs =
-    let counts = c .before .before .before .before in
-    let p = counts .before .before .before .pre in
-    let g = counts .before .before .before .args .g in
-    let l = p .0 .ranged .h-low in
-    (p .0, (omega (arith, p .1 .0, counts .put-counts .kept .0), (omega arith, (l, omega (arith, p .1 .1 .0, room-level g 1 l)))))
+    let p = c .before .before .before .before .before .before .before .before .before .pre in
+    let i : c .before .before .loop .i + 1 ≤ c .before .before .before .before .before .before .before .before .before .args .g .h = omega (arith, c .before .before .before .levels .ensures, c .before .loop-test .taken) in
+    (p .0, (c .before .before .loop .inv .1 .0 ∙ (c .before .before .before .before .before .before .put-counts .kept .0 ∙ p .1 .0), (omega arith, (i, (rw add-one (p .1 .1 .0 .fit (c .before .before .loop .i) (omega arith)), p .1 .1 .0 .long)))))
 
-same-length : tie.Need-same-length
-same-length c = search needs
+add-i : tie.Need-add-i Inv-loop μ-loop
+add-i c = search needs
 
-returns : tie.Need-returns
-returns c =
-    let list = c .before .before .before in
-    let counts = list .before .before .before .before .before in
-    let a = counts .before .before .before .args in
-    let p = counts .before .before .before .pre in
-    let h : a .g .h ≡ 1 = omega (arith, c .if1 .taken, list .before .before .levels .ensures, p .0 .ranged .h-low) in
-    list .put-list .ensures .0 ∙ rw (counts .put-counts .ensures) (one-stored (a .g) (a .s .now) _ _ _ (a .cursor) (a .n1) (a .n2) (a .n3) h (list .put-list .ensures .1) (p .1 .1 .1 .0) (p .1 .1 .1 .1 .0))
+loop-less : tie.Need-loop-less Inv-loop μ-loop
+loop-less c = omega arith
 
-put-list-requires-2 : tie.Need-put-list-requires-2
-put-list-requires-2 c κs =
-    let list = c .before .before .before .before in
-    let counts = list .before .before .before .before .before in
-    let p = counts .before .before .before .pre in
-    let g = counts .before .before .before .args .g in
-    let l : 2 ≤ g .h = omega (arith, c .before .if1 .left, list .before .before .levels .ensures) in
-    (p .0, (omega (arith, p .1 .0, counts .put-counts .kept .0, list .put-list .kept .0), (omega arith, (l, omega (arith, p .1 .1 .1 .0, room-level g 2 l)))))
+loop-again : tie.Need-loop-again Inv-loop μ-loop
+loop-again c =
+    let p = c .before .before .before .before .before .before .before .before .before .before .before .before .pre in
+    let l = c .before .before .before .before .before .loop in
+    let i : l .i + 1 ≤ c .before .before .before .before .before .before .before .before .before .before .before .before .args .g .h = omega (arith, c .before .before .before .before .before .before .levels .ensures, c .before .before .before .before .loop-test .taken) in
+    let s = list-in-store (c .before .before .before .before .before .before .before .before .before .before .before .before .args .g) _ (l .i + 1) (p .0) (c .before .before .before .before .before .before .before .before .before .put-counts .kept .0 ∙ p .1 .0) (omega arith) i in
+    (omega (arith, c .before .before .before .before .loop-test .taken), (c .before .before .put-list .kept .0 ∙ l .inv .1 .0, c .before .before .put-list .ensures ∙ lists-more _ _ _ (p .1 .1 .0) (l .i) (l .i + 1) _ (l .s) (omega arith) i (omega arith) (l .inv .1 .1)))
 
-same-length-2 : tie.Need-same-length-2
-same-length-2 c = search needs
+same-length : tie.Need-same-length Inv-loop μ-loop
+same-length c = c .before .loop .inv .1 .0 ∙ c .before .before .before .before .before .put-counts .kept .0
 
-returns-2 : tie.Need-returns-2
-returns-2 c =
-    let list2 = c .before .before .before in
-    let list = list2 .before .before .before .before .before in
-    let counts = list .before .before .before .before .before in
-    let a = counts .before .before .before .args in
-    let p = counts .before .before .before .pre in
-    let h : a .g .h ≡ 2 = omega (arith, c .if2 .taken, list2 .before .before .if1 .left, list .before .before .levels .ensures) in
-    list2 .put-list2 .ensures .0
-    ∙ rw (list .put-list .ensures .0, counts .put-counts .ensures) (two-stored (a .g) (a .s .now) _ _ _ (a .cursor) (a .n1) (a .n2) (a .n3) h (p .1 .0) (list .put-list .ensures .1) (list2 .put-list2 .ensures .1) (p .1 .1 .0) (p .1 .1 .1 .1 .0) (p .0))
-
-put-list-requires-3 : tie.Need-put-list-requires-3
-put-list-requires-3 c κs =
-    let list2 = c .before .before .before .before in
-    let list = list2 .before .before .before .before .before in
-    let counts = list .before .before .before .before .before in
-    let p = counts .before .before .before .pre in
-    let g = counts .before .before .before .args .g in
-    let l : 3 ≤ g .h = omega (arith, c .before .if2 .left, list .before .before .levels .ensures) in
-    (p .0, (omega (arith, p .1 .0, counts .put-counts .kept .0, list .put-list .kept .0, list2 .put-list2 .kept .0), (omega arith, (l, omega (arith, p .1 .1 .1 .1 .0, room-level g 3 l)))))
-
-same-length-3 : tie.Need-same-length-3
-same-length-3 c = search needs
-
-returns-3 : tie.Need-returns-3
-returns-3 c =
-    let list3 = c .before .before in
-    let list2 = list3 .before .before .before .before .before in
-    let list = list2 .before .before .before .before .before in
-    let counts = list .before .before .before .before .before in
-    let a = counts .before .before .before .args in
-    let p = counts .before .before .before .pre in
-    let h : a .g .h ≡ 3 = omega (arith, list3 .before .before .if2 .left, list .before .before .levels .ensures, p .0 .ranged .h-high) in
-    list3 .put-list3 .ensures .0
-    ∙ rw (list2 .put-list2 .ensures .0, list .put-list .ensures .0, counts .put-counts .ensures) (three-stored (a .g) (a .s .now) _ _ _ (a .cursor) (a .n1) (a .n2) (a .n3) h (p .1 .0) (list .put-list .ensures .1) (list2 .put-list2 .ensures .1) (list3 .put-list3 .ensures .1) (p .1 .1 .0) (p .1 .1 .1 .0) (p .0))
+returns : tie.Need-returns Inv-loop μ-loop
+returns c = lists-put _ _ _ (c .before .before .before .before .before .before .before .before .pre .1 .1 .0) _ _ _ _ (c .before .loop .i) (omega (arith, c .before .loop .inv .0, c .loop-test .left, c .before .before .levels .ensures)) (c .before .before .before .before .before .put-counts .ensures) (c .before .loop .inv .1 .1)
 
 pub store-back-spec : {M : Type 1} → statement M
 store-back-spec =
     tie.close
     (tie.spec
+    Inv-loop
+    μ-loop
     put-counts-requires
     levels-requires
+    loop-holds
+    mul-n
+    array-read-n
+    add-put-list
     put-list-requires
+    add-i
+    loop-less
+    loop-again
     same-length
-    returns
-    put-list-requires-2
-    same-length-2
-    returns-2
-    put-list-requires-3
-    same-length-3
-    returns-3)
+    returns)

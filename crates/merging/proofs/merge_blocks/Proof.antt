@@ -1,7 +1,5 @@
 use Rattle.merging.proofs.Merge.{ready, ended, closing, leaves-in}
-use Prim.Native.Nat.{_-_}
-use native.Mathlib.Omega.{arith}
-use mathlib.Core.Path.{_≡_, _∙_}
+use mathlib.Core.Path.{_∙_}
 use borrow.Author.Needs.{needs}
 use Rattle.merging.proofs.merge_blocks.Statement.{statement}
 use Rattle.merging.proofs.merge_blocks.Tie as tie
@@ -32,26 +30,23 @@ copy-entries-requires c κs = search needs
 
 stream-requires : tie.Need-stream-requires
 stream-requires c κs =
-    let e : c .before .before .before .before .before .before .before .before .before .before .args .parts .y - 0 ≡ c .before .before .before .before .before .before .before .before .before .before .args .parts .y = omega arith in
-    rw (c .before .before .before .before .before .before .before .before .of .ensures, c .before .before .before .before .before .before .before .inputs .ensures, c .before .before .before .before .before .before .begin .ensures, c .before .before .before .before .before .limit .ensures, c .before .before .before .copy-entries .ensures, e) (
-      (ready (c .before .before .before .before .before .before .before .before .before .before .args .g) (c .before .before .before .before .before .before .before .before .before .before .args .s .now) (c .before .before .before .before .before .before .before .before .before .before .args .used .now) (c .before .before .before .before .before .before .before .before .before .before .args .out .now) (c .before .before .before .before .before .before .before .before .before .before .args .xs .now) (c .before .before .before .before .before .before .before .before .before .before .args .ys .now) (c .before .before .before .before .before .before .before .before .before .before .args .parts) (c .before .before .before .before .before .before .before .before .before .before .args .cursor) (c .before .before .before .before .before .before .before .before .before .before .pre)),
-      (ended (c .before .before .before .before .before .before .before .before .before .before .args .g) (c .before .before .before .before .before .before .before .before .before .before .args .s .now) (c .before .before .before .before .before .before .before .before .before .before .args .used .now) (c .before .before .before .before .before .before .before .before .before .before .args .out .now) (c .before .before .before .before .before .before .before .before .before .before .args .xs .now) (c .before .before .before .before .before .before .before .before .before .before .args .ys .now) (c .before .before .before .before .before .before .before .before .before .before .args .parts) (c .before .before .before .before .before .before .before .before .before .before .args .cursor) (c .before .before .before .before .before .before .before .before .before .before .pre)),
-    )
+    let a = c .before .before .before .before .before .before .before .before .before .before .args in
+    rw (c .before .before .before .before .before .before .before .before .of .ensures, c .before .before .before .before .before .before .before .inputs .ensures, c .before .before .before .before .before .before .begin .ensures, c .before .before .before .before .before .limit .ensures, c .before .before .before .copy-entries .ensures)
+    (ready (a .g) (a .s .now) (a .used .now) (a .out .now) (a .xs .now) (a .ys .now) (a .parts) (a .cursor) (c .before .before .before .before .before .before .before .before .before .before .pre), ended (a .g) (a .s .now) (a .used .now) (a .out .now) (a .xs .now) (a .ys .now) (a .parts) (a .cursor) (c .before .before .before .before .before .before .before .before .before .before .pre))
 
 close-requires : tie.Need-close-requires
 close-requires c κs =
-    let e : c .before .before .before .before .before .before .before .before .before .before .before .before .before .before .before .before .args .parts .y - 0 ≡ c .before .before .before .before .before .before .before .before .before .before .before .before .before .before .before .before .args .parts .y = omega arith in
-    rw (c .before .before .before .before .before .stream .ensures, c .before .before .before .before .before .before .before .before .before .before .before .before .before .before .of .ensures, c .before .before .before .before .before .before .before .before .before .before .before .before .before .inputs .ensures, c .before .before .before .before .before .before .before .before .before .before .before .before .begin .ensures, c .before .before .before .before .before .before .before .before .before .before .before .limit .ensures, c .before .before .before .before .before .before .before .before .before .copy-entries .ensures, e)
-    (closing (c .before .before .before .before .before .before .before .before .before .before .before .before .before .before .before .before .args .g) (c .before .before .before .before .before .before .before .before .before .before .before .before .before .before .before .before .args .s .now) (c .before .before .before .before .before .before .before .before .before .before .before .before .before .before .before .before .args .used .now) (c .before .before .before .before .before .before .before .before .before .before .before .before .before .before .before .before .args .out .now) (c .before .before .before .before .before .before .before .before .before .before .before .before .before .before .before .before .args .xs .now) (c .before .before .before .before .before .before .before .before .before .before .before .before .before .before .before .before .args .ys .now) (c .before .before .before .before .before .before .before .before .before .before .before .before .before .before .before .before .args .parts) (c .before .before .before .before .before .before .before .before .before .before .before .before .before .before .before .before .args .cursor) (c .before .before .before .before .before .before .before .before .before .before .before .before .before .before .before .before .pre))
+    let a = c .before .before .before .before .before .before .before .before .before .before .before .before .before .before .before .before .args in
+    rw (c .before .before .before .before .before .stream .ensures, c .before .before .before .before .before .before .before .before .before .before .before .before .before .before .of .ensures, c .before .before .before .before .before .before .before .before .before .before .before .before .before .inputs .ensures, c .before .before .before .before .before .before .before .before .before .before .before .before .begin .ensures, c .before .before .before .before .before .before .before .before .before .before .before .limit .ensures, c .before .before .before .before .before .before .before .before .before .copy-entries .ensures) (closing (a .g) (a .s .now) (a .used .now) (a .out .now) (a .xs .now) (a .ys .now) (a .parts) (a .cursor) (c .before .before .before .before .before .before .before .before .before .before .before .before .before .before .before .before .pre))
 
 same-length : tie.Need-same-length
 same-length c = search needs
 
 returns : tie.Need-returns
 returns c =
-    let e : c .before .before .before .before .before .before .before .before .before .before .before .before .before .before .before .before .before .before .before .args .parts .y - 0 ≡ c .before .before .before .before .before .before .before .before .before .before .before .before .before .before .before .before .before .before .before .args .parts .y = omega arith in
-    leaves-in (c .before .before .before .before .before .before .before .before .before .before .before .before .before .before .before .before .before .before .before .args .g) (c .before .before .before .before .before .before .before .before .before .before .before .before .before .before .before .before .before .before .before .args .s .now) (c .before .before .before .before .before .before .before .before .before .before .before .before .before .before .before .before .before .before .before .args .used .now) (c .before .before .before .before .before .before .before .before .before .before .before .before .before .before .before .before .before .before .before .args .out .now) (c .before .before .before .before .before .before .before .before .before .before .before .before .before .before .before .before .before .before .before .args .xs .now) (c .before .before .before .before .before .before .before .before .before .before .before .before .before .before .before .before .before .before .before .args .ys .now) (c .before .before .before .before .before .before .before .before .before .before .before .before .before .before .before .before .before .before .before .args .parts) (c .before .before .before .before .before .before .before .before .before .before .before .before .before .before .before .before .before .before .before .args .cursor) (c .before .before .before .before .before .before .before .before .before .before .before .before .before .before .before .before .before .before .before .pre) _
-    (c .before .before .close .ensures ∙ rw (c .before .before .before .before .before .before .before .before .stream .ensures, c .before .before .before .before .before .before .before .before .before .before .before .before .before .before .before .before .before .of .ensures, c .before .before .before .before .before .before .before .before .before .before .before .before .before .before .before .before .inputs .ensures, c .before .before .before .before .before .before .before .before .before .before .before .before .before .before .before .begin .ensures, c .before .before .before .before .before .before .before .before .before .before .before .before .before .before .limit .ensures, c .before .before .before .before .before .before .before .before .before .before .before .before .copy-entries .ensures, e))
+    let a = c .before .before .before .before .before .before .before .before .before .before .before .before .before .before .before .before .before .before .before .args in
+    leaves-in (a .g) (a .s .now) (a .used .now) (a .out .now) (a .xs .now) (a .ys .now) (a .parts) (a .cursor) (c .before .before .before .before .before .before .before .before .before .before .before .before .before .before .before .before .before .before .before .pre) _
+    (c .before .before .close .ensures ∙ rw (c .before .before .before .before .before .before .before .before .stream .ensures, c .before .before .before .before .before .before .before .before .before .before .before .before .before .before .before .before .before .of .ensures, c .before .before .before .before .before .before .before .before .before .before .before .before .before .before .before .before .inputs .ensures, c .before .before .before .before .before .before .before .before .before .before .before .before .before .before .before .begin .ensures, c .before .before .before .before .before .before .before .before .before .before .before .before .before .before .limit .ensures, c .before .before .before .before .before .before .before .before .before .before .before .before .copy-entries .ensures))
 
 pub merge-blocks-spec : {M : Type 1} → statement M
 merge-blocks-spec =

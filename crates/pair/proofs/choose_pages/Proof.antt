@@ -25,7 +25,7 @@ slice-aggregate-pick-2 c = search needs
 
 pick-requires : tie.Need-pick-requires
 pick-requires c κs =
-    let p = c .before .before .before .before .before .before .before .before .pre in
+    let p = c .before .before .before .before .before .before .before .before .before .pre in
     let k = p .1 .1 .1 .1 .0 in
     let b = p .0 .ranged .b-low in
     let e = c .before .before .before .before .fence-pages .ensures in
@@ -33,7 +33,7 @@ pick-requires c κs =
 
 returns : tie.Need-returns
 returns c =
-    let p = c .before .before .before .before .before .before .before .before .before .pre in
+    let p = c .before .before .before .before .before .before .before .before .before .before .pre in
     let b = p .0 .ranged .b-low in
     let e = c .before .before .before .before .before .fence-pages .ensures in
     c .pick .ensures _ (paged-are _ _ _ (omega arith) (p .1 .1 .1 .1 .0) _ _ _ _ (e .0) (e .1))

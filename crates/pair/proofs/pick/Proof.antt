@@ -15,12 +15,7 @@ slice-aggregate-fence-blocks-2 : tie.Need-slice-aggregate-fence-blocks-2
 slice-aggregate-fence-blocks-2 c = search needs
 
 fence-blocks-requires : tie.Need-fence-blocks-requires
-fence-blocks-requires c κs =
-    let p = c .before .before .before .before .before .before .pre in
-    let k = p .1 .1 .1 .1 .1 in
-    let l = k .long in
-    let h = k .high in
-    (p .0, (p .1 .0, (omega arith, (h, (h, k .read)))))
+fence-blocks-requires c κs = search needs
 
 slice-aggregate-choose-run : tie.Need-slice-aggregate-choose-run
 slice-aggregate-choose-run c = search needs
@@ -33,13 +28,12 @@ choose-run-requires c κs =
     let p = c .before .before .before .before .before .before .before .before .before .before .before .pre in
     let k = p .1 .1 .1 .1 .1 in
     let e = c .before .before .before .before .fence-blocks .ensures in
-    (p .1 .1 .0, (p .1 .1 .1 .0, (p .1 .1 .1 .1 .0, listed-fenced _ _ _ _ k _ _ _ _ (e .0) (e .1) (omega (arith, c .before .before .before .before .fence-blocks .kept, k .high)) (omega (arith, c .before .before .before .before .fence-blocks .kept, k .high)))))
+    (p .1 .1 .0, (p .1 .1 .1 .0, (p .1 .1 .1 .1 .0, listed-fenced _ _ _ k _ _ _ _ (e .0) (e .1) (omega (arith, c .before .before .before .before .fence-blocks .kept, k .high)) (omega (arith, c .before .before .before .before .fence-blocks .kept, k .high)))))
 
 returns : tie.Need-returns
 returns c =
-    let p = c .before .before .before .before .before .before .before .before .before .before .before .before .pre in
     let e = c .before .before .before .before .before .fence-blocks .ensures in
-    λ above q. picked _ _ _ _ _ _ _ _ (c .choose-run .ensures) above _ q (listed-are _ _ _ _ (p .1 .1 .1 .1 .1) _ _ _ _ (e .0) (e .1))
+    λ above q. picked _ _ _ _ _ _ _ _ (c .choose-run .ensures) above _ q (listed-are _ _ _ (c .before .before .before .before .before .before .before .before .before .before .before .before .pre .1 .1 .1 .1 .1) _ _ _ _ (e .0) (e .1))
 
 pub pick-spec : {M : Type 1} → statement M
 pick-spec =
