@@ -2,7 +2,7 @@
 use Prim.Native.Nat.{ℕ, zero, suc, _+_, _-_, _*_, _≤_, _<_}
 use mathlib.Core.Path.{_≡_, sym, ap, _∙_, refl}
 use mathlib.Core.Bool.{Bool, true, false, true≢false}
-use mathlib.Core.List.{List, []}
+use mathlib.Core.List.{List}
 use mathlib.Core.Logic.{dite}
 use native.Mathlib.Decide.{decLt}
 use native.Mathlib.Nat.{mul-le-mul}
@@ -11,28 +11,29 @@ use native.Mathlib.Omega.{arith}
 use borrow.Author.Tests.{lt-ltb, le-ltb, le-leb, lt-leb}
 use lib.Arith.{digits-lt}
 use lib.ListN.{length, getD, set}
-use Rattle.geometry.specs.declared.Geometry.{Geometry}
-use Rattle.geometry.specs.Geometry.{Valid, topCapacityOf, blockWidth, placeStart, storeLength}
-use Rattle.geometry.proofs.Laws.{marks-end, keys-end, pays-end, lists-apart, list-inside, store-length-high}
+use Rattle.geometry.specs.Geometry.{topCapacityOf, blockWidth}
+use Rattle.layout.specs.declared.Layout.{Layout}
+use Rattle.layout.specs.Layouts.{placeStart, Fitted}
+use Rattle.layout.proofs.Laws.{marks-before, keys-before, pays-before, places-before}
 use Rattle.levels.specs.Place.{after}
 use Rattle.levels.proofs.FirstFree.{after-inside}
-use Rattle.blocks.specs.declared.Layout.{Layout}
-use Rattle.blocks.specs.Blocks.{Sized, layoutOf, startOf, afterBy, Free, SomeFree, freeMark, nextMark, marked}
+use Rattle.blocks.specs.declared.Offsets.{Offsets}
+use Rattle.blocks.specs.Blocks.{Sized, offsetsOf, startOf, afterBy, Free, SomeFree, freeMark, nextMark, marked}
 
--- a place starts where the geometry says
-pub start-place : (g : Geometry) (q : ℕ) → startOf (layoutOf g) q ≡ placeStart g q
+-- a place starts where the layout says
+pub start-place : (z : Layout) (q : ℕ) → startOf (offsetsOf z) q ≡ placeStart z q
 unfolding startOf placeStart blockWidth
-start-place g q = refl
+start-place z q = refl
 
 pub start-high : (b place : ℕ) → b ≤ 16 → place ≤ 8192 → place * (2 + 2 * b) ≤ 278528
 start-high b place h l = mul-le-mul l (let z : 2 + 2 * b ≤ 34 = omega arith in z)
 
 -- a word of a place lies in the store
-pub in-store : (z : Layout) (xs : List ℕ) → Sized z xs → (place j : ℕ) → place < z .p → j < 2 + 2 * z .b → startOf z place + j < length xs
+pub in-store : (z : Offsets) (xs : List ℕ) → Sized z xs → (place j : ℕ) → place < z .p → j < 2 + 2 * z .b → startOf z place + j < length xs
 unfolding startOf
 in-store z xs k place j h l = let d = digits-lt h l in let e = k .words in omega arith
 
-pub ends : (z : Layout) (xs : List ℕ) → Sized z xs → (place : ℕ) → place < z .p → startOf z place + (2 + 2 * z .b) ≤ length xs
+pub ends : (z : Offsets) (xs : List ℕ) → Sized z xs → (place : ℕ) → place < z .p → startOf z place + (2 + 2 * z .b) ≤ length xs
 ends z xs k place h = let l = in-store z xs k place (1 + 2 * z .b) h (omega arith) in omega arith
 
 pub marked-more : (used : List Bool) (list : List ℕ) (i : ℕ) → set (marked used list i) (getD list i 0) true ≡ marked used list (i + 1)
@@ -137,23 +138,19 @@ free-low (suc n) p used q h = go (getD used (after p q) false) refl (free-low n 
     go true e ih = rw (e, freeMark) ih
     go false e ih = rw (e, freeMark) (after-inside p q (omega arith))
 
--- a store of a legal geometry's length has its layout
-pub sized-of : (g : Geometry) (xs : List ℕ) → Valid g → length xs ≡ storeLength g → Sized (layoutOf g) xs
-unfolding storeLength placeStart blockWidth topCapacityOf
-sized-of g xs v e =
-    let k = v .ranged in
-    let a = marks-end g in
-    let b = keys-end g in
-    let c = pays-end g in
-    let d = lists-apart g {i = 1} {j = g .h} in
-    let i = list-inside g {i = 1} (omega arith) (k .h-low) in
+-- words of a proper layout's length have its offsets
+pub sized-of : (z : Layout) (xs : List ℕ) → Fitted z xs → Sized (offsetsOf z) xs
+unfolding blockWidth topCapacityOf
+sized-of z xs f =
+    let k = f .proper in
+    let r = k .valid .ranged in
     record {
-      b-low = k .b-low;
-      b-high = k .b-high;
-      places = v .places-high;
-      base-high = omega (arith, store-length-high g v);
-      marks-end = omega arith;
-      keys-end = omega arith;
-      pays-end = omega arith;
-      words = e;
+      b-low = r .b-low;
+      b-high = r .b-high;
+      places = k .valid .places-high;
+      base-high = omega (arith, places-before z k, k .short);
+      marks-end = marks-before z k;
+      keys-end = keys-before z k;
+      pays-end = pays-before z k;
+      words = f .words ∙ k .long;
     }

@@ -2,29 +2,29 @@
 use Prim.Native.Nat.{ℕ, zero, suc, _+_, _-_, _*_, _^_, _≤_, _<_}
 use mathlib.Core.Path.{_≡_}
 use mathlib.Core.Bool.{Bool, true, false}
-use mathlib.Core.List.{List, [], _∷_, _++_}
+use mathlib.Core.List.{List, _∷_, _++_}
 use mathlib.Core.Option.{some}
 use lib.Dec.{ltb}
 use lib.ListN.{getD, set, length, replicate, take}
 use lib.Seq.{sets}
-use Rattle.geometry.specs.declared.Geometry.{Geometry}
-use Rattle.geometry.specs.Geometry.{capacityOf, marksStart, keysStart, paysStart, placesStart}
+use Rattle.geometry.specs.Geometry.{capacityOf}
 use Rattle.geometry.specs.Room.{placesMost}
 use Rattle.levels.specs.Basics.{if_then_else_, member}
 use Rattle.levels.specs.Record.{Rec}
 use Rattle.levels.specs.Place.{after}
-use Rattle.words.specs.Layout.{pad, keysOf, paysOf, markWord, areaOf, writeBlock}
-use Rattle.blocks.specs.declared.Layout.{Layout}
+use Rattle.layout.specs.declared.Layout.{Layout}
+use Rattle.pieces.specs.Pieces.{lay}
+use Rattle.words.specs.Stores.{pad, keysOf, paysOf, markWord, blockPiece}
+use Rattle.blocks.specs.declared.Offsets.{Offsets}
 use Rattle.blocks.specs.declared.Buffer.{Buffer}
 
--- the numbers of a geometry that a merge reads at every step
-abbrev pub layoutOf : Geometry → Layout
-layoutOf g =
-    record { b = g .b; p = g .p; top = capacityOf g 0; marks = marksStart g; keys = keysStart g; pays = paysStart g; base = placesStart g }
+-- the numbers of a layout that a merge reads at every step
+abbrev pub offsetsOf : Layout → Offsets
+offsetsOf z = record { b = z .geo .b; p = z .geo .p; top = capacityOf (z .geo) 0; marks = z .marks; keys = z .keys; pays = z .pays; base = z .places }
 
--- A store of this layout: its places end it, and level 0 lies before them. No store has a million words before its places, so the
--- offsets fit their type.
-pub record Sized (z : Layout) (xs : List ℕ) : Type 0 where
+-- Words of these offsets: the places end them, and level 0 lies before the places. No store has a million words before its places, so
+-- the offsets fit their type.
+pub record Sized (z : Offsets) (xs : List ℕ) : Type 0 where
   pub b-low : 2 ≤ z .b
   pub b-high : z .b ≤ 16
   pub places : z .p ≤ placesMost
@@ -35,7 +35,7 @@ pub record Sized (z : Layout) (xs : List ℕ) : Type 0 where
   pub words : length xs ≡ z .base + z .p * (2 + 2 * z .b)
 
 -- the first word of a place
-unfoldable pub startOf : Layout → ℕ → ℕ
+unfoldable pub startOf : Offsets → ℕ → ℕ
 startOf z place = z .base + place * (2 + 2 * z .b)
 
 -- the place k steps after the cursor, going round at p
@@ -82,14 +82,14 @@ unfoldable pub bufferOf : List Rec → Buffer
 bufferOf rs = record { keys = pad 16 (keysOf rs); pays = pad 16 (paysOf rs); marks = markWord rs; n = length rs }
 
 -- count, mark word, keys and payloads of a buffer, stored over the words of a place
-unfoldable pub written : Layout → List ℕ → ℕ → Buffer → List ℕ
+unfoldable pub written : Offsets → List ℕ → ℕ → Buffer → List ℕ
 written z xs place buf = sets xs (startOf z place) (buf .n ∷ buf .marks ∷ (take (z .b) (buf .keys) ++ take (z .b) (buf .pays)))
 
--- the whole store after a block of these records has been written at a place: no word before the places changes
-abbrev pub withBlock : Geometry → List ℕ → ℕ → List Rec → List ℕ
-withBlock g ws place rs = take (placesStart g) ws ++ writeBlock g (areaOf g ws) (record { place = some place; recs = rs })
+-- the whole store after a block of these records has been written at a place
+abbrev pub withBlock : Layout → List ℕ → ℕ → List Rec → List ℕ
+withBlock z ws place rs = lay (blockPiece z (record { place = some place; recs = rs })) ws
 
 -- what a write says in records: whenever the buffer holds rs, the place holds a block of rs afterwards
-abbrev pub WritesRecords : Layout → List ℕ → ℕ → Buffer → List ℕ → Type 0
-WritesRecords z xs place buf ys =
-    (g : Geometry) → z ≡ layoutOf g → (rs : List Rec) → buf ≡ bufferOf rs → length rs ≤ g .b → ys ≡ withBlock g xs place rs
+abbrev pub WritesRecords : Offsets → List ℕ → ℕ → Buffer → List ℕ → Type 0
+WritesRecords o xs place buf ys =
+    (z : Layout) → o ≡ offsetsOf z → (rs : List Rec) → buf ≡ bufferOf rs → length rs ≤ z .geo .b → ys ≡ withBlock z xs place rs

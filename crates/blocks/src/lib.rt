@@ -1,22 +1,23 @@
-// Places of blocks: the offsets of a geometry, the first free place after the cursor, the marks of
+// Places of blocks: the few offsets of a layout that a merge reads, the first free place after the cursor, the marks of
 // places in use, the buffer that gathers the records of a block, and the writing of a block.
 
 ghost use mathlib.Core.Path.{_≡_};
 ghost use Prim.Native.Nat.{ℕ, _+_, _-_, _*_, _^_, _≤_, _<_};
 ghost use lib.ListN.{getD, length};
-ghost use Rattle.geometry.specs.Geometry.{Valid};
+ghost use Rattle.layout.specs.Layouts.{Proper};
 ghost use Rattle.geometry.specs.Room.{placesMost};
-ghost use Rattle.blocks.specs.Blocks.{Sized, layoutOf, startOf, afterBy, SomeFree, nextMark, marked, pushed, emptyBuffer, written, WritesRecords};
+ghost use Rattle.blocks.specs.Blocks.{Sized, offsetsOf, startOf, afterBy, SomeFree, nextMark, marked, pushed, emptyBuffer, written, WritesRecords};
 use geometry::Geometry;
+use layout::Layout;
 
 // A mark for each place that a geometry may have, and room for a level's place list, for the crates that know no geometry.
 pub const PLACES: usize = Geometry::MAX_P;
 
 pub const LIST_ROOM: usize = Geometry::LIST_ROOM;
 
-// What a merge reads of the geometry at every step, computed once: B, P, K(0), and where level 0's
-// mark words, keys and payloads and place 0 start.
-pub struct Layout {
+// What a merge reads of the layout at every step: B, P, K(0), and where level 0's mark words, keys and payloads and place 0 start.
+// Few numbers, since the hot loops hand them on from function to function.
+pub struct Offsets {
     pub b: usize,
     pub p: usize,
     pub top: usize,
@@ -34,20 +35,20 @@ pub struct Buffer {
     pub n: usize,
 }
 
-impl Layout {
-    // Once a merge: the geometry's offsets are sums of powers, too dear for every record.
-    pub fn of(g: Geometry) -> Layout
-        requires { ⌜ Valid g ⌝ }
-        ensures { λ r. ⌜ r ≡ layoutOf g ⌝ }
+impl Offsets {
+    pub fn of(z: Layout) -> Offsets
+        requires { ⌜ Proper z ⌝ }
+        ensures { λ r. ⌜ r ≡ offsetsOf z ⌝ }
     {
-        Layout {
+        let g = z.geo;
+        Offsets {
             b: g.block_records(),
             p: g.places(),
             top: g.capacity(0),
-            marks: g.marks_start(),
-            keys: g.keys_start(),
-            pays: g.pays_start(),
-            base: g.places_start(),
+            marks: z.marks,
+            keys: z.keys,
+            pays: z.pays,
+            base: z.places,
         }
     }
 }
@@ -80,7 +81,7 @@ impl Buffer {
 }
 
 // The first word of a place. A million is more than any offset: no store is longer than 288,524 words.
-pub fn place_start(z: Layout, place: usize) -> usize
+pub fn place_start(z: Offsets, place: usize) -> usize
     requires { ⌜ (z .b ≤ 16) × (z .base ≤ 1000000) × (place ≤ placesMost) ⌝ }
     ensures { λ r. ⌜ r ≡ startOf z place ⌝ }
 {
@@ -129,7 +130,7 @@ pub fn mark_listed(used: &mut [bool; Geometry::MAX_P], list: &[u32])
 
 // The buffer's count, mark word, keys and payloads, at a place; unused slots are 0 in the buffer
 // already, so the place's whole width is filled.
-pub fn write_block(s: &mut [u32], z: Layout, place: usize, buf: Buffer)
+pub fn write_block(s: &mut [u32], z: Offsets, place: usize, buf: Buffer)
     requires { ⌜ Sized z (now s) × (place < z .p) × (buf .n ≤ 16) ⌝ }
     ensures { λ _. ⌜ (now (s .exit) ≡ written z (now (s .entry)) place buf)
         × WritesRecords z (now (s .entry)) place buf (now (s .exit)) ⌝ }

@@ -8,12 +8,13 @@ ghost use Rattle.geometry.specs.Geometry.{Ranged};
 ghost use Rattle.levels.specs.Store.{Store};
 ghost use Rattle.levels.specs.Call.{afterMerges, mergesBelow, mergesFrom};
 ghost use Rattle.levels.specs.Tickets.{ticketsOf, laid};
-ghost use Rattle.words.specs.Layout.{storeAt};
+ghost use Rattle.words.specs.Stores.{storeAt};
 ghost use Rattle.words.specs.Calls.{writtenBlocks};
 ghost use Rattle.words.specs.Rows.{rowOf, rowsOf, laidFrom};
 ghost use Rattle.steps.specs.Running.{storeOf, Leaving};
 ghost use Rattle.cascade.specs.Cascade.{deepestFor, Rolling, listCounts, FullStore, Loaded, MergedAll, loadMost};
 use geometry::Geometry;
+use layout::Layout;
 use levels::Ticket;
 use steps::Counts;
 use steps::Run;
@@ -50,24 +51,24 @@ fn file_row(rows: &mut [[u32; 4]], i: usize, x: Ticket)
 fn merge_below(
     s: &mut [u32],
     lists: &mut [u32; Geometry::LIST_ROOM],
-    g: Geometry,
+    z: Layout,
     r: Run,
     rows: &mut [[u32; 4]],
 ) -> Run
-    requires { ⌜ Rolling loadMost g (now s) (now lists) r ⌝ }
-    ensures { λ u. ⌜ ((t : Store) → t ≡ storeOf g (now (s .entry)) (now (lists .entry)) r
-        → Leaving g (afterMerges t (mergesBelow loadMost g t)) (writtenBlocks (mergesBelow loadMost g t)) (listCounts (mergesBelow loadMost g t)) (now (s .entry)) r (now (s .exit)) (now (lists .exit)) u
-        × (now (rows .exit) ≡ laidFrom 1 (rowsOf (ticketsOf g (mergesBelow loadMost g t))) (now (rows .entry)))) ⌝ }
+    requires { ⌜ Rolling loadMost z (now s) (now lists) r ⌝ }
+    ensures { λ u. ⌜ ((t : Store) → t ≡ storeOf z (now (s .entry)) (now (lists .entry)) r
+        → Leaving z (afterMerges t (mergesBelow loadMost (z .geo) t)) (writtenBlocks (mergesBelow loadMost (z .geo) t)) (listCounts (mergesBelow loadMost (z .geo) t)) (now (s .entry)) r (now (s .exit)) (now (lists .exit)) u
+        × (now (rows .exit) ≡ laidFrom 1 (rowsOf (ticketsOf (z .geo) (mergesBelow loadMost (z .geo) t))) (now (rows .entry)))) ⌝ }
 {
     let mut v = r;
     let mut filed: usize = 1;
     loop {
         let ns = v.ns;
-        let level = deepest(g, ns);
+        let level = deepest(z.geo, ns);
         if level == 0 {
             break v;
         }
-        let merged = steps::merge_step(s, lists, g, level, v);
+        let merged = steps::merge_step(s, lists, z, level, v);
         let ticket = merged.ticket;
         file_row(rows, filed, ticket);
         filed = filed + 1;
@@ -76,12 +77,13 @@ fn merge_below(
 }
 
 // The lists taken out of the words, with no merge counted yet.
-fn load_run(s: &[u32], g: Geometry, lists: &mut [u32; Geometry::LIST_ROOM]) -> Run
-    requires { ⌜ FullStore g (now s) × (length (now lists) ≡ listRoom) ⌝ }
-    ensures { λ r. ⌜ Loaded g (now (s .entry)) (now (lists .exit)) r ⌝ }
+fn load_run(s: &[u32], z: Layout, lists: &mut [u32; Geometry::LIST_ROOM]) -> Run
+    requires { ⌜ FullStore z (now s) × (length (now lists) ≡ listRoom) ⌝ }
+    ensures { λ r. ⌜ Loaded z (now (s .entry)) (now (lists .exit)) r ⌝ }
 {
-    let ns = lists::load(s, g, lists);
-    let cursor = s[7] as usize;
+    let ns = lists::load(s, z, lists);
+    let hand = z.hand;
+    let cursor = s[hand] as usize;
     let none = Counts {
         merges: 0,
         written: 0,
@@ -100,20 +102,20 @@ fn load_run(s: &[u32], g: Geometry, lists: &mut [u32; Geometry::LIST_ROOM]) -> R
 }
 
 // All merges of a call whose level 0 is full, and their tickets, as many as there are rows.
-pub fn merge_all(s: &mut [u32], g: Geometry, rows: &mut [[u32; 4]]) -> Tally
-    requires { ⌜ FullStore g (now s) ⌝ }
-    ensures { λ r. ⌜ MergedAll g (now (s .entry)) (now (s .exit)) r
-        × (now (rows .exit) ≡ laid (rowsOf (ticketsOf g (mergesFrom g (storeAt g (now (s .entry)))))) (now (rows .entry))) ⌝ }
+pub fn merge_all(s: &mut [u32], z: Layout, rows: &mut [[u32; 4]]) -> Tally
+    requires { ⌜ FullStore z (now s) ⌝ }
+    ensures { λ r. ⌜ MergedAll z (now (s .entry)) (now (s .exit)) r
+        × (now (rows .exit) ≡ laid (rowsOf (ticketsOf (z .geo) (mergesFrom (z .geo) (storeAt z (now (s .entry)))))) (now (rows .entry))) ⌝ }
 {
     let mut lists = [0u32; Geometry::LIST_ROOM];
-    let r = load_run(s, g, &mut lists);
-    let merged = steps::merge_step(s, &mut lists, g, 0, r);
+    let r = load_run(s, z, &mut lists);
+    let merged = steps::merge_step(s, &mut lists, z, 0, r);
     let ticket = merged.ticket;
     file_row(rows, 0, ticket);
     let a = merged.run;
-    let v = merge_below(s, &mut lists, g, a, rows);
+    let v = merge_below(s, &mut lists, z, a, rows);
     let counts = v.ns;
-    lists::store_back(s, g, &lists, counts, v.cursor);
+    lists::store_back(s, z, &lists, counts, v.cursor);
     let tally = v.tally;
     tally
 }

@@ -9,7 +9,7 @@ use borrow.Author.Tests.{le-leb, lt-leb, eq-eqb, ne-eqb}
 use lib.Dec.{leb, eqb}
 use Rattle.levels.specs.Basics.{if_then_else_}
 use Rattle.levels.specs.Record.{Rec, rising, cleanTombstones}
-use Rattle.words.specs.Layout.{word, slotsAt}
+use Rattle.words.specs.Stores.{word, slotsAt}
 use Rattle.words.proofs.Slots.{shift-suc}
 use Rattle.chunks.specs.declared.Rise.{Rise}
 use Rattle.chunks.specs.declared.Rise.the-variants.{To, Broken}

@@ -8,13 +8,12 @@ use native.Mathlib.Nat.{mul-le-mul}
 use native.Mathlib.Omega.{arith}
 use lib.ListN.{length, getD, length-append, length-map}
 use lib.Seq.{take-all}
-use Rattle.geometry.specs.declared.Geometry.{Geometry}
 use Rattle.levels.specs.Record.{Rec, Block, records}
 use Rattle.levels.specs.Waste.{wasteful, needsCompact}
 use Rattle.levels.proofs.Levels.{records-append}
-use Rattle.words.specs.Layout.{blockAt, recordCount}
-use Rattle.blocks.specs.declared.Layout.{Layout}
-use Rattle.blocks.specs.Blocks.{layoutOf, startOf}
+use Rattle.words.specs.Stores.{blockAt, recordCount}
+use Rattle.blocks.specs.declared.Offsets.{Offsets}
+use Rattle.blocks.specs.Blocks.{offsetsOf, startOf}
 use Rattle.blocks.proofs.Laws.{sized-of, start-place}
 use Rattle.sides.specs.Sides.{blockChunk}
 use Rattle.merging.proofs.Blocks.{recsFrom, countAt, storedAt, blocks}
@@ -22,12 +21,13 @@ use Rattle.merging.proofs.Heads.{recs-length}
 use Rattle.merging.proofs.Begin.{no-blocks, blocks-snoc}
 use Rattle.merging.proofs.Decode.{blocks-listed}
 use Rattle.compaction.specs.Machine.{recordSum, Summable, Countable}
+use Rattle.layout.specs.declared.Layout.{Layout}
 
 -- the records of the first i listed blocks
-abbrev pub listedRecords : Layout → List ℕ → List ℕ → ℕ → List Rec
+abbrev pub listedRecords : Offsets → List ℕ → List ℕ → ℕ → List Rec
 listedRecords z ws list i = records (blocks z false ws list 0 i)
 
-module _ (z : Layout) (ws list : List ℕ) where
+module _ (z : Offsets) (ws list : List ℕ) where
   pub no-records : listedRecords z ws list 0 ≡ []
   no-records = ap records (no-blocks z ws list)
 
@@ -56,20 +56,20 @@ module _ (z : Layout) (ws list : List ℕ) where
   sum-high (suc n) f = omega (arith, sum-high n (λ i h. f i (omega arith)), f n (omega arith))
 
 -- the blocks that the machine reads are the store's
-pub all-blocks : (g : Geometry) (ws list : List ℕ) → ((i : ℕ) → i < length list → recordCount g ws (getD list i 0) ≤ g .b) → blocks (layoutOf g) false ws list 0 (length list) ≡ map (blockAt g ws) list
-all-blocks g ws list f = blocks-listed g ws list 0 (length list) (omega arith) (λ i h. f i (omega arith)) ∙ ap (map (blockAt g ws)) (take-all (length list) list (omega arith))
+pub all-blocks : (z : Layout) (ws list : List ℕ) → ((i : ℕ) → i < length list → recordCount z ws (getD list i 0) ≤ z .geo .b) → blocks (offsetsOf z) false ws list 0 (length list) ≡ map (blockAt z ws) list
+all-blocks z ws list f = blocks-listed z ws list 0 (length list) (omega arith) (λ i h. f i (omega arith)) ∙ ap (map (blockAt z ws)) (take-all (length list) list (omega arith))
 
 -- each sum on the way is small: 2,048 blocks of at most 16 records
-pub sum-low : (z : Layout) (ws list : List ℕ) → Summable z ws list → (i : ℕ) → i < length list → recordSum z ws list i + getD ws (startOf z (getD list i 0)) 0 ≤ 32784
+pub sum-low : (z : Offsets) (ws list : List ℕ) → Summable z ws list → (i : ℕ) → i < length list → recordSum z ws list i + getD ws (startOf z (getD list i 0)) 0 ≤ 32784
 sum-low z ws list k i h =
     let few = k .few in
     let m : i ≤ 2048 = omega arith in
     omega (arith, sum-high z ws list i (λ j l. k .high j (omega arith)), mul-le-mul m (k .sized .b-high), k .high i h)
 
-module _ (g : Geometry) (ws list : List ℕ) (k : Countable g ws list) where
-  pub summable : Summable (layoutOf g) ws list
-  summable = record { sized = sized-of g ws (k .valid) (k .words); few = k .few; place = k .place; high = λ i h. rw (start-place g (getD list i 0)) (k .high i h) }
+module _ (z : Layout) (ws list : List ℕ) (k : Countable z ws list) where
+  pub summable : Summable (offsetsOf z) ws list
+  summable = record { sized = sized-of z ws (record { proper = k .proper; words = k .words }); few = k .few; place = k .place; high = λ i h. rw (start-place z (getD list i 0)) (k .high i h) }
 
   -- the level rule, of the blocks' number and that of their records
-  pub needs-is : wasteful (g .b) (length list) (recordSum (layoutOf g) ws list (length list)) ≡ needsCompact (g .b) (map (blockAt g ws) list)
-  needs-is = rw (length-map list (blockAt g ws), sum-records (layoutOf g) ws list (length list), all-blocks g ws list (k .high))
+  pub needs-is : wasteful (z .geo .b) (length list) (recordSum (offsetsOf z) ws list (length list)) ≡ needsCompact (z .geo .b) (map (blockAt z ws) list)
+  needs-is = rw (length-map list (blockAt z ws), sum-records (offsetsOf z) ws list (length list), all-blocks z ws list (k .high))

@@ -8,7 +8,7 @@ use native.Mathlib.Omega.{arith}
 use lib.Dec.{eqb}
 use lib.ListN.{length, getD, length-append}
 use Rattle.levels.specs.Record.{Rec}
-use Rattle.blocks.specs.declared.Layout.{Layout}
+use Rattle.blocks.specs.declared.Offsets.{Offsets}
 use Rattle.blocks.specs.Blocks.{Sized, SomeFree, bufferOf}
 use Rattle.blocks.proofs.Laws.{free-found}
 use Rattle.sides.specs.declared.Chunk.{Chunk}
@@ -31,7 +31,7 @@ use Rattle.compaction.proofs.Packing.{nothing, kept, kept-snoc}
 use Rattle.words.proofs.Slots.{mark-small}
 
 -- memory a, after the records rs have been gathered from memory s on
-pub record Going (z : Layout) (s : Memory) (rs : List Rec) (a : Memory) : Type 0 where
+pub record Going (z : Offsets) (s : Memory) (rs : List Rec) (a : Memory) : Type 0 where
   pub sized : Sized z (a .words)
   pub full : length (a .out) ≡ 4096
   pub cursor : a .st .cursor < z .p
@@ -47,7 +47,7 @@ abbrev recOf : Head → Rec
 recOf h = record { key = h .key; tombstone = eqb (h .tombstone) 1; pay = h .pay }
 
 -- n blocks of at most B records are read, and there is a free place for each and one more
-module _ (z : Layout) (s : Memory) (n : ℕ) (few : n ≤ 2048) (free : countMarks (z .p) (s .used) + n < z .p) where
+module _ (z : Offsets) (s : Memory) (n : ℕ) (few : n ≤ 2048) (free : countMarks (z .p) (s .used) + n < z .p) where
   module _ (rs : List Rec) (a : Memory) (k : Going z s rs a) (le : length rs ≤ z .b * n) where
     buffer-few : a .st .buf .n < z .b
     unfolding bufferOf

@@ -7,14 +7,15 @@ ghost use lib.ListN.{length, getD};
 ghost use Rattle.levels.specs.Waste.{needsCompact};
 ghost use Rattle.levels.specs.Waste as waste;
 ghost use Rattle.levels.specs.Place.{Allocation, settle};
-ghost use Rattle.words.specs.Layout.{blockAt};
+ghost use Rattle.words.specs.Stores.{blockAt};
 ghost use Rattle.blocks.specs.Blocks.{Marks};
 ghost use Rattle.geometry.specs.Room.{listRoom};
 ghost use Rattle.stream.specs.Machine.{Memory};
 ghost use Rattle.merging.specs.Contract.{Leaves};
 ghost use Rattle.compaction.specs.Machine.{beginAt, chunkGathered, blocksGathered, Gathering, recordSum, Summable, Countable, Compactable};
-use blocks::Layout;
+use blocks::Offsets;
 use geometry::Geometry;
+use layout::Layout;
 use merging::Merged;
 use stream::Point;
 use stream::Progress;
@@ -25,7 +26,7 @@ fn gather_chunk(
     s: &mut [u32],
     used: &mut [bool; Geometry::MAX_P],
     out: &mut [u32; Geometry::LIST_ROOM],
-    z: Layout,
+    z: Offsets,
     st: Progress,
     q: usize,
 ) -> Progress
@@ -48,7 +49,7 @@ fn gather_blocks(
     used: &mut [bool; Geometry::MAX_P],
     out: &mut [u32; Geometry::LIST_ROOM],
     list: &[u32],
-    z: Layout,
+    z: Offsets,
     st: Progress,
 ) -> Progress
     requires { ⌜ ((i : ℕ) → i < length (now list) → Gathering z (getD (now list) i 0) (blocksGathered z (now list) i (record { words = now s; used = now used; out = now out; st = st }))) ⌝ }
@@ -88,17 +89,17 @@ pub fn compact(
     used: &mut [bool; Geometry::MAX_P],
     out: &mut [u32; Geometry::LIST_ROOM],
     list: &[u32],
-    g: Geometry,
+    z: Layout,
     cursor: usize,
 ) -> Merged
-    requires { ⌜ Compactable g (now s) (now used) (now list) cursor × (length (now out) ≡ listRoom) ⌝ }
+    requires { ⌜ Compactable z (now s) (now used) (now list) cursor × (length (now out) ≡ listRoom) ⌝ }
     ensures { λ r. ⌜ ((a : Allocation) → a .cursor ≡ cursor → Marks (now (used .entry)) (a .used)
-        → Leaves g (settle (g .p) a (waste.compact (g .b) (map (blockAt g (now (s .entry))) (now (list .entry))))) (now (s .entry)) (now (s .exit)) (now (used .exit)) (now (out .exit)) r) ⌝ }
+        → Leaves z (settle (z .geo .p) a (waste.compact (z .geo .b) (map (blockAt z (now (s .entry))) (now (list .entry))))) (now (s .entry)) (now (s .exit)) (now (used .exit)) (now (out .exit)) r) ⌝ }
 {
-    let z = Layout::of(g);
+    let o = Offsets::of(z);
     let st = begin(cursor);
-    let v = gather_blocks(s, used, out, list, z, st);
-    let r = stream::flush(s, used, out, z, v);
+    let v = gather_blocks(s, used, out, list, o, st);
+    let r = stream::flush(s, used, out, o, v);
     Merged {
         count: r.m,
         cursor: r.cursor,
@@ -107,7 +108,7 @@ pub fn compact(
 }
 
 // The records of the listed blocks.
-fn record_sum(s: &[u32], list: &[u32], z: Layout) -> usize
+fn record_sum(s: &[u32], list: &[u32], z: Offsets) -> usize
     requires { ⌜ Summable z (now s) (now list) ⌝ }
     ensures { λ r. ⌜ r ≡ recordSum z (now (s .entry)) (now (list .entry)) (length (now (list .entry))) ⌝ }
 {
@@ -122,13 +123,13 @@ fn record_sum(s: &[u32], list: &[u32], z: Layout) -> usize
 }
 
 // The level of the listed blocks needs compacting.
-pub fn needs_compacting(s: &[u32], list: &[u32], g: Geometry) -> bool
-    requires { ⌜ Countable g (now s) (now list) ⌝ }
-    ensures { λ r. ⌜ r ≡ needsCompact (g .b) (map (blockAt g (now (s .entry))) (now (list .entry))) ⌝ }
+pub fn needs_compacting(s: &[u32], list: &[u32], z: Layout) -> bool
+    requires { ⌜ Countable z (now s) (now list) ⌝ }
+    ensures { λ r. ⌜ r ≡ needsCompact (z .geo .b) (map (blockAt z (now (s .entry))) (now (list .entry))) ⌝ }
 {
-    let z = Layout::of(g);
-    let b = z.b;
+    let o = Offsets::of(z);
+    let b = o.b;
     let n = list.len();
-    let records = record_sum(s, list, z);
+    let records = record_sum(s, list, o);
     levels::is_wasteful(b, n, records)
 }

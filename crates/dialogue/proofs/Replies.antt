@@ -11,7 +11,8 @@ use lib.Seq.{take-at}
 use borrow.Author.Tests.{leb-true, le-leb, lt-leb}
 use Rattle.geometry.specs.declared.Geometry.{Geometry}
 use Rattle.geometry.specs.declared.Built.the-variants.{Legal, Broken}
-use Rattle.geometry.specs.Geometry.{Valid, isLegal, builtOf, storeLength, keyLimitOf}
+use Rattle.geometry.specs.Geometry.{Valid, isLegal, builtOf, keyLimitOf}
+use Rattle.layout.specs.Layouts.{old}
 use Rattle.geometry.proofs.Laws.{built-valid, built-broken, legal-valid, valid-legal}
 use Rattle.words.specs.Calls.{Outcome, FormatAnswer, formatWords, formatOf, lookUpOf}
 use Rattle.words.proofs.Reason.{size-none}
@@ -46,21 +47,21 @@ pub room-broken : (g : Geometry) → builtOf g ≡ Broken → Refused 2 ≡ room
 unfolding roomOf
 room-broken g e = rw (built-broken g e, roomOf)
 
-pub room-long : (g t : Geometry) → builtOf g ≡ Legal t → benchWords < storeLength t → Refused 3 ≡ roomOf g
+pub room-long : (g t : Geometry) → builtOf g ≡ Legal t → benchWords < old t .length → Refused 3 ≡ roomOf g
 unfolding roomOf
 room-long g t e h =
     let k = built-valid g t e in
     let u : isLegal g ≡ true = ap isLegal (k .0) ∙ valid-legal t (k .1) in
-    let z : leb (storeLength g) benchWords ≡ false = ap (λ (x : Geometry). leb (storeLength x) benchWords) (k .0) ∙ lt-leb (storeLength t) benchWords h in
+    let z : leb (old g .length) benchWords ≡ false = ap (λ (x : Geometry). leb (old x .length) benchWords) (k .0) ∙ lt-leb (old t .length) benchWords h in
     rw (u, roomOf, z, roomOf)
 
-pub room-words : (g t : Geometry) (m : ℕ) → builtOf g ≡ Legal t → m ≡ storeLength t → m ≤ benchWords → Words m ≡ roomOf g
+pub room-words : (g t : Geometry) (m : ℕ) → builtOf g ≡ Legal t → m ≡ old t .length → m ≤ benchWords → Words m ≡ roomOf g
 unfolding roomOf
 room-words g t m e q h =
     let k = built-valid g t e in
     let u : isLegal g ≡ true = ap isLegal (k .0) ∙ valid-legal t (k .1) in
-    let s : storeLength g ≡ m = ap storeLength (k .0) ∙ sym q in
-    let z : leb (storeLength g) benchWords ≡ true = le-leb (storeLength g) benchWords (omega arith) in
+    let s : old g .length ≡ m = ap (λ (x : Geometry). old x .length) (k .0) ∙ sym q in
+    let z : leb (old g .length) benchWords ≡ true = le-leb (old g .length) benchWords (omega arith) in
     rw (u, roomOf, z, roomOf, s)
 
 pub built-legal : (g t : Geometry) → builtOf g ≡ Legal t → Valid t
@@ -69,11 +70,11 @@ built-legal g t e = built-valid g t e .1
 -- what is said of a format that finds this room, and what is known of it then
 abbrev roomSaid : List ℕ → Geometry → Room → Said
 roomSaid ws g (Refused k) = record { store = ws; bytes = formatLine k 0 }
-roomSaid ws g (Words m) = record { store = formatWords g m; bytes = formatLine 0 (keyLimitOf g) }
+roomSaid ws g (Words m) = record { store = formatWords (old g); bytes = formatLine 0 (keyLimitOf g) }
 
 abbrev RoomFits : Geometry → Room → Type 0
 RoomFits g (Refused k) = Unit {0}
-RoomFits g (Words m) = Valid g × ((m ≡ storeLength g) × (m ≤ benchWords))
+RoomFits g (Words m) = Valid g × ((m ≡ old g .length) × (m ≤ benchWords))
 
 record Roomed (ws : List ℕ) (g : Geometry) (r : Room) : Type 0 where
   pub said : formatSaid ws g ≡ roomSaid ws g r
@@ -81,9 +82,9 @@ record Roomed (ws : List ℕ) (g : Geometry) (r : Room) : Type 0 where
 
 roomed : (ws : List ℕ) (g : Geometry) → Roomed ws g (roomOf g)
 unfolding formatSaid roomOf
-roomed ws g = go (isLegal g) refl (leb (storeLength g) benchWords) refl
+roomed ws g = go (isLegal g) refl (leb (old g .length) benchWords) refl
   where
-    go : (t : Bool) → isLegal g ≡ t → (u : Bool) → leb (storeLength g) benchWords ≡ u → Roomed ws g (roomOf g)
+    go : (t : Bool) → isLegal g ≡ t → (u : Bool) → leb (old g .length) benchWords ≡ u → Roomed ws g (roomOf g)
     go false e u f =
         let r : Refused 2 ≡ roomOf g = rw (e, roomOf) in
         subst (Roomed ws g) r (record { said = rw (e, formatSaid); fits = tt })
@@ -91,10 +92,10 @@ roomed ws g = go (isLegal g) refl (leb (storeLength g) benchWords) refl
         let r : Refused 3 ≡ roomOf g = rw (e, roomOf, f, roomOf) in
         subst (Roomed ws g) r (record { said = rw (e, formatSaid, f, formatSaid); fits = tt })
     go true e true f =
-        let r : Words (storeLength g) ≡ roomOf g = rw (e, roomOf, f, roomOf) in
+        let r : Words (old g .length) ≡ roomOf g = rw (e, roomOf, f, roomOf) in
         subst (Roomed ws g) r (record { said = rw (e, formatSaid, f, formatSaid); fits = (legal-valid g e, (refl, leb-true _ _ f)) })
 
-pub room-fits : (g : Geometry) (r : Room) (m : ℕ) → r ≡ roomOf g → r ≡ Words m → Valid g × ((m ≡ storeLength g) × (m ≤ benchWords))
+pub room-fits : (g : Geometry) (r : Room) (m : ℕ) → r ≡ roomOf g → r ≡ Words m → Valid g × ((m ≡ old g .length) × (m ≤ benchWords))
 room-fits g r m e f = subst (RoomFits g) (sym e ∙ f) (roomed [] g .fits)
 
 -- What has been printed for a line, in the words of the functions that print: no line is longer than the longest.
@@ -124,9 +125,9 @@ part-long n ws h = rw (sub-zero n, length-take n ws) (omega arith)
 pub part-room : (at t : ℕ) (rows : List (List ℕ)) (o : ℕ) → t ≤ length rows → at + longestAnswer t ≤ o → at + longestAnswer (length (take (t - 0) rows)) ≤ o
 part-room at t rows o h l = subst (λ (k : ℕ). at + longestAnswer k ≤ o) (sym (part-long t rows h)) l
 
-format-is : (g : Geometry) (ws : List ℕ) → Valid g → length ws ≡ storeLength g → formatOf ws g ≡ record { answer = record { reason = 0; limit = keyLimitOf g }; words = formatWords g (storeLength g) }
+format-is : (g : Geometry) (ws : List ℕ) → Valid g → length ws ≡ old g .length → formatOf ws g ≡ record { answer = record { reason = 0; limit = keyLimitOf g }; words = formatWords (old g) }
 unfolding formatOf
-format-is g ws v l = rw (size-none (length ws) g v l, formatOf, l)
+format-is g ws v l = rw (size-none (length ws) g v l, formatOf)
 
 -- A line answered, by what it says: at most t tickets are printed, the store is the first n words then, and the answer ends at place r.
 module _ (at t n r : ℕ) (f : Fed) (before after : List ℕ) (few : t ≤ ticketsMost) (low : n ≤ benchWords) (x : f ≡ answeredAs t n r) where
@@ -179,5 +180,5 @@ module _ (at t n r : ℕ) (f : Fed) (before after : List ℕ) (few : t ≤ ticke
         let i = v ∙ format-is z (take (n - 0) ws) (k .0) (j ∙ k .1 .0) in
         subst (λ (y : Line). Answers t (saidOf t (take o ws) y) at f (ys ++ rest) before after) (sym e)
         (subst (λ (c : Said). Answers t c at f (ys ++ rest) before after) (sym s)
-        (line-replied (record { store = formatWords z n; bytes = formatLine 0 (keyLimitOf z) }) (ys ++ rest) (formattedLine (formatAnswer a))
-        (take-at ys rest n (l ∙ j) ∙ ap (λ (y : Outcome FormatAnswer). y .words) i ∙ ap (formatWords z) (sym (k .1 .0))) (ap (λ (z : Outcome FormatAnswer). formattedLine (z .answer)) i) y))
+        (line-replied (record { store = formatWords (old z); bytes = formatLine 0 (keyLimitOf z) }) (ys ++ rest) (formattedLine (formatAnswer a))
+        (take-at ys rest n (l ∙ j) ∙ ap (λ (y : Outcome FormatAnswer). y .words) i) (ap (λ (z : Outcome FormatAnswer). formattedLine (z .answer)) i) y))

@@ -3,7 +3,8 @@ use Prim.Native.Nat.{ℕ}
 use mathlib.Core.Bool.{true, false}
 use lib.Dec.{leb}
 use Rattle.geometry.specs.declared.Geometry.{Geometry}
-use Rattle.geometry.specs.Geometry.{isLegal, storeLength}
+use Rattle.geometry.specs.Geometry.{isLegal}
+use Rattle.layout.specs.Layouts.{old}
 use Rattle.dialogue.specs.declared.Room.{Room}
 use Rattle.dialogue.specs.declared.Room.the-variants.{Words, Refused}
 
@@ -14,5 +15,5 @@ benchWords = 16384
 unfoldable pub roomOf : Geometry → Room
 roomOf g = elim (isLegal g) [
   | false ↦ Refused 2
-  | true ↦ elim (leb (storeLength g) benchWords) [ true ↦ Words (storeLength g) | false ↦ Refused 3 ]
+  | true ↦ elim (leb (old g .length) benchWords) [ true ↦ Words (old g .length) | false ↦ Refused 3 ]
 ]

@@ -5,9 +5,10 @@ use mathlib.Core.List.{List, [], _∷_, _++_}
 use lib.Dec.{leb}
 use lib.ListN.{take}
 use Rattle.geometry.specs.declared.Geometry.{Geometry}
-use Rattle.geometry.specs.Geometry.{isLegal, storeLength, keyLimitOf}
+use Rattle.geometry.specs.Geometry.{isLegal, keyLimitOf}
+use Rattle.layout.specs.Layouts.{old}
 use Rattle.levels.specs.declared.Ticket.{Ticket}
-use Rattle.words.specs.Layout.{bit}
+use Rattle.words.specs.Stores.{bit}
 use Rattle.words.specs.Calls.{Outcome, FormatAnswer, LookAnswer, ChangeAnswer, formatWords, lookUpOf, putOf, deleteOf, putTickets, deleteTickets}
 use Rattle.lines.specs.declared.Line.{Line}
 use Rattle.lines.specs.declared.Line.the-variants.{Format, Put, Delete, Get, Unreadable}
@@ -42,8 +43,8 @@ changedLine letter a = changeLine letter (a .reason) (bit (a .live)) (mergedSum 
 unfoldable pub formatSaid : List ℕ → Geometry → Said
 formatSaid ws g = elim (isLegal g) [
   | false ↦ record { store = ws; bytes = formatLine 2 0 }
-  | true ↦ elim (leb (storeLength g) benchWords) [
-    | true ↦ record { store = formatWords g (storeLength g); bytes = formatLine 0 (keyLimitOf g) }
+  | true ↦ elim (leb (old g .length) benchWords) [
+    | true ↦ record { store = formatWords (old g); bytes = formatLine 0 (keyLimitOf g) }
     | false ↦ record { store = ws; bytes = formatLine 3 0 }
   ]
 ]

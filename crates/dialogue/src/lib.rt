@@ -10,7 +10,7 @@ ghost use Rattle.lines.specs.declared.Line.the-variants.{Put, Delete};
 ghost use Rattle.lines.specs.Bytes.{Printed};
 ghost use Rattle.lines.specs.Lines.{longestLine};
 ghost use Rattle.levels.specs.Inside.{mergesMost};
-ghost use Rattle.words.specs.Layout.{bit};
+ghost use Rattle.words.specs.Stores.{bit};
 ghost use Rattle.words.specs.Calls.{mergesCounted};
 ghost use Rattle.tickets.specs.Gathering.{ticketFrom};
 ghost use Rattle.reader.specs.Answers.{lookedAnswer};
@@ -23,6 +23,7 @@ ghost use Rattle.dialogue.specs.Dialogue.{Session, opening, heard, ended
 ghost use Rattle.dialogue.specs.State.{Holds, Feeds, closed, answeredAs, Says};
 use geometry::Built;
 use geometry::Geometry;
+use layout::Layout;
 use lines::Line;
 use lines::Reading;
 use reader::Looked;
@@ -195,7 +196,8 @@ fn room_for(b: u32, w: u32, d: u32, g: u32, h: u32, p: u32) -> Room
     let Built::Legal(t) = Geometry::new(b, w, d, g, h, p) else {
         return Room::Refused(2);
     };
-    let need = t.store_length();
+    let z = Layout::old(t);
+    let need = z.length;
     if need > BENCH_WORDS {
         return Room::Refused(3);
     }

@@ -3,7 +3,7 @@ use Prim.Native.Nat.{ℕ, zero, suc, _+_, _-_, _*_, _/_, _^_, _≤_, _<_}
 use mathlib.Core.Path.{_≡_, sym, ap, _∙_, refl}
 use mathlib.Core.Bool.{Bool, true, false, not, _&&_, and-eq-true-iff, and-false}
 use mathlib.Core.Logic.{dite}
-use mathlib.Core.List.{List, [], _++_}
+use mathlib.Core.List.{List, _++_}
 use native.Mathlib.Decide.{decLt}
 use native.Mathlib.Nat.{mul-le-mul-right}
 use native.Mathlib.Numerals.{add-one}
@@ -14,7 +14,7 @@ use lib.ListN.{length, length-append}
 use Rattle.levels.specs.Basics.{if_then_else_}
 use Rattle.levels.specs.Record.{rising, cleanTombstones}
 use Rattle.levels.specs.Waste.{wasteful}
-use Rattle.words.specs.Layout.{word}
+use Rattle.words.specs.Stores.{word}
 use Rattle.chunks.specs.declared.Chunk.{Chunk}
 use Rattle.chunks.specs.declared.Rise.{Rise}
 use Rattle.chunks.specs.declared.Rise.the-variants.{To, Broken}
@@ -30,7 +30,7 @@ pub page-end : (width i n : ℕ) → i < n → i * width + width ≤ n * width
 page-end width i n h = let e = mul-le-mul-right width h in omega arith
 
 module _ (d : Directory) (ws : List ℕ) (w : Within d ws) (i : ℕ) (h : i < d .chunks) where
-  pub page-in : d .top ≡ true → (d .base + i * d .width ≤ 288524) × ((d .pays + i * d .width ≤ 288524) × (i * d .width ≤ d .records))
+  pub page-in : d .top ≡ true → (d .base + i * d .width ≤ 400000) × ((d .pays + i * d .width ≤ 400000) × (i * d .width ≤ d .records))
   page-in t =
       let p = page-end (d .width) i (d .chunks) h in
       let a = w .page-keys t in

@@ -9,7 +9,7 @@ use Rattle.levels.specs.Basics.{if_then_else_}
 use Rattle.levels.specs.Record.{Rec}
 use Rattle.levels.specs.Waste.{wasteful}
 use Rattle.levels.specs.Rising.{Rising}
-use Rattle.words.specs.Layout.{word}
+use Rattle.words.specs.Stores.{word}
 use Rattle.chunks.specs.declared.Chunk.{Chunk}
 use Rattle.chunks.specs.declared.Rise.{Rise}
 use Rattle.chunks.specs.declared.Rise.the-variants.{To, Broken}
@@ -46,12 +46,12 @@ abbrev pub recordsOf : List ℕ → Directory → List Rec
 recordsOf ws d = recordsFrom ws d 0 (d .chunks)
 
 -- The words that a directory names are there. Per index, so that a level of no chunks is within wherever its list would start.
--- 288524 is the length of the longest store (geometry's law `store-length-high`).
+-- No store, of any form, has more than 400,000 words (`wordsMost` of `layout`).
 pub record Within (d : Directory) (ws : List ℕ) : Type 0 where
   pub width-low : 2 ≤ d .width
   pub width-high : d .width ≤ 16
   pub chunks-high : d .chunks ≤ 1024
-  pub short : length ws ≤ 288524
+  pub short : length ws ≤ 400000
   pub list : (i : ℕ) → i < d .chunks → d .list + i < length ws
   pub page-keys : d .top ≡ true → d .base + d .chunks * d .width ≤ length ws
   pub page-pays : d .top ≡ true → d .pays + d .chunks * d .width ≤ length ws

@@ -23,9 +23,9 @@ pub struct Directory {
     pub records: usize,
 }
 
-// Page i of level 0, with its mark word: full, but the last, which has the rest. No store is longer than 288,524 words.
+// Page i of level 0, with its mark word: full, but the last, which has the rest. No store, of any form, has more than 400,000 words.
 pub fn page_at(marks: u32, dir: Directory, i: usize) -> Chunk
-    requires { ⌜ (dir .base + i * dir .width ≤ 288524) × ((dir .pays + i * dir .width ≤ 288524) × (i * dir .width ≤ dir .records)) ⌝ }
+    requires { ⌜ (dir .base + i * dir .width ≤ 400000) × ((dir .pays + i * dir .width ≤ 400000) × (i * dir .width ≤ dir .records)) ⌝ }
     ensures { λ r. ⌜ r ≡ pageOf marks dir i ⌝ }
 {
     let width = dir.width;

@@ -9,13 +9,12 @@ use native.Mathlib.Omega.{arith}
 use borrow.Author.Tests.{leb-true, le-leb, lt-leb, lt-ltb, le-ltb}
 use lib.Dec.{leb, ltb, eqb}
 use lib.ListN.{length, drop}
-use Rattle.geometry.specs.declared.Geometry.{Geometry}
-use Rattle.geometry.specs.Geometry.{within, listStart, placeStart, blockWidth}
+use Rattle.geometry.specs.Geometry.{within, blockWidth}
 use Rattle.levels.specs.Basics.{all, ceilDiv}
 use Rattle.levels.specs.Record.{Rec, Block, Level, size, records, rising, hasTombstone, cleanTombstones}
 use Rattle.levels.specs.Waste.{pairRule, wasteful, needsCompact}
 use Rattle.levels.proofs.Every.{all-joined}
-use Rattle.words.specs.Layout.{word, slotsAt, countAt, listedAt, recordCount, markWordAt, blockSlots, blockAt, levelAt}
+use Rattle.words.specs.Stores.{word, slotsAt, countAt, listedAt, recordCount, markWordAt, blockSlots, blockAt, levelAt}
 use Rattle.words.specs.Form.{blank}
 use Rattle.chunks.specs.declared.Chunk.{Chunk}
 use Rattle.chunks.specs.Chunks.{zerosAt, chunkRecs}
@@ -31,42 +30,44 @@ use Rattle.form.specs.Form.{levelOf}
 use Rattle.form.proofs.Tests.{test-same}
 use Rattle.form.proofs.Parts.{wordsFrom, Listed, listed-words}
 use Rattle.form.proofs.Unused.{unused-is, unmarked-is}
+use Rattle.layout.specs.Layouts.{listStart, placeStart}
+use Rattle.layout.specs.declared.Layout.{Layout}
 
 -- the block at place p, as the code reads it
-abbrev pub placeChunk : Geometry → List ℕ → ℕ → Chunk
-placeChunk g ws p = blockOf ws (g .b) (placeStart g p)
+abbrev pub placeChunk : Layout → List ℕ → ℕ → Chunk
+placeChunk z ws p = blockOf ws (z .geo .b) (placeStart z p)
 
 -- the tests of document 01's clauses for one listed place
-unfoldable pub blockFilled : Geometry → List ℕ → ℕ → Bool
-blockFilled g ws p = within 1 (g .b) (recordCount g ws p)
+unfoldable pub blockFilled : Layout → List ℕ → ℕ → Bool
+blockFilled z ws p = within 1 (z .geo .b) (recordCount z ws p)
 
-abbrev pub blockUnused : Geometry → List ℕ → ℕ → Bool
-blockUnused g ws p = all blank (drop (recordCount g ws p) (blockSlots g ws p)) && ltb (markWordAt g ws p) (2 ^ g .b)
+abbrev pub blockUnused : Layout → List ℕ → ℕ → Bool
+blockUnused z ws p = all blank (drop (recordCount z ws p) (blockSlots z ws p)) && ltb (markWordAt z ws p) (2 ^ z .geo .b)
 
 -- and for one level
-abbrev pub filledAt : Geometry → List ℕ → ℕ → Bool
-filledAt g ws i = all (blockFilled g ws) (listedAt g ws i)
+abbrev pub filledAt : Layout → List ℕ → ℕ → Bool
+filledAt z ws i = all (blockFilled z ws) (listedAt z ws i)
 
-abbrev pub pairsAt : Geometry → List ℕ → ℕ → Bool
-pairsAt g ws i = pairRule (g .b) (levelAt g ws i)
+abbrev pub pairsAt : Layout → List ℕ → ℕ → Bool
+pairsAt z ws i = pairRule (z .geo .b) (levelAt z ws i)
 
-abbrev pub unmarkedAt : Geometry → List ℕ → ℕ → Bool
-unmarkedAt g ws i = not (eqb i (g .h) && hasTombstone (records (levelAt g ws i)))
+abbrev pub unmarkedAt : Layout → List ℕ → ℕ → Bool
+unmarkedAt z ws i = not (eqb i (z .geo .h) && hasTombstone (records (levelAt z ws i)))
 
-abbrev pub unusedAt : Geometry → List ℕ → ℕ → Bool
-unusedAt g ws i = all (blockUnused g ws) (listedAt g ws i)
+abbrev pub unusedAt : Layout → List ℕ → ℕ → Bool
+unusedAt z ws i = all (blockUnused z ws) (listedAt z ws i)
 
-abbrev pub cleanAt : Geometry → List ℕ → ℕ → Bool
-cleanAt g ws i = cleanTombstones (records (levelAt g ws i))
+abbrev pub cleanAt : Layout → List ℕ → ℕ → Bool
+cleanAt z ws i = cleanTombstones (records (levelAt z ws i))
 
-abbrev pub risingAt : Geometry → List ℕ → ℕ → Bool
-risingAt g ws i = rising 0 (records (levelAt g ws i))
+abbrev pub risingAt : Layout → List ℕ → ℕ → Bool
+risingAt z ws i = rising 0 (records (levelAt z ws i))
 
-abbrev pub leanAt : Geometry → List ℕ → ℕ → Bool
-leanAt g ws i = not (needsCompact (g .b) (levelAt g ws i))
+abbrev pub leanAt : Layout → List ℕ → ℕ → Bool
+leanAt z ws i = not (needsCompact (z .geo .b) (levelAt z ws i))
 
-abbrev pub levelKept : Geometry → List ℕ → ℕ → Bool
-levelKept g ws i = filledAt g ws i && ((pairsAt g ws i && (unmarkedAt g ws i && (unusedAt g ws i && cleanAt g ws i))) && (risingAt g ws i && leanAt g ws i))
+abbrev pub levelKept : Layout → List ℕ → ℕ → Bool
+levelKept z ws i = filledAt z ws i && ((pairsAt z ws i && (unmarkedAt z ws i && (unusedAt z ws i && cleanAt z ws i))) && (risingAt z ws i && leanAt z ws i))
 
 -- the pair rule for blocks after one of n records
 unfoldable pairsAfter : ℕ → ℕ → Level → Bool
@@ -81,57 +82,57 @@ pairs-first b x (y ∷ ys) = rw (pairs-first b y ys)
 not-leb : (a b : ℕ) → not (leb a b) ≡ ltb b a
 not-leb a b = dite (decLt b a) (λ y. rw (lt-leb a b y, lt-ltb b a y)) (λ n. let l : a ≤ b = omega arith in rw (le-leb a b l, le-ltb b a l))
 
-module _ (g : Geometry) (ws : List ℕ) where
+module _ (z : Layout) (ws : List ℕ) where
   -- the records of a block that has no more than B
-  block-recs : (p : ℕ) → recordCount g ws p ≤ g .b → (blockAt g ws p) .recs ≡ chunkRecs ws (placeChunk g ws p)
+  block-recs : (p : ℕ) → recordCount z ws p ≤ z .geo .b → (blockAt z ws p) .recs ≡ chunkRecs ws (placeChunk z ws p)
   unfolding blockAt blockSlots
-  block-recs p h = slots-take ws (markWordAt g ws p) (placeStart g p + 2) (placeStart g p + 2 + g .b) (recordCount g ws p) (g .b) h
+  block-recs p h = slots-take ws (markWordAt z ws p) (placeStart z p + 2) (placeStart z p + 2 + z .geo .b) (recordCount z ws p) (z .geo .b) h
 
-  filled-facts : (p : ℕ) → blockFilled g ws p ≡ true → (1 ≤ recordCount g ws p) × (recordCount g ws p ≤ g .b)
+  filled-facts : (p : ℕ) → blockFilled z ws p ≡ true → (1 ≤ recordCount z ws p) × (recordCount z ws p ≤ z .geo .b)
   unfolding blockFilled
   filled-facts p e = let k = simp and-eq-true-iff at e in (leb-true _ _ (k .0), leb-true _ _ (k .1))
 
   -- before the first block stands one that is full, as the code has it
-  pairs-start : (ps : List ℕ) → all (blockFilled g ws) ps ≡ true → pairsAfter (g .b) (g .b) (map (blockAt g ws) ps) ≡ pairRule (g .b) (map (blockAt g ws) ps)
+  pairs-start : (ps : List ℕ) → all (blockFilled z ws) ps ≡ true → pairsAfter (z .geo .b) (z .geo .b) (map (blockAt z ws) ps) ≡ pairRule (z .geo .b) (map (blockAt z ws) ps)
   unfolding pairsAfter
   pairs-start [] e = refl
   pairs-start (p ∷ ps) e =
       let k = simp and-eq-true-iff at e in
       let f = filled-facts p (k .0) in
-      let s = block-size g ws p (f .1) in
-      rw (lt-ltb (g .b) (g .b + size (blockAt g ws p)) (let l = f .0 in omega arith), pairs-first (g .b) (blockAt g ws p) (map (blockAt g ws) ps))
+      let s = block-size z ws p (f .1) in
+      rw (lt-ltb (z .geo .b) (z .geo .b + size (blockAt z ws p)) (let l = f .0 in omega arith), pairs-first (z .geo .b) (blockAt z ws p) (map (blockAt z ws) ps))
 
   module _ (i : ℕ) where
     -- listed chunk j of level i is the block at the j-th listed place
-    pub level-chunk : (j : ℕ) → chunkAt ws (levelOf g ws i) j ≡ placeChunk g ws (word ws (listStart g i + j))
+    pub level-chunk : (j : ℕ) → chunkAt ws (levelOf z ws i) j ≡ placeChunk z ws (word ws (listStart z i + j))
     unfolding chunkAt levelOf placeStart blockWidth
     level-chunk j = refl
 
-    level-from : (j n : ℕ) → all (blockFilled g ws) (wordsFrom ws (listStart g i + j) n) ≡ true
-        → recordsFrom ws (levelOf g ws i) j n ≡ records (map (blockAt g ws) (wordsFrom ws (listStart g i + j) n))
+    level-from : (j n : ℕ) → all (blockFilled z ws) (wordsFrom ws (listStart z i + j) n) ≡ true
+        → recordsFrom ws (levelOf z ws i) j n ≡ records (map (blockAt z ws) (wordsFrom ws (listStart z i + j) n))
     unfolding recordsFrom
     level-from j zero e = refl
     level-from j (suc n) e =
         let k = simp and-eq-true-iff at e in
-        let p = word ws (listStart g i + j) in
-        let q : suc (listStart g i + j) ≡ listStart g i + suc j = omega arith in
+        let p = word ws (listStart z i + j) in
+        let q : suc (listStart z i + j) ≡ listStart z i + suc j = omega arith in
         rw (level-chunk j, block-recs p (filled-facts p (k .0) .1), q, level-from (suc j) n (rw q at (k .1)))
 
     -- one block
-    block-tidy : (p before : ℕ) → blockFilled g ws p ≡ true
-        → tidyChunk ws (levelOf g ws i) (placeChunk g ws p) before
-        ≡ (ltb (g .b) (before + recordCount g ws p)
-        && (not (eqb i (g .h) && hasTombstone (chunkRecs ws (placeChunk g ws p))) && (blockUnused g ws p && cleanTombstones (chunkRecs ws (placeChunk g ws p)))))
+    block-tidy : (p before : ℕ) → blockFilled z ws p ≡ true
+        → tidyChunk ws (levelOf z ws i) (placeChunk z ws p) before
+        ≡ (ltb (z .geo .b) (before + recordCount z ws p)
+        && (not (eqb i (z .geo .h) && hasTombstone (chunkRecs ws (placeChunk z ws p))) && (blockUnused z ws p && cleanTombstones (chunkRecs ws (placeChunk z ws p)))))
     unfolding keptOf levelOf blockSlots
     block-tidy p before e =
         let f = filled-facts p e in
-        let n = recordCount g ws p in
-        let m = markWordAt g ws p in
-        let k = placeStart g p + 2 in
-        let v = placeStart g p + 2 + g .b in
-        rw (le-leb 1 n (f .0), le-leb n (g .b) (f .1), not-leb (before + n) (g .b), unused-is ws m k v n (g .b) (f .1))
+        let n = recordCount z ws p in
+        let m = markWordAt z ws p in
+        let k = placeStart z p + 2 in
+        let v = placeStart z p + 2 + z .geo .b in
+        rw (le-leb 1 n (f .0), le-leb n (z .geo .b) (f .1), not-leb (before + n) (z .geo .b), unused-is ws m k v n (z .geo .b) (f .1))
         (go
-        (eqb i (g .h)) (ltb (g .b) (before + n)) (eqb m 0) (zerosAt ws (k + n) (g .b - n)) (zerosAt ws (v + n) (g .b - n))
+        (eqb i (z .geo .h)) (ltb (z .geo .b) (before + n)) (eqb m 0) (zerosAt ws (k + n) (z .geo .b - n)) (zerosAt ws (v + n) (z .geo .b - n))
         (cleanTombstones (slotsAt ws m k v n)) (eqb (m / 2 ^ n) 0) (hasTombstone (slotsAt ws m k v n)) (unmarked-is ws m k v n))
       where
         go : (t a m x y c e s : Bool) → (not s && e) ≡ m → ((a && (not (t && not m) && (x && y))) && (c && e)) ≡ (a && (not (t && s) && ((x && (y && e)) && c)))
@@ -143,38 +144,38 @@ module _ (g : Geometry) (ws : List ℕ) where
             (λ q. let k = simp and-eq-true-iff at q in simp and-eq-true-iff ((k .0, ((k .1 .0, k .1 .1 .0 .1 .1), (k .1 .1 .0 .0, k .1 .1 .0 .1 .0))), (k .1 .1 .1, k .1 .1 .0 .1 .1))))
 
     -- the blocks from the j-th on
-    blocks-tidy : (j n before : ℕ) → all (blockFilled g ws) (wordsFrom ws (listStart g i + j) n) ≡ true
-        → tidyFrom ws (levelOf g ws i) j n before
-        ≡ (pairsAfter (g .b) before (map (blockAt g ws) (wordsFrom ws (listStart g i + j) n))
-        && (not (eqb i (g .h) && hasTombstone (records (map (blockAt g ws) (wordsFrom ws (listStart g i + j) n))))
-        && (all (blockUnused g ws) (wordsFrom ws (listStart g i + j) n) && cleanTombstones (records (map (blockAt g ws) (wordsFrom ws (listStart g i + j) n))))))
+    blocks-tidy : (j n before : ℕ) → all (blockFilled z ws) (wordsFrom ws (listStart z i + j) n) ≡ true
+        → tidyFrom ws (levelOf z ws i) j n before
+        ≡ (pairsAfter (z .geo .b) before (map (blockAt z ws) (wordsFrom ws (listStart z i + j) n))
+        && (not (eqb i (z .geo .h) && hasTombstone (records (map (blockAt z ws) (wordsFrom ws (listStart z i + j) n))))
+        && (all (blockUnused z ws) (wordsFrom ws (listStart z i + j) n) && cleanTombstones (records (map (blockAt z ws) (wordsFrom ws (listStart z i + j) n))))))
     unfolding tidyFrom pairsAfter
-    blocks-tidy j zero before e = go (eqb i (g .h))
+    blocks-tidy j zero before e = go (eqb i (z .geo .h))
       where
         go : (t : Bool) → true ≡ (not (t && false) && true)
         go true = refl
         go false = refl
     blocks-tidy j (suc n) before e =
         let k = simp and-eq-true-iff at e in
-        let p = word ws (listStart g i + j) in
+        let p = word ws (listStart z i + j) in
         let f = filled-facts p (k .0) .1 in
-        let q : suc (listStart g i + j) ≡ listStart g i + suc j = omega arith in
-        let ps = wordsFrom ws (listStart g i + suc j) n in
-        let rs = chunkRecs ws (placeChunk g ws p) in
-        let ss = records (map (blockAt g ws) ps) in
+        let q : suc (listStart z i + j) ≡ listStart z i + suc j = omega arith in
+        let ps = wordsFrom ws (listStart z i + suc j) n in
+        let rs = chunkRecs ws (placeChunk z ws p) in
+        let ss = records (map (blockAt z ws) ps) in
         rw (
           level-chunk j,
           block-tidy p before (k .0),
           q,
-          blocks-tidy (suc j) n (recordCount g ws p) (rw q at (k .1)),
-          block-size g ws p f,
+          blocks-tidy (suc j) n (recordCount z ws p) (rw q at (k .1)),
+          block-size z ws p f,
           block-recs p f,
           has-append rs ss,
           all-joined (λ (r : Rec). not (r .tombstone) || eqb (r .pay) 0) rs ss,
         )
         (go
-        (eqb i (g .h)) (ltb (g .b) (before + recordCount g ws p)) (hasTombstone rs) (blockUnused g ws p) (cleanTombstones rs)
-        (pairsAfter (g .b) (recordCount g ws p) (map (blockAt g ws) ps)) (hasTombstone ss) (all (blockUnused g ws) ps) (cleanTombstones ss))
+        (eqb i (z .geo .h)) (ltb (z .geo .b) (before + recordCount z ws p)) (hasTombstone rs) (blockUnused z ws p) (cleanTombstones rs)
+        (pairsAfter (z .geo .b) (recordCount z ws p) (map (blockAt z ws) ps)) (hasTombstone ss) (all (blockUnused z ws) ps) (cleanTombstones ss))
       where
         marks : (t s s' : Bool) → not (t && (s || s')) ≡ (not (t && s) && not (t && s'))
         marks false s s' = refl
@@ -189,84 +190,84 @@ module _ (g : Geometry) (ws : List ℕ) where
                 (λ q. let k = simp and-eq-true-iff at q in simp and-eq-true-iff ((k .0 .0, k .1 .0), ((k .0 .1 .0, k .1 .1 .0), ((k .0 .1 .1 .0, k .1 .1 .1 .0), (k .0 .1 .1 .1, k .1 .1 .1 .1)))))
                 (λ q. let k = simp and-eq-true-iff at q in simp and-eq-true-iff ((k .0 .0, (k .1 .0 .0, (k .1 .1 .0 .0, k .1 .1 .1 .0))), (k .0 .1, (k .1 .0 .1, (k .1 .1 .0 .1, k .1 .1 .1 .1)))))
 
-    chunk-filled : (j before : ℕ) → keptOf ws (levelOf g ws i) (chunkAt ws (levelOf g ws i) j) before ≡ true → blockFilled g ws (word ws (listStart g i + j)) ≡ true
+    chunk-filled : (j before : ℕ) → keptOf ws (levelOf z ws i) (chunkAt ws (levelOf z ws i) j) before ≡ true → blockFilled z ws (word ws (listStart z i + j)) ≡ true
     unfolding blockFilled chunkAt levelOf placeStart blockWidth
     chunk-filled j before e =
-        let c = kept-count ws (levelOf g ws i) (chunkAt ws (levelOf g ws i) j) before e in simp and-eq-true-iff (le-leb _ _ (c .0), le-leb _ _ (c .1))
+        let c = kept-count ws (levelOf z ws i) (chunkAt ws (levelOf z ws i) j) before e in simp and-eq-true-iff (le-leb _ _ (c .0), le-leb _ _ (c .1))
 
     -- what the code finds tidy has 1 to B records to a block
-    tidy-filled : (j n before : ℕ) → tidyFrom ws (levelOf g ws i) j n before ≡ true → all (blockFilled g ws) (wordsFrom ws (listStart g i + j) n) ≡ true
+    tidy-filled : (j n before : ℕ) → tidyFrom ws (levelOf z ws i) j n before ≡ true → all (blockFilled z ws) (wordsFrom ws (listStart z i + j) n) ≡ true
     unfolding tidyFrom
     tidy-filled j zero before e = refl
     tidy-filled j (suc n) before e =
         let k = simp and-eq-true-iff at e in
-        let q : suc (listStart g i + j) ≡ listStart g i + suc j = omega arith in
-        rw q (simp and-eq-true-iff (chunk-filled j before (k .0 .0), tidy-filled (suc j) n (chunkAt ws (levelOf g ws i) j .count) (k .1)))
+        let q : suc (listStart z i + j) ≡ listStart z i + suc j = omega arith in
+        rw q (simp and-eq-true-iff (chunk-filled j before (k .0 .0), tidy-filled (suc j) n (chunkAt ws (levelOf z ws i) j .count) (k .1)))
 
-    module _ (l : Listed g ws i) where
+    module _ (l : Listed z ws i) where
       -- the blocks of level i
-      pub level-blocks : levelAt g ws i ≡ map (blockAt g ws) (wordsFrom ws (listStart g i) (countAt ws i))
+      pub level-blocks : levelAt z ws i ≡ map (blockAt z ws) (wordsFrom ws (listStart z i) (countAt z ws i))
       unfolding levelAt
-      level-blocks = ap (map (blockAt g ws)) (listed-words g ws i l)
+      level-blocks = ap (map (blockAt z ws)) (listed-words z ws i l)
 
-      list-first : listStart g i + 0 ≡ listStart g i
+      list-first : listStart z i + 0 ≡ listStart z i
       list-first = omega arith
 
-      filled-words : filledAt g ws i ≡ true → all (blockFilled g ws) (wordsFrom ws (listStart g i + 0) (countAt ws i)) ≡ true
-      filled-words e = rw (list-first, ← listed-words g ws i l) e
+      filled-words : filledAt z ws i ≡ true → all (blockFilled z ws) (wordsFrom ws (listStart z i + 0) (countAt z ws i)) ≡ true
+      filled-words e = rw (list-first, ← listed-words z ws i l) e
 
-      listed-recs : filledAt g ws i ≡ true → recordsFrom ws (levelOf g ws i) 0 (countAt ws i) ≡ records (levelAt g ws i)
-      listed-recs e = rw (level-blocks, ← list-first) (level-from 0 (countAt ws i) (filled-words e))
+      listed-recs : filledAt z ws i ≡ true → recordsFrom ws (levelOf z ws i) 0 (countAt z ws i) ≡ records (levelAt z ws i)
+      listed-recs e = rw (level-blocks, ← list-first) (level-from 0 (countAt z ws i) (filled-words e))
 
       -- the records of level i
-      pub level-recs : filledAt g ws i ≡ true → recordsOf ws (levelOf g ws i) ≡ records (levelAt g ws i)
+      pub level-recs : filledAt z ws i ≡ true → recordsOf ws (levelOf z ws i) ≡ records (levelAt z ws i)
       unfolding levelOf
       level-recs e = listed-recs e
 
       -- the records of listed chunk j are those of the block at the j-th listed place
-      pub chunk-recs : filledAt g ws i ≡ true → (j : ℕ) → j < countAt ws i → chunkRecs ws (chunkAt ws (levelOf g ws i) j) ≡ (blockAt g ws (word ws (listStart g i + j))) .recs
+      pub chunk-recs : filledAt z ws i ≡ true → (j : ℕ) → j < countAt z ws i → chunkRecs ws (chunkAt ws (levelOf z ws i) j) ≡ (blockAt z ws (word ws (listStart z i + j))) .recs
       chunk-recs e j h =
-          let p = word ws (listStart g i + j) in
-          let f = all-each-at (blockFilled g ws) (word ws) (listStart g i) (countAt ws i) (rw (listed-words g ws i l) at e) j h in
+          let p = word ws (listStart z i + j) in
+          let f = all-each-at (blockFilled z ws) (word ws) (listStart z i) (countAt z ws i) (rw (listed-words z ws i l) at e) j h in
           rw (level-chunk j) (sym (block-recs p (filled-facts p f .1)))
 
-      level-tidy : filledAt g ws i ≡ true → tidyFrom ws (levelOf g ws i) 0 (countAt ws i) (g .b) ≡ (pairsAt g ws i && (unmarkedAt g ws i && (unusedAt g ws i && cleanAt g ws i)))
+      level-tidy : filledAt z ws i ≡ true → tidyFrom ws (levelOf z ws i) 0 (countAt z ws i) (z .geo .b) ≡ (pairsAt z ws i && (unmarkedAt z ws i && (unusedAt z ws i && cleanAt z ws i)))
       level-tidy e =
-          rw (level-blocks, listed-words g ws i l, ← list-first)
-          (blocks-tidy 0 (countAt ws i) (g .b) (filled-words e)
-          ∙ rw (pairs-start (wordsFrom ws (listStart g i + 0) (countAt ws i)) (filled-words e)))
+          rw (level-blocks, listed-words z ws i l, ← list-first)
+          (blocks-tidy 0 (countAt z ws i) (z .geo .b) (filled-words e)
+          ∙ rw (pairs-start (wordsFrom ws (listStart z i + 0) (countAt z ws i)) (filled-words e)))
 
-      level-lean : leanLevel (levelOf g ws i) (length (records (levelAt g ws i))) ≡ leanAt g ws i
+      level-lean : leanLevel (levelOf z ws i) (length (records (levelAt z ws i))) ≡ leanAt z ws i
       unfolding levelOf
-      level-lean = rw (level-length g ws i (l .inside) (l .fits))
+      level-lean = rw (level-length z ws i (l .inside) (l .fits))
 
       -- the pass starts as the directory has it
-      level-pass : levelFormed ws (levelOf g ws i) ≡ (tidyFrom ws (levelOf g ws i) 0 (countAt ws i) (g .b) && (rising 0 (recordsOf ws (levelOf g ws i)) && leanLevel (levelOf g ws i) (length (recordsOf ws (levelOf g ws i)))))
+      level-pass : levelFormed ws (levelOf z ws i) ≡ (tidyFrom ws (levelOf z ws i) 0 (countAt z ws i) (z .geo .b) && (rising 0 (recordsOf ws (levelOf z ws i)) && leanLevel (levelOf z ws i) (length (recordsOf ws (levelOf z ws i)))))
       unfolding levelOf
-      level-pass = formed-is ws (levelOf g ws i)
+      level-pass = formed-is ws (levelOf z ws i)
 
       -- the code's pass over a level is document 01's clauses for it
-      pub level-is : levelFormed ws (levelOf g ws i) ≡ levelKept g ws i
+      pub level-is : levelFormed ws (levelOf z ws i) ≡ levelKept z ws i
       level-is =
-          let rest : Bool = (pairsAt g ws i && (unmarkedAt g ws i && (unusedAt g ws i && cleanAt g ws i))) && (risingAt g ws i && leanAt g ws i) in
-          let same : filledAt g ws i ≡ true → levelFormed ws (levelOf g ws i) ≡ rest = λ f. level-pass ∙ rw (level-tidy f, level-recs f, level-lean) in
-          test-same (levelFormed ws (levelOf g ws i)) (levelKept g ws i)
+          let rest : Bool = (pairsAt z ws i && (unmarkedAt z ws i && (unusedAt z ws i && cleanAt z ws i))) && (risingAt z ws i && leanAt z ws i) in
+          let same : filledAt z ws i ≡ true → levelFormed ws (levelOf z ws i) ≡ rest = λ f. level-pass ∙ rw (level-tidy f, level-recs f, level-lean) in
+          test-same (levelFormed ws (levelOf z ws i)) (levelKept z ws i)
           (λ e.
           let k = simp and-eq-true-iff at (sym level-pass ∙ e) in
-          let f : filledAt g ws i ≡ true = rw (listed-words g ws i l, ← list-first) (tidy-filled 0 (countAt ws i) (g .b) (k .0)) in
+          let f : filledAt z ws i ≡ true = rw (listed-words z ws i l, ← list-first) (tidy-filled 0 (countAt z ws i) (z .geo .b) (k .0)) in
           rw f (sym (same f) ∙ e))
-          (λ e. let f = and-left (filledAt g ws i) rest e in same f ∙ and-right (filledAt g ws i) rest e)
+          (λ e. let f = and-left (filledAt z ws i) rest e in same f ∙ and-right (filledAt z ws i) rest e)
 
 -- a level that lists no block
-pub none-recs : (g : Geometry) (ws : List ℕ) (i : ℕ) → countAt ws i ≡ 0 → recordsOf ws (levelOf g ws i) ≡ []
+pub none-recs : (z : Layout) (ws : List ℕ) (i : ℕ) → countAt z ws i ≡ 0 → recordsOf ws (levelOf z ws i) ≡ []
 unfolding recordsFrom levelOf
-none-recs g ws i e = rw e
+none-recs z ws i e = rw e
 
 none-lean : (b n : ℕ) → n ≡ 0 → not (wasteful b n 0) ≡ true
 none-lean b n e = rw (e, le-ltb (ceilDiv 0 b) 0 (omega arith))
 
-pub none-formed : (g : Geometry) (ws : List ℕ) (i : ℕ) → countAt ws i ≡ 0 → levelFormed ws (levelOf g ws i) ≡ true
+pub none-formed : (z : Layout) (ws : List ℕ) (i : ℕ) → countAt z ws i ≡ 0 → levelFormed ws (levelOf z ws i) ≡ true
 unfolding levelFormed levelOf
-none-formed g ws i e =
-    let d = levelOf g ws i in
-    sym (pass-start ws d (countAt ws i)) ∙ pass-end-listed ws d (countAt ws i) 0 0 (g .b) 0 (omega arith) refl ∙ none-lean (g .b) (countAt ws i) e
+none-formed z ws i e =
+    let d = levelOf z ws i in
+    sym (pass-start ws d (countAt z ws i)) ∙ pass-end-listed ws d (countAt z ws i) 0 0 (z .geo .b) 0 (omega arith) refl ∙ none-lean (z .geo .b) (countAt z ws i) e

@@ -2,19 +2,20 @@
 use Prim.Native.Nat.{ℕ, zero, suc, _+_, _-_, _≤_}
 use mathlib.Core.Path.{_≡_, sym, ap, _∙_, refl}
 use mathlib.Core.Bool.{Bool, _&&_}
-use mathlib.Core.List.{List, [], _++_}
+use mathlib.Core.List.{List, _++_}
 use native.Mathlib.Omega.{arith}
 use lib.ListN.{length, drop}
 use lib.Seq.{take-at, drop-at}
-use Rattle.geometry.specs.declared.Geometry.{Geometry}
-use Rattle.geometry.specs.Geometry.{capacityOf, listStart}
+use Rattle.geometry.specs.Geometry.{capacityOf}
 use Rattle.levels.specs.Basics.{all, each}
 use Rattle.levels.proofs.Every.{all-joined}
-use Rattle.words.specs.Layout.{word, countAt, listAt, listedAt}
+use Rattle.words.specs.Stores.{word, countAt, listAt, listedAt, part}
 use Rattle.words.specs.Form.{isZero, listedPlaces}
 use Rattle.levels.proofs.Each.{length-each, each-add, each-part}
 use Rattle.chunks.specs.Chunks.{zerosAt}
 use Rattle.form.proofs.Tests.{range}
+use Rattle.layout.specs.Layouts.{listStart}
+use Rattle.layout.specs.declared.Layout.{Layout}
 
 -- n words from word i on
 abbrev pub wordsFrom : List ℕ → ℕ → ℕ → List ℕ
@@ -30,28 +31,28 @@ pub zeros-split : (ws : List ℕ) (i m n : ℕ) → zerosAt ws i (m + n) ≡ (ze
 zeros-split ws i m n = sym (words-zero ws i (m + n)) ∙ rw (each-add (word ws) i m n, all-joined isZero (wordsFrom ws i m) (wordsFrom ws (i + m) n), words-zero ws i m, words-zero ws (i + m) n)
 
 -- the list of level i lies within the words, and the level lists no more places than it may
-pub record Listed (g : Geometry) (ws : List ℕ) (i : ℕ) : Type 0 where
-  pub inside : listStart g i + capacityOf g i ≤ length ws
-  pub fits : countAt ws i ≤ capacityOf g i
+pub record Listed (z : Layout) (ws : List ℕ) (i : ℕ) : Type 0 where
+  pub inside : listStart z i + capacityOf (z .geo) i ≤ length ws
+  pub fits : countAt z ws i ≤ capacityOf (z .geo) i
 
-module _ (g : Geometry) (ws : List ℕ) (i : ℕ) (l : Listed g ws i) where
-  list-parts : listAt g ws i ≡ wordsFrom ws (listStart g i) (countAt ws i) ++ wordsFrom ws (listStart g i + countAt ws i) (capacityOf g i - countAt ws i)
-  unfolding listAt
+module _ (z : Layout) (ws : List ℕ) (i : ℕ) (l : Listed z ws i) where
+  list-parts : listAt z ws i ≡ wordsFrom ws (listStart z i) (countAt z ws i) ++ wordsFrom ws (listStart z i + countAt z ws i) (capacityOf (z .geo) i - countAt z ws i)
+  unfolding listAt part
   list-parts =
-      let e : capacityOf g i ≡ countAt ws i + (capacityOf g i - countAt ws i) = omega arith in
-      sym (each-part 0 ws (listStart g i) (capacityOf g i) (l .inside)) ∙ ap (wordsFrom ws (listStart g i)) e ∙ each-add (word ws) (listStart g i) (countAt ws i) (capacityOf g i - countAt ws i)
+      let e : capacityOf (z .geo) i ≡ countAt z ws i + (capacityOf (z .geo) i - countAt z ws i) = omega arith in
+      sym (each-part 0 ws (listStart z i) (capacityOf (z .geo) i) (l .inside)) ∙ ap (wordsFrom ws (listStart z i)) e ∙ each-add (word ws) (listStart z i) (countAt z ws i) (capacityOf (z .geo) i - countAt z ws i)
 
   -- the places that level i lists
-  pub listed-words : listedAt g ws i ≡ wordsFrom ws (listStart g i) (countAt ws i)
+  pub listed-words : listedAt z ws i ≡ wordsFrom ws (listStart z i) (countAt z ws i)
   unfolding listedAt
-  listed-words = rw list-parts (take-at (wordsFrom ws (listStart g i) (countAt ws i)) _ (countAt ws i) (length-each (word ws) (listStart g i) (countAt ws i)))
+  listed-words = rw list-parts (take-at (wordsFrom ws (listStart z i) (countAt z ws i)) _ (countAt z ws i) (length-each (word ws) (listStart z i) (countAt z ws i)))
 
   -- the unused entries of its list
-  pub unlisted-words : drop (countAt ws i) (listAt g ws i) ≡ wordsFrom ws (listStart g i + countAt ws i) (capacityOf g i - countAt ws i)
-  unlisted-words = rw list-parts (drop-at (wordsFrom ws (listStart g i) (countAt ws i)) _ (countAt ws i) (length-each (word ws) (listStart g i) (countAt ws i)))
+  pub unlisted-words : drop (countAt z ws i) (listAt z ws i) ≡ wordsFrom ws (listStart z i + countAt z ws i) (capacityOf (z .geo) i - countAt z ws i)
+  unlisted-words = rw list-parts (drop-at (wordsFrom ws (listStart z i) (countAt z ws i)) _ (countAt z ws i) (length-each (word ws) (listStart z i) (countAt z ws i)))
 
 -- a test of every listed place, level by level
-pub listed-each : (t : ℕ → Bool) (g : Geometry) (ws : List ℕ) (i n : ℕ) → all t (listedPlaces g ws i n) ≡ all (λ (j : ℕ). all t (listedAt g ws j)) (range i n)
+pub listed-each : (t : ℕ → Bool) (z : Layout) (ws : List ℕ) (i n : ℕ) → all t (listedPlaces z ws i n) ≡ all (λ (j : ℕ). all t (listedAt z ws j)) (range i n)
 unfolding listedPlaces
-listed-each t g ws i zero = refl
-listed-each t g ws i (suc n) = rw (all-joined t (listedAt g ws i) (listedPlaces g ws (suc i) n), listed-each t g ws (suc i) n)
+listed-each t z ws i zero = refl
+listed-each t z ws i (suc n) = rw (all-joined t (listedAt z ws i) (listedPlaces z ws (suc i) n), listed-each t z ws (suc i) n)

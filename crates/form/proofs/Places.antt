@@ -9,17 +9,18 @@ use borrow.Author.Tests.{eq-eqb, ne-eqb, ltb-true}
 use lib.Dec.{ltb, eqb}
 use lib.ListN.{getD, set, drop, length, length-set, length-replicate, replicate}
 use lib.Seq.{getD-set-same, getD-set-other}
-use Rattle.geometry.specs.declared.Geometry.{Geometry}
-use Rattle.geometry.specs.Geometry.{capacityOf, listStart}
+use Rattle.geometry.specs.Geometry.{capacityOf}
 use Rattle.levels.specs.Basics.{all, member}
 use Rattle.levels.specs.Place.{distinct}
 use Rattle.levels.proofs.Lists.{getD-replicate-self}
-use Rattle.words.specs.Layout.{word, countAt, listAt}
+use Rattle.words.specs.Stores.{word, countAt, listAt}
 use Rattle.words.specs.Form.{isZero, listedPlaces, allListed, placesInside, placesOnce, listsUnusedZero}
 use Rattle.chunks.specs.Chunks.{zerosAt}
 use Rattle.form.specs.Form.{freshOf, markOf, listsFrom, listsOk}
 use Rattle.form.proofs.Tests.{range}
 use Rattle.form.proofs.Parts.{wordsFrom, words-zero, Listed, listed-words, unlisted-words}
+use Rattle.layout.specs.Layouts.{listStart}
+use Rattle.layout.specs.declared.Layout.{Layout}
 
 -- the same over a list of places: below p, not marked and none twice
 unfoldable freshIn : ℕ → List Bool → List ℕ → Bool
@@ -93,37 +94,37 @@ fresh-none n [] = refl
 fresh-none n (q ∷ qs) = rw (getD-replicate-self n q false, fresh-none n qs)
 
 -- the unused entries of the list of level i are 0
-abbrev pub unlistedZero : Geometry → List ℕ → ℕ → Bool
-unlistedZero g ws i = all isZero (drop (countAt ws i) (listAt g ws i))
+abbrev pub unlistedZero : Layout → List ℕ → ℕ → Bool
+unlistedZero z ws i = all isZero (drop (countAt z ws i) (listAt z ws i))
 
-lists-fresh : (g : Geometry) (ws : List ℕ) (i n : ℕ) (used : List Bool) → ((j : ℕ) → i ≤ j → j < i + n → Listed g ws j)
-    → listsFrom g ws i n used ≡ (freshIn (g .p) used (listedPlaces g ws i n) && all (unlistedZero g ws) (range i n))
+lists-fresh : (z : Layout) (ws : List ℕ) (i n : ℕ) (used : List Bool) → ((j : ℕ) → i ≤ j → j < i + n → Listed z ws j)
+    → listsFrom z ws i n used ≡ (freshIn (z .geo .p) used (listedPlaces z ws i n) && all (unlistedZero z ws) (range i n))
 unfolding listsFrom listedPlaces freshIn
-lists-fresh g ws i zero used f = refl
-lists-fresh g ws i (suc n) used f =
+lists-fresh z ws i zero used f = refl
+lists-fresh z ws i (suc n) used f =
     let l = f i (omega arith) (omega arith) in
-    let c = countAt ws i in
-    let ps = wordsFrom ws (listStart g i) c in
+    let c = countAt z ws i in
+    let ps = wordsFrom ws (listStart z i) c in
     rw (
-      fresh-list ws (g .p) (listStart g i) c used,
-      mark-list ws (listStart g i) c used,
-      lists-fresh g ws (suc i) n (markIn used ps) (λ j a b. f j (omega arith) (omega arith)),
-      listed-words g ws i l,
-      unlisted-words g ws i l,
-      words-zero ws (listStart g i + c) (capacityOf g i - c),
-      fresh-append (g .p) used ps (listedPlaces g ws (suc i) n),
+      fresh-list ws (z .geo .p) (listStart z i) c used,
+      mark-list ws (listStart z i) c used,
+      lists-fresh z ws (suc i) n (markIn used ps) (λ j a b. f j (omega arith) (omega arith)),
+      listed-words z ws i l,
+      unlisted-words z ws i l,
+      words-zero ws (listStart z i + c) (capacityOf (z .geo) i - c),
+      fresh-append (z .geo .p) used ps (listedPlaces z ws (suc i) n),
     )
-    (go (freshIn (g .p) used ps) (zerosAt ws (listStart g i + c) (capacityOf g i - c)) (freshIn (g .p) (markIn used ps) (listedPlaces g ws (suc i) n)) (all (unlistedZero g ws) (range (suc i) n)))
+    (go (freshIn (z .geo .p) used ps) (zerosAt ws (listStart z i + c) (capacityOf (z .geo) i - c)) (freshIn (z .geo .p) (markIn used ps) (listedPlaces z ws (suc i) n)) (all (unlistedZero z ws) (range (suc i) n)))
   where
-    go : (a z b u : Bool) → (a && (z && (b && u))) ≡ ((a && b) && (z && u))
+    go : (a y b u : Bool) → (a && (y && (b && u))) ≡ ((a && b) && (y && u))
     go true true b u = refl
     go true false true u = refl
     go true false false u = refl
-    go false z b u = refl
+    go false y b u = refl
 
 -- "listed places are below P, none twice over all levels", and the unused list entries are 0
-pub lists-rules : (g : Geometry) (ws : List ℕ) → g .p ≤ 8192 → ((i : ℕ) → 1 ≤ i → i ≤ g .h → Listed g ws i) → listsOk g ws ≡ ((placesInside g ws && placesOnce g ws) && listsUnusedZero g ws)
+pub lists-rules : (z : Layout) (ws : List ℕ) → z .geo .p ≤ 8192 → ((i : ℕ) → 1 ≤ i → i ≤ z .geo .h → Listed z ws i) → listsOk z ws ≡ ((placesInside z ws && placesOnce z ws) && listsUnusedZero z ws)
 unfolding listsOk placesInside placesOnce listsUnusedZero
-lists-rules g ws h f =
-    lists-fresh g ws 1 (g .h) (replicate 8192 false) (λ j a b. f j a (omega arith))
-    ∙ rw (fresh-is (g .p) (replicate 8192 false) (allListed g ws) (rw (length-replicate 8192 false) h), fresh-none 8192 (allListed g ws))
+lists-rules z ws h f =
+    lists-fresh z ws 1 (z .geo .h) (replicate 8192 false) (λ j a b. f j a (omega arith))
+    ∙ rw (fresh-is (z .geo .p) (replicate 8192 false) (allListed z ws) (rw (length-replicate 8192 false) h), fresh-none 8192 (allListed z ws))

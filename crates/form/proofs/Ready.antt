@@ -4,95 +4,102 @@ use mathlib.Core.Path.{_≡_, refl, sym, ap, _∙_, subst}
 use mathlib.Core.Bool.{Bool, true, false, and-eq-true-iff}
 use mathlib.Core.List.{List}
 use native.Mathlib.Omega.{arith}
-use borrow.Author.Tests.{ne-eqb}
-use Rattle.geometry.specs.declared.Geometry.{Geometry}
+use lib.ListN.{length}
+use borrow.Author.Tests.{eq-eqb, ne-eqb}
 use Rattle.levels.specs.Basics.{if_then_else_, orElse}
 use Rattle.levels.specs.Map.{find, view, decides}
 use Rattle.levels.specs.Store.{rows}
-use Rattle.words.specs.Layout.{geometryAt, storeAt}
+use Rattle.words.specs.Stores.{geometryAt, storeAt, layoutAt}
 use Rattle.words.specs.Form.{formed, blocksFilled, reasonOf}
-use Rattle.entry.specs.declared.Opened.{Opened}
-use Rattle.entry.specs.declared.Opened.the-variants.{Ready, Refused}
-use Rattle.entry.specs.Entry.{Sized, pickOpened, openedOf}
-use Rattle.entry.proofs.Laws.{pick-ready, pick-refused, opened-ready, opened-refused, ready-reason, refused-reason}
+use Rattle.layout.specs.declared.Opened.the-variants.{Ready, Refused}
+use Rattle.layout.specs.Opening.{pickOpened, openedOf}
+use Rattle.layout.proofs.Opening.{pick-ready, pick-refused, opened-ready, opened-none, opened-refused}
+use Rattle.words.proofs.Reason.{passed-formed, reason-passed}
 use Rattle.directory.specs.Directory.{recordsOf}
 use Rattle.walk.specs.Walk.{layered, AllFormed}
 use Rattle.form.specs.Checked.{checkedOf}
 use Rattle.form.specs.Form.{Headed, listsOk, topOf, levelOf, levelsOf, passed}
-use Rattle.form.proofs.Clauses.{formed-is, passed-filled, passed-formed, layered-is, decides-is}
+use Rattle.form.proofs.Clauses.{formed-is, passed-filled, formed-levels, layered-is, decides-is}
+use Rattle.layout.specs.Layouts.{sizeReason, Fitted}
+use Rattle.layout.specs.declared.Layout.{Layout}
+use Rattle.words.specs.Passed.{Passed}
+
+-- "4. The form check finds a breach": all that is left to find of a store that is ready
+pub ready-reason : (ws : List ℕ) (z : Layout) → openedOf ws ≡ Ready z → reasonOf ws ≡ (if formed z ws then 0 else 4)
+unfolding reasonOf
+ready-reason ws z e =
+    let q = ap (λ (y : Layout). formed y ws) (opened-ready ws z e .layout) in
+    rw (q, eq-eqb (sizeReason (length ws) (geometryAt ws)) 0 (opened-none ws z e), reasonOf) (either (formed (layoutAt ws) ws))
+  where
+    either : (t : Bool) → _≡_ {A = ℕ} (elim t [ true ↦ 0 | false ↦ 4 ]) (if t then 0 else 4)
+    either true = refl
+    either false = refl
+
+-- a store that is turned down here is turned down by every call
+pub refused-reason : (ws : List ℕ) (n : ℕ) → openedOf ws ≡ Refused n → reasonOf ws ≡ n
+unfolding reasonOf
+refused-reason ws n e =
+    let k = opened-refused ws n e in rw (ne-eqb (sizeReason (length ws) (geometryAt ws)) 0 (λ z. omega arith), reasonOf) (k .0)
 
 -- The answers of `check`, by what the code has found out.
 pub checked-opened : (ws : List ℕ) (n : ℕ) → openedOf ws ≡ Refused n → Refused n ≡ checkedOf ws
 unfolding checkedOf
 checked-opened ws n e = let k = opened-refused ws n e in rw (refused-reason ws n e, ne-eqb n 0 (λ z. omega arith), pickOpened, refused-reason ws n e)
 
-pub checked-passed : (ws : List ℕ) (g : Geometry) → openedOf ws ≡ Ready g → passed g ws ≡ true → Ready g ≡ checkedOf ws
+pub checked-passed : (ws : List ℕ) (z : Layout) → openedOf ws ≡ Ready z → passed z ws ≡ true → Ready z ≡ checkedOf ws
 unfolding checkedOf
-checked-passed ws g e p =
-    let z = opened-ready ws g e in
-    let r : reasonOf ws ≡ 0 = ready-reason ws g e ∙ rw (← formed-is g ws z, p) in
-    rw r (ap Ready (z .geometry))
+checked-passed ws z e p =
+    let y = opened-ready ws z e in
+    let r : reasonOf ws ≡ 0 = ready-reason ws z e ∙ rw (← formed-is z ws (y .fitted), p) in
+    rw r (ap Ready (y .layout))
 
-pub checked-broken : (ws : List ℕ) (g : Geometry) → openedOf ws ≡ Ready g → passed g ws ≡ false → Refused 4 ≡ checkedOf ws
+pub checked-broken : (ws : List ℕ) (z : Layout) → openedOf ws ≡ Ready z → passed z ws ≡ false → Refused 4 ≡ checkedOf ws
 unfolding checkedOf
-checked-broken ws g e p =
-    let z = opened-ready ws g e in
-    let r : reasonOf ws ≡ 4 = ready-reason ws g e ∙ rw (← formed-is g ws z, p) in
+checked-broken ws z e p =
+    let y = opened-ready ws z e in
+    let r : reasonOf ws ≡ 4 = ready-reason ws z e ∙ rw (← formed-is z ws (y .fitted), p) in
     rw r
 
 -- "Ready": there is no reason to turn the store down, and its first words give the geometry
-pub checked-ready : (ws : List ℕ) (g : Geometry) → checkedOf ws ≡ Ready g → (g ≡ geometryAt ws) × (reasonOf ws ≡ 0)
+pub checked-ready : (ws : List ℕ) (z : Layout) → checkedOf ws ≡ Ready z → (z ≡ layoutAt ws) × (reasonOf ws ≡ 0)
 unfolding checkedOf
-checked-ready ws g e = pick-ready (reasonOf ws) (geometryAt ws) g e
+checked-ready ws z e = pick-ready (reasonOf ws) (layoutAt ws) z e
 
 -- "Refused": the number is the reason of document 01
 pub checked-refused : (ws : List ℕ) (n : ℕ) → checkedOf ws ≡ Refused n → (reasonOf ws ≡ n) × (1 ≤ n)
 unfolding checkedOf
-checked-refused ws n e = pick-refused (reasonOf ws) (geometryAt ws) n e
+checked-refused ws n e = pick-refused (reasonOf ws) (layoutAt ws) n e
 
--- a store that is ready has its layout's length and passes the form check
-ready-formed : (ws : List ℕ) (g : Geometry) → checkedOf ws ≡ Ready g → Sized g ws × (formed g ws ≡ true)
-ready-formed ws g e = go (openedOf ws) refl
-  where
-    pick : (t : Bool) → _≡_ {A = ℕ} (if t then 0 else 4) 0 → t ≡ true
-    pick true h = refl
-    pick false h = absurd (omega arith)
+-- a store that is ready passes
+pub checked-passes : (ws : List ℕ) (z : Layout) → checkedOf ws ≡ Ready z → Passed z ws
+checked-passes ws z e = let k = checked-ready ws z e in subst (λ (y : Layout). Passed y ws) (sym (k .0)) (reason-passed ws (k .1))
 
-    go : (o : Opened) → openedOf ws ≡ o → Sized g ws × (formed g ws ≡ true)
-    go (Ready t) q =
-        let k = checked-ready ws g e in
-        let z = opened-ready ws t q in
-        let f = pick (formed t ws) (sym (ready-reason ws t q) ∙ k .1) in
-        subst (λ (u : Geometry). Sized u ws × (formed u ws ≡ true)) (z .geometry ∙ sym (k .0)) (z, f)
-    go (Refused n) q =
-        absurd (omega (arith, checked-ready ws g e .1, refused-reason ws n q, opened-refused ws n q .1))
+module _ (ws : List ℕ) (z : Layout) (e : Passed z ws) where
+  pub ready-sized : Fitted z ws
+  ready-sized = record { proper = e .proper; words = e .long }
 
-module _ (ws : List ℕ) (g : Geometry) (e : checkedOf ws ≡ Ready g) where
-  pub ready-sized : Sized g ws
-  ready-sized = ready-formed ws g e .0
+  pub ready-passed : passed z ws ≡ true
+  ready-passed = formed-is z ws ready-sized ∙ passed-formed z ws e
 
-  pub ready-passed : passed g ws ≡ true
-  ready-passed = formed-is g ws ready-sized ∙ ready-formed ws g e .1
-
-  pub ready-headed : Headed g ws
-  ready-headed = passed-filled g ws ready-sized ready-passed .0
+  pub ready-headed : Headed z ws
+  ready-headed = passed-filled z ws ready-sized ready-passed .0
 
   -- "a listed block has 1 to B records"
-  pub ready-filled : blocksFilled g ws ≡ true
-  ready-filled = passed-filled g ws ready-sized ready-passed .1
+  pub ready-filled : blocksFilled z ws ≡ true
+  ready-filled = passed-filled z ws ready-sized ready-passed .1
 
-  pub ready-lists : listsOk g ws ≡ true
+  pub ready-lists : listsOk z ws ≡ true
   unfolding passed
   ready-lists = let k = simp and-eq-true-iff at ready-passed in k .1 .0
 
   -- the searches and the walk can read its four levels
-  pub ready-levels : AllFormed ws (levelsOf g ws)
-  ready-levels = passed-formed g ws ready-sized ready-passed
+  pub ready-levels : AllFormed ws (levelsOf z ws)
+  ready-levels = formed-levels z ws ready-sized ready-passed
 
   -- what the four levels show together is what the rows of the store show
-  pub ready-view : layered ws (levelsOf g ws) ≡ view (rows (storeAt g ws))
-  ready-view = layered-is g ws ready-headed ready-filled
+  pub ready-view : layered ws (levelsOf z ws) ≡ view (rows (storeAt z ws))
+  ready-view = layered-is z ws ready-headed ready-filled
 
   -- "the first level from 0 down that has k decides"
-  pub ready-decides : (k : ℕ) → decides k (rows (storeAt g ws)) ≡ orElse (find k (recordsOf ws (topOf g ws))) (orElse (find k (recordsOf ws (levelOf g ws 1))) (orElse (find k (recordsOf ws (levelOf g ws 2))) (find k (recordsOf ws (levelOf g ws 3)))))
-  ready-decides k = decides-is g ws ready-headed ready-filled k
+  pub ready-decides : (k : ℕ) → decides k (rows (storeAt z ws)) ≡ orElse (find k (recordsOf ws (topOf z ws))) (orElse (find k (recordsOf ws (levelOf z ws 1))) (orElse (find k (recordsOf ws (levelOf z ws 2))) (find k (recordsOf ws (levelOf z ws 3)))))
+  ready-decides k = decides-is z ws ready-headed ready-filled k

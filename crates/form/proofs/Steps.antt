@@ -8,21 +8,21 @@ use native.Mathlib.Nat.{mul-le-mul}
 use borrow.Author.Tests.{lt-ltb, le-ltb}
 use lib.Dec.{ltb, leb}
 use lib.ListN.{getD, length, set}
-use Rattle.geometry.specs.declared.Geometry.{Geometry}
-use Rattle.geometry.specs.Geometry.{capacityOf, keyLimitOf, topCapacityOf, keysStart, paysStart}
-use Rattle.geometry.proofs.Laws.{pays-end}
+use Rattle.geometry.specs.Geometry.{capacityOf, keyLimitOf, topCapacityOf}
 use Rattle.geometry.proofs.Bounds.{capacity-zero-high}
-use Rattle.words.specs.Layout.{word}
+use Rattle.words.specs.Stores.{word, countAt, cursorAt, liveAt, topCountAt}
 use Rattle.words.specs.Form.{liveFits, cursorInside, topFits, roomOf, countsFit}
 use Rattle.chunks.specs.Chunks.{zerosAt}
 use Rattle.directory.specs.declared.Directory.{Directory}
 use Rattle.form.specs.Form.{Headed, headerOk, topOf, levelOf, freshOf, markOf, listsFrom, spareOk}
 use Rattle.form.proofs.Sizes.{top-paged, lists-in}
+use Rattle.layout.specs.declared.Layout.{Layout}
+use Rattle.layout.proofs.Laws.{keys-before, marks-before, pays-before, places-before}
 
 -- the tests of the header, one by one
-pub header-is : (g : Geometry) (ws : List ℕ) → (leb (word ws 6) (keyLimitOf g) && (ltb (word ws 7) (g .p) && (leb (word ws 8) (topCapacityOf g) && (leb (word ws 9) (roomOf g 1) && (leb (word ws 10) (roomOf g 2) && leb (word ws 11) (roomOf g 3)))))) ≡ headerOk g ws
+pub header-is : (z : Layout) (ws : List ℕ) → (leb (liveAt z ws) (keyLimitOf (z .geo)) && (ltb (cursorAt z ws) (z .geo .p) && (leb (topCountAt z ws) (topCapacityOf (z .geo)) && (leb (countAt z ws 1) (roomOf (z .geo) 1) && (leb (countAt z ws 2) (roomOf (z .geo) 2) && leb (countAt z ws 3) (roomOf (z .geo) 3)))))) ≡ headerOk z ws
 unfolding headerOk liveFits cursorInside topFits countsFit
-header-is g ws = go (leb (word ws 6) (keyLimitOf g)) (ltb (word ws 7) (g .p)) (leb (word ws 8) (topCapacityOf g)) (leb (word ws 9) (roomOf g 1)) (leb (word ws 10) (roomOf g 2)) (leb (word ws 11) (roomOf g 3))
+header-is z ws = go (leb (liveAt z ws) (keyLimitOf (z .geo))) (ltb (cursorAt z ws) (z .geo .p)) (leb (topCountAt z ws) (topCapacityOf (z .geo))) (leb (countAt z ws 1) (roomOf (z .geo) 1)) (leb (countAt z ws 2) (roomOf (z .geo) 2)) (leb (countAt z ws 3) (roomOf (z .geo) 3))
   where
     go : (a b c d e f : Bool) → (a && (b && (c && (d && (e && f))))) ≡ (a && (b && (c && (d && (e && (f && true))))))
     go a b c d e f = rw (and-true f)
@@ -74,57 +74,59 @@ pub record Spare (d : Directory) (k n : ℕ) : Type 0 where
   pub keys : d .base + d .chunks * d .width + (k - d .chunks) * d .width ≤ n
   pub payloads : d .pays + d .chunks * d .width + (k - d .chunks) * d .width ≤ n
 
-spare-top : (g : Geometry) (ws : List ℕ) → Headed g ws → Spare (topOf g ws) (capacityOf g 0) (length ws)
-unfolding topOf keysStart paysStart topCapacityOf
-spare-top g ws z =
-    let k = z .sized .valid .ranged in
-    let p = top-paged g ws z in
-    let w = lists-in g ws z 1 (omega arith) (k .h-low) .inside in
-    let h : capacityOf g 0 * g .b ≤ 4096 = mul-le-mul (capacity-zero-high g k) (k .b-high) in
+spare-top : (z : Layout) (ws : List ℕ) → Headed z ws → Spare (topOf z ws) (capacityOf (z .geo) 0) (length ws)
+unfolding topOf topCapacityOf
+spare-top z ws y =
+    let k = y .sized .proper .valid .ranged in
+    let p = top-paged z ws y in
+    let w = y .sized .words in
+    let o = y .sized .proper in
+    let i = places-before z o in
+    let h : capacityOf (z .geo) 0 * z .geo .b ≤ 4096 = mul-le-mul (capacity-zero-high (z .geo) k) (k .b-high) in
     record {
       few = p .few;
       past-high = omega (arith, p .rest);
       left-high = omega (arith, p .rest);
-      marks = omega (arith, p .few, pays-end g);
-      keys = omega (arith, p .rest, pays-end g);
-      payloads = omega (arith, p .rest, pays-end g);
+      marks = omega (arith, p .few, marks-before z o);
+      keys = omega (arith, p .rest, keys-before z o);
+      payloads = omega (arith, p .rest, pays-before z o);
     }
 
-pub spare-in : (g : Geometry) (ws : List ℕ) → Headed g ws → (d : Directory) → d ≡ topOf g ws → (k : ℕ) → k ≡ capacityOf g 0 → Spare d k (length ws)
-spare-in g ws z d e k q = rw (e, q) (spare-top g ws z)
+pub spare-in : (z : Layout) (ws : List ℕ) → Headed z ws → (d : Directory) → d ≡ topOf z ws → (k : ℕ) → k ≡ capacityOf (z .geo) 0 → Spare d k (length ws)
+spare-in z ws y d e k q = rw (e, q) (spare-top z ws y)
 
 -- the words behind the pages, by the directory
-pub spare-is : (g : Geometry) (ws : List ℕ) (d : Directory) → d ≡ topOf g ws → (k : ℕ) → k ≡ capacityOf g 0
-    → (zerosAt ws (d .list + d .chunks) (k - d .chunks) && (zerosAt ws (d .base + d .chunks * d .width) ((k - d .chunks) * d .width) && zerosAt ws (d .pays + d .chunks * d .width) ((k - d .chunks) * d .width))) ≡ spareOk g ws
+pub spare-is : (z : Layout) (ws : List ℕ) (d : Directory) → d ≡ topOf z ws → (k : ℕ) → k ≡ capacityOf (z .geo) 0
+    → (zerosAt ws (d .list + d .chunks) (k - d .chunks) && (zerosAt ws (d .base + d .chunks * d .width) ((k - d .chunks) * d .width) && zerosAt ws (d .pays + d .chunks * d .width) ((k - d .chunks) * d .width))) ≡ spareOk z ws
 unfolding spareOk topOf
-spare-is g ws d e k q = rw (e, q)
+spare-is z ws d e k q = rw (e, q)
 
 -- a list lies in the store, and has room for its count
-pub list-room : (g : Geometry) (ws : List ℕ) → Headed g ws → (i : ℕ) → i < g .h → (d : Directory) → d ≡ levelOf g ws (i + 1) → (k : ℕ) → k ≡ capacityOf g (i + 1) → (d .list + k ≤ length ws) × (d .chunks ≤ k)
+pub list-room : (z : Layout) (ws : List ℕ) → Headed z ws → (i : ℕ) → i < z .geo .h → (d : Directory) → d ≡ levelOf z ws (i + 1) → (k : ℕ) → k ≡ capacityOf (z .geo) (i + 1) → (d .list + k ≤ length ws) × (d .chunks ≤ k)
 unfolding levelOf
-list-room g ws z i h d e k q = let l = lists-in g ws z (i + 1) (omega arith) (omega arith) in rw (e, q) (l .inside, l .fits)
+list-room z ws y i h d e k q = let l = lists-in z ws y (i + 1) (omega arith) (omega arith) in rw (e, q) (l .inside, l .fits)
 
 -- One list.
-module _ (g : Geometry) (ws : List ℕ) (i n : ℕ) (used : List Bool) (h : i < n) (d : Directory) (e : d ≡ levelOf g ws (i + 1)) where
-  pub lists-unfresh : freshOf ws (g .p) (d .list) (d .chunks) used ≡ false → listsFrom g ws (i + 1) (n - i) used ≡ false
+module _ (z : Layout) (ws : List ℕ) (i n : ℕ) (used : List Bool) (h : i < n) (d : Directory) (e : d ≡ levelOf z ws (i + 1)) where
+  pub lists-unfresh : freshOf ws (z .geo .p) (d .list) (d .chunks) used ≡ false → listsFrom z ws (i + 1) (n - i) used ≡ false
   unfolding listsFrom levelOf
   lists-unfresh f = let r : n - i ≡ suc (n - (i + 1)) = omega arith in rw (r, rw e at f)
 
-  pub lists-unzero : (k : ℕ) → k ≡ capacityOf g (i + 1) → freshOf ws (g .p) (d .list) (d .chunks) used ≡ true → zerosAt ws (d .list + d .chunks) (k - d .chunks) ≡ false → listsFrom g ws (i + 1) (n - i) used ≡ false
+  pub lists-unzero : (k : ℕ) → k ≡ capacityOf (z .geo) (i + 1) → freshOf ws (z .geo .p) (d .list) (d .chunks) used ≡ true → zerosAt ws (d .list + d .chunks) (k - d .chunks) ≡ false → listsFrom z ws (i + 1) (n - i) used ≡ false
   unfolding listsFrom levelOf
   lists-unzero k q f u = let r : n - i ≡ suc (n - (i + 1)) = omega arith in rw (r, rw e at f, rw (e, q) at u)
 
-  pub lists-next : (k : ℕ) → k ≡ capacityOf g (i + 1) → freshOf ws (g .p) (d .list) (d .chunks) used ≡ true → zerosAt ws (d .list + d .chunks) (k - d .chunks) ≡ true
-      → listsFrom g ws (i + 1) (n - i) used ≡ listsFrom g ws (i + 1 + 1) (n - (i + 1)) (markOf ws (d .list) (d .chunks) used)
+  pub lists-next : (k : ℕ) → k ≡ capacityOf (z .geo) (i + 1) → freshOf ws (z .geo .p) (d .list) (d .chunks) used ≡ true → zerosAt ws (d .list + d .chunks) (k - d .chunks) ≡ true
+      → listsFrom z ws (i + 1) (n - i) used ≡ listsFrom z ws (i + 1 + 1) (n - (i + 1)) (markOf ws (d .list) (d .chunks) used)
   unfolding listsFrom levelOf
   lists-next k q f u =
       let r : n - i ≡ suc (n - (i + 1)) = omega arith in
       let t : i + 1 + 1 ≡ suc (i + 1) = omega arith in
       rw (r, rw e at f, rw (e, q) at u, e, t)
 
-pub lists-start : (g : Geometry) (ws : List ℕ) (n : ℕ) (used : List Bool) → listsFrom g ws (0 + 1) (n - 0) used ≡ listsFrom g ws 1 n used
-lists-start g ws n used = let r : n - 0 ≡ n = omega arith in rw r
+pub lists-start : (z : Layout) (ws : List ℕ) (n : ℕ) (used : List Bool) → listsFrom z ws (0 + 1) (n - 0) used ≡ listsFrom z ws 1 n used
+lists-start z ws n used = let r : n - 0 ≡ n = omega arith in rw r
 
-pub lists-end : (g : Geometry) (ws : List ℕ) (i n : ℕ) (used : List Bool) → n ≤ i → listsFrom g ws (i + 1) (n - i) used ≡ true
+pub lists-end : (z : Layout) (ws : List ℕ) (i n : ℕ) (used : List Bool) → n ≤ i → listsFrom z ws (i + 1) (n - i) used ≡ true
 unfolding listsFrom
-lists-end g ws i n used h = let r : n - i ≡ 0 = omega arith in rw r
+lists-end z ws i n used h = let r : n - i ≡ 0 = omega arith in rw r

@@ -12,7 +12,7 @@ use lib.ListN.{drop}
 use lib.Pow.{pow-add, pow-pos}
 use Rattle.levels.specs.Basics.{all}
 use Rattle.levels.specs.Record.{hasTombstone}
-use Rattle.words.specs.Layout.{word, slotsAt}
+use Rattle.words.specs.Stores.{word, slotsAt}
 use Rattle.words.specs.Form.{blank}
 use Rattle.chunks.specs.Chunks.{zerosAt}
 use Rattle.words.proofs.Slots.{slots-drop, shift-suc}

@@ -1,5 +1,5 @@
 // The form check of a lent store (document 01, "Form check"), and what every call begins with: the
-// geometry of a store that passes, or the reason that it is turned down for.
+// layout of a store that passes, or the reason that it is turned down for.
 
 ghost use mathlib.Core.Path.{_≡_};
 ghost use mathlib.Core.Bool.{true};
@@ -8,23 +8,24 @@ ghost use lib.ListN.{length};
 ghost use Rattle.geometry.specs.Geometry.{Ranged};
 ghost use Rattle.geometry.specs.Room.{placesMost};
 ghost use Rattle.words.specs.Form.{roomOf};
-ghost use Rattle.entry.specs.Entry.{Sized};
+ghost use Rattle.layout.specs.Layouts.{Fitted};
 ghost use Rattle.form.specs.Form.{Headed, topOf, levelOf, levelsOf, headerOk, freshOf, markOf, listsOk, spareOk, passed};
 ghost use Rattle.form.specs.Checked.{checkedOf};
 use directory::Directory;
-use entry::Opened;
 use geometry::Geometry;
+use layout::Layout;
+use layout::Opened;
 use walk::Levels;
 
-// What every call begins with: the geometry of a store that passes, or the reason that it is turned down for.
+// What every call begins with: the layout of a store that passes, or the reason that it is turned down for.
 pub fn check(s: &[u32]) -> Opened
     ensures { λ r. ⌜ r ≡ checkedOf (now (s .entry)) ⌝ }
 {
-    match entry::open(s) {
+    match layout::open(s) {
         Opened::Refused(n) => Opened::Refused(n),
-        Opened::Ready(g) => {
-            if passes(s, g) {
-                Opened::Ready(g)
+        Opened::Ready(z) => {
+            if passes(s, z) {
+                Opened::Ready(z)
             } else {
                 Opened::Refused(4)
             }
@@ -33,58 +34,56 @@ pub fn check(s: &[u32]) -> Opened
 }
 
 // Level 0 of a store.
-pub fn top_of(s: &[u32], g: Geometry) -> Directory
-    requires { ⌜ Sized g (now s) ⌝ }
-    ensures { λ r. ⌜ r ≡ topOf g (now (s .entry)) ⌝ }
+pub fn top_of(s: &[u32], z: Layout) -> Directory
+    requires { ⌜ Fitted z (now s) ⌝ }
+    ensures { λ r. ⌜ r ≡ topOf z (now (s .entry)) ⌝ }
 {
+    let g = z.geo;
     let width = g.block_records();
-    let list = g.marks_start();
-    let base = g.keys_start();
-    let pays = g.pays_start();
-    let records = slices::word(s, 8);
+    let records = slices::word(s, z.count);
     Directory {
         top: true,
         bottom: false,
         width: width,
         chunks: (records + (width - 1)) / width,
-        list: list,
-        base: base,
-        pays: pays,
+        list: z.marks,
+        base: z.keys,
+        pays: z.pays,
         records: records,
     }
 }
 
 // Level i of a store, from 1 on. A level below the bottom lists no block, so that four levels can always be gone over.
-pub fn level_of(s: &[u32], g: Geometry, i: usize) -> Directory
-    requires { ⌜ Sized g (now s) × ((1 ≤ i) × (i ≤ 3)) ⌝ }
-    ensures { λ r. ⌜ r ≡ levelOf g (now (s .entry)) i ⌝ }
+pub fn level_of(s: &[u32], z: Layout, i: usize) -> Directory
+    requires { ⌜ Fitted z (now s) × ((1 ≤ i) × (i ≤ 3)) ⌝ }
+    ensures { λ r. ⌜ r ≡ levelOf z (now (s .entry)) i ⌝ }
 {
+    let g = z.geo;
     let width = g.block_records();
     let h = g.levels();
-    let list = g.list_start(i);
-    let base = g.places_start();
-    let n = slices::word(s, 8 + i);
+    let list = z.list_start(i);
+    let n = slices::word(s, z.count + i);
     Directory {
         top: false,
         bottom: i == h,
         width: width,
         chunks: n,
         list: list,
-        base: base,
+        base: z.places,
         pays: 0,
         records: 0,
     }
 }
 
 // The four levels of a store.
-pub fn levels_of(s: &[u32], g: Geometry) -> Levels
-    requires { ⌜ Sized g (now s) ⌝ }
-    ensures { λ r. ⌜ r ≡ levelsOf g (now (s .entry)) ⌝ }
+pub fn levels_of(s: &[u32], z: Layout) -> Levels
+    requires { ⌜ Fitted z (now s) ⌝ }
+    ensures { λ r. ⌜ r ≡ levelsOf z (now (s .entry)) ⌝ }
 {
-    let d0 = top_of(s, g);
-    let d1 = level_of(s, g, 1);
-    let d2 = level_of(s, g, 2);
-    let d3 = level_of(s, g, 3);
+    let d0 = top_of(s, z);
+    let d1 = level_of(s, z, 1);
+    let d2 = level_of(s, z, 2);
+    let d3 = level_of(s, z, 3);
     Levels {
         d0: d0,
         d1: d1,
@@ -106,22 +105,24 @@ fn room_of(g: Geometry, i: usize) -> usize
 }
 
 // The size words are within their limits.
-pub fn header_ok(s: &[u32], g: Geometry) -> bool
-    requires { ⌜ Sized g (now s) ⌝ }
-    ensures { λ r. ⌜ r ≡ headerOk g (now (s .entry)) ⌝ }
+pub fn header_ok(s: &[u32], z: Layout) -> bool
+    requires { ⌜ Fitted z (now s) ⌝ }
+    ensures { λ r. ⌜ r ≡ headerOk z (now (s .entry)) ⌝ }
 {
+    let g = z.geo;
     let most = g.key_limit();
     let places = g.places();
     let room = g.top_capacity();
     let k1 = room_of(g, 1);
     let k2 = room_of(g, 2);
     let k3 = room_of(g, 3);
-    let live = slices::word(s, 6);
-    let hand = slices::word(s, 7);
-    let records = slices::word(s, 8);
-    let n1 = slices::word(s, 9);
-    let n2 = slices::word(s, 10);
-    let n3 = slices::word(s, 11);
+    let c = z.count;
+    let live = slices::word(s, z.live);
+    let hand = slices::word(s, z.hand);
+    let records = slices::word(s, c);
+    let n1 = slices::word(s, c + 1);
+    let n2 = slices::word(s, c + 2);
+    let n3 = slices::word(s, c + 3);
     (live <= most)
         & ((hand < places) & ((records <= room) & ((n1 <= k1) & ((n2 <= k2) & (n3 <= k3)))))
 }
@@ -153,16 +154,17 @@ pub fn list_fresh(
 
 // Every list: its places are below P, none twice over all levels, and its unused entries are 0. The work
 // array has a mark for every place that a store may have.
-pub fn lists_ok(s: &[u32], g: Geometry) -> bool
-    requires { ⌜ Headed g (now s) ⌝ }
-    ensures { λ r. ⌜ r ≡ listsOk g (now (s .entry)) ⌝ }
+pub fn lists_ok(s: &[u32], z: Layout) -> bool
+    requires { ⌜ Headed z (now s) ⌝ }
+    ensures { λ r. ⌜ r ≡ listsOk z (now (s .entry)) ⌝ }
 {
+    let g = z.geo;
     let h = g.levels();
     let p = g.places();
     let mut used = [false; Geometry::MAX_P];
     for i in 0..h {
         let room = g.capacity(i + 1);
-        let level = level_of(s, g, i + 1);
+        let level = level_of(s, z, i + 1);
         let start = level.list;
         let n = level.chunks;
         if !list_fresh(s, &mut used, start, n, p) {
@@ -176,12 +178,13 @@ pub fn lists_ok(s: &[u32], g: Geometry) -> bool
 }
 
 // The words of level 0 behind its pages are 0. Those of its last page are gone over with the page.
-pub fn spare_ok(s: &[u32], g: Geometry) -> bool
-    requires { ⌜ Headed g (now s) ⌝ }
-    ensures { λ r. ⌜ r ≡ spareOk g (now (s .entry)) ⌝ }
+pub fn spare_ok(s: &[u32], z: Layout) -> bool
+    requires { ⌜ Headed z (now s) ⌝ }
+    ensures { λ r. ⌜ r ≡ spareOk z (now (s .entry)) ⌝ }
 {
+    let g = z.geo;
     let room = g.capacity(0);
-    let top = top_of(s, g);
+    let top = top_of(s, z);
     let n = top.chunks;
     let width = top.width;
     let marks = top.list;
@@ -198,37 +201,37 @@ pub fn spare_ok(s: &[u32], g: Geometry) -> bool
     chunks::zeros(s, pays + past, left * width)
 }
 
-// The form check of a store of this geometry. It reads no word of a place that no list names.
-pub fn passes(s: &[u32], g: Geometry) -> bool
-    requires { ⌜ Sized g (now s) ⌝ }
-    ensures { λ r. ⌜ r ≡ passed g (now (s .entry)) ⌝ }
+// The form check of a store of this layout. It reads no word of a place that no list names.
+pub fn passes(s: &[u32], z: Layout) -> bool
+    requires { ⌜ Fitted z (now s) ⌝ }
+    ensures { λ r. ⌜ r ≡ passed z (now (s .entry)) ⌝ }
 {
-    if !header_ok(s, g) {
+    if !header_ok(s, z) {
         return false;
     }
-    if !lists_ok(s, g) {
+    if !lists_ok(s, z) {
         return false;
     }
-    if !spare_ok(s, g) {
+    if !spare_ok(s, z) {
         return false;
     }
-    let d0 = top_of(s, g);
+    let d0 = top_of(s, z);
     if !directory::level_formed(s, d0) {
         return false;
     }
-    let d1 = level_of(s, g, 1);
+    let d1 = level_of(s, z, 1);
     if !directory::level_formed(s, d1) {
         return false;
     }
-    let d2 = level_of(s, g, 2);
+    let d2 = level_of(s, z, 2);
     if !directory::level_formed(s, d2) {
         return false;
     }
-    let d3 = level_of(s, g, 3);
+    let d3 = level_of(s, z, 3);
     if !directory::level_formed(s, d3) {
         return false;
     }
-    let live = slices::word(s, 6);
+    let live = slices::word(s, z.live);
     let levels = Levels {
         d0: d0,
         d1: d1,

@@ -1,10 +1,8 @@
-// The geometry of a store: six numbers set by format, their limits, and every size and offset that
-// follows from them (document 01, "Geometry" and "Layout of the lent store").
+// The geometry of a store: six numbers set by format, their limits and the capacities that follow from them (document 01, "Geometry").
 
 ghost use mathlib.Core.Path.{_≡_};
 ghost use Prim.Native.Nat.{_+_, _^_, _≤_};
-ghost use Rattle.geometry.specs.Geometry.{capacityOf, windowOf, capacitySum, flashCapacityOf, keyLimitOf, inRanges, inSizes, builtOf, Ranged, Valid, marksStart, keysStart, paysStart, listStart, blockWidth, placesStart, placeStart, storeLength, topCapacityOf};
-ghost use Rattle.geometry.specs.Room.{placesMost};
+ghost use Rattle.geometry.specs.Geometry.{capacityOf, windowOf, capacitySum, flashCapacityOf, keyLimitOf, inRanges, inSizes, builtOf, Ranged, blockWidth, topCapacityOf};
 
 // The fields are private, so that a geometry outside this crate comes from `new` and keeps every limit.
 pub struct Geometry {
@@ -129,7 +127,7 @@ impl Geometry {
     }
 
     // The capacities of `n` levels from `first` on, together.
-    fn capacity_sum(self, first: usize, n: usize) -> usize
+    pub fn capacity_sum(self, first: usize, n: usize) -> usize
         requires { ⌜ Ranged self × (first + n ≤ 4) ⌝ }
         ensures { λ r. ⌜ r ≡ capacitySum self first n ⌝ }
     {
@@ -191,68 +189,11 @@ impl Geometry {
         self.capacity(0) * b
     }
 
-    // The first of level 0's mark words.
-    pub fn marks_start(self) -> usize
-        ensures { λ r. ⌜ r ≡ marksStart self ⌝ }
-    {
-        12
-    }
-
-    // The first of level 0's keys.
-    pub fn keys_start(self) -> usize
-        requires { ⌜ Ranged self ⌝ }
-        ensures { λ r. ⌜ r ≡ keysStart self ⌝ }
-    {
-        self.marks_start() + self.capacity(0)
-    }
-
-    // The first of level 0's payloads.
-    pub fn pays_start(self) -> usize
-        requires { ⌜ Ranged self ⌝ }
-        ensures { λ r. ⌜ r ≡ paysStart self ⌝ }
-    {
-        self.keys_start() + self.top_capacity()
-    }
-
-    // The first entry of the place list of a level from 1 on; of level h + 1, the end of the lists.
-    pub fn list_start(self, level: usize) -> usize
-        requires { ⌜ Ranged self × ((1 ≤ level) × (level ≤ 4)) ⌝ }
-        ensures { λ r. ⌜ r ≡ listStart self level ⌝ }
-    {
-        self.pays_start() + self.top_capacity() + self.capacity_sum(1, level - 1)
-    }
-
     // The words of a place.
     pub fn block_width(self) -> usize
         requires { ⌜ Ranged self ⌝ }
         ensures { λ r. ⌜ r ≡ blockWidth self ⌝ }
     {
         2 + 2 * self.b
-    }
-
-    // The first word of place 0.
-    pub fn places_start(self) -> usize
-        requires { ⌜ Ranged self ⌝ }
-        ensures { λ r. ⌜ r ≡ placesStart self ⌝ }
-    {
-        let h = self.h;
-        self.list_start(h + 1)
-    }
-
-    // The first word of a place; of place P, the end of the store.
-    pub fn place_start(self, place: usize) -> usize
-        requires { ⌜ Ranged self × (place ≤ placesMost) ⌝ }
-        ensures { λ r. ⌜ r ≡ placeStart self place ⌝ }
-    {
-        self.places_start() + place * self.block_width()
-    }
-
-    // The words of the whole layout.
-    pub fn store_length(self) -> usize
-        requires { ⌜ Valid self ⌝ }
-        ensures { λ r. ⌜ r ≡ storeLength self ⌝ }
-    {
-        let p = self.p;
-        self.place_start(p)
     }
 }

@@ -2,12 +2,12 @@
 use Prim.Native.Nat.{ℕ, zero, suc, _+_, _-_, _*_, _/_, _%_, _^_, _≤_, _<_}
 use mathlib.Core.Path.{_≡_, _∙_, refl}
 use mathlib.Core.Bool.{Bool, true, false}
-use mathlib.Core.List.{List, []}
+use mathlib.Core.List.{List}
 use native.Mathlib.Numerals.{add-one}
 use native.Mathlib.Nat.{pow-suc, mul-le-mul-right}
 use native.Mathlib.Omega.{arith}
 use lib.ListN.{getD, set}
-use Rattle.blocks.specs.declared.Layout.{Layout}
+use Rattle.blocks.specs.declared.Offsets.{Offsets}
 use Rattle.blocks.specs.declared.Buffer.{Buffer}
 use Rattle.blocks.specs.Blocks.{startOf, pushed, emptyBuffer}
 use Rattle.joins.specs.Joins.{Clean, appended, joined, Pullable, pulled, Lefts, restedOut}
@@ -57,7 +57,7 @@ pub empty-clean : Clean emptyBuffer
 empty-clean = record { bits = omega arith }
 
 -- a last block that leaves room is there
-pub last-pull : (z : Layout) (xs out : List ℕ) (m n : ℕ) → 1 ≤ n → lastSize z xs out m + n ≤ z .b → (1 ≤ m) × (getD xs (startOf z (getD out (m - 1) 0)) 0 ≡ lastSize z xs out m)
+pub last-pull : (z : Offsets) (xs out : List ℕ) (m n : ℕ) → 1 ≤ n → lastSize z xs out m + n ≤ z .b → (1 ≤ m) × (getD xs (startOf z (getD out (m - 1) 0)) 0 ≡ lastSize z xs out m)
 unfolding lastSize
 last-pull z xs out m n l h = go (eqb m 0) refl h
   where
@@ -65,13 +65,13 @@ last-pull z xs out m n l h = go (eqb m 0) refl h
     go true e h = absurd (omega arith)
     go false e h = (omega (arith, eqb-false m 0 e), refl)
 
-pub pull-able : (z : Layout) (xs out : List ℕ) (w : Progress) (n : ℕ) → Lefts z xs out w → 1 ≤ n → w .buf .n ≤ n → lastSize z xs out (w .m) + n ≤ z .b → Pullable z xs out w
+pub pull-able : (z : Offsets) (xs out : List ℕ) (w : Progress) (n : ℕ) → Lefts z xs out w → 1 ≤ n → w .buf .n ≤ n → lastSize z xs out (w .m) + n ≤ z .b → Pullable z xs out w
 pull-able z xs out w n k l g h =
     let p = last-pull z xs out (w .m) n l h in
     let e = p .1 in
     record { sized = k .sized; m-low = p .0; m-high = k .m-high; place = k .places (w .m - 1) (omega (arith, p .0)); few = omega arith }
 
-module _ (z : Layout) (xs out : List ℕ) (w : Progress) where
+module _ (z : Offsets) (xs out : List ℕ) (w : Progress) where
   pub pulled-n : pulled z xs out w .buf .n ≡ getD xs (startOf z (getD out (w .m - 1) 0)) 0 + w .buf .n
   unfolding pulled
   pulled-n =

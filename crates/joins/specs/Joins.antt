@@ -1,10 +1,10 @@
 -- Step 4 of a merge as a machine: leftovers join the block before them and the block after Y.
 use Prim.Native.Nat.{ℕ, zero, suc, _+_, _-_, _/_, _%_, _^_, _≤_, _<_}
-use mathlib.Core.List.{List, []}
+use mathlib.Core.List.{List}
 use lib.Dec.{leb, eqb}
 use lib.ListN.{getD, set}
 use Rattle.levels.specs.Basics.{if_then_else_}
-use Rattle.blocks.specs.declared.Layout.{Layout}
+use Rattle.blocks.specs.declared.Offsets.{Offsets}
 use Rattle.blocks.specs.declared.Buffer.{Buffer}
 use Rattle.blocks.specs.Blocks.{Sized, startOf, pushed, emptyBuffer}
 use Rattle.blocks.specs.Room.{listRoom}
@@ -17,7 +17,7 @@ pub record Clean (a : Buffer) : Type 0 where
   pub bits : a .marks < 2 ^ a .n
 
 -- the block at place q fits into the buffer behind what it has
-pub record Loadable (z : Layout) (xs : List ℕ) (q : ℕ) (a : Buffer) : Type 0 where
+pub record Loadable (z : Offsets) (xs : List ℕ) (q : ℕ) (a : Buffer) : Type 0 where
   pub sized : Sized z xs
   pub place : q < z .p
   pub clean : Clean a
@@ -34,7 +34,7 @@ joined a keys pays marks zero = a
 joined a keys pays marks (suc j) = pushed (joined a keys pays marks j) (getD keys j 0) (marks / 2 ^ j % 2) (getD pays j 0)
 
 -- the last block listed can be taken back
-pub record Pullable (z : Layout) (xs out : List ℕ) (w : Progress) : Type 0 where
+pub record Pullable (z : Offsets) (xs out : List ℕ) (w : Progress) : Type 0 where
   pub sized : Sized z xs
   pub m-low : 1 ≤ w .m
   pub m-high : w .m ≤ listRoom
@@ -42,7 +42,7 @@ pub record Pullable (z : Layout) (xs out : List ℕ) (w : Progress) : Type 0 whe
   pub few : w .buf .n + getD xs (startOf z (getD out (w .m - 1) 0)) 0 ≤ z .b
 
 -- the last block listed, e, is taken back: its records stand before those of the buffer
-unfoldable pub pulled : Layout → List ℕ → List ℕ → Progress → Progress
+unfoldable pub pulled : Offsets → List ℕ → List ℕ → Progress → Progress
 pulled z xs out w =
     let at = startOf z (getD out (w .m - 1) 0) in
     record {
@@ -55,21 +55,21 @@ pulled z xs out w =
     }
 
 -- what the join of a leftover asks: a list of places, and a buffer of at most 16
-pub record Lefts (z : Layout) (xs out : List ℕ) (w : Progress) : Type 0 where
+pub record Lefts (z : Offsets) (xs out : List ℕ) (w : Progress) : Type 0 where
   pub sized : Sized z xs
   pub m-high : w .m ≤ listRoom
   pub few : w .buf .n ≤ 16
   pub places : (i : ℕ) → i < w .m → getD out i 0 < z .p
 
 -- Step 4: "a leftover that with e holds B or fewer joins it"
-unfoldable pub leftJoined : Layout → List ℕ → List ℕ → Progress → Progress
+unfoldable pub leftJoined : Offsets → List ℕ → List ℕ → Progress → Progress
 leftJoined z xs out w =
     if eqb (w .buf .n) 0 then w
     else if leb (lastSize z xs out (w .m) + w .buf .n) (z .b) then pulled z xs out w
     else w
 
 -- the block after Y, at place q, goes into the buffer
-unfoldable pub afterTaken : Layout → List ℕ → ℕ → Progress → Progress
+unfoldable pub afterTaken : Offsets → List ℕ → ℕ → Progress → Progress
 afterTaken z xs q w =
     record {
       x = w .x;
@@ -81,7 +81,7 @@ afterTaken z xs q w =
     }
 
 -- what the join with the block after Y asks of that block, if there is one
-pub record Afters (z : Layout) (xs out ys : List ℕ) (w : Progress) (end : ℕ) : Type 0 where
+pub record Afters (z : Offsets) (xs out ys : List ℕ) (w : Progress) (end : ℕ) : Type 0 where
   pub lefts : Lefts z xs out w
   pub end-high : end ≤ listRoom
   pub clean : Clean (w .buf)
@@ -89,7 +89,7 @@ pub record Afters (z : Layout) (xs out ys : List ℕ) (w : Progress) (end : ℕ)
   pub filled : w .y .i < end → 1 ≤ getD xs (startOf z (getD ys (w .y .i) 0)) 0
 
 -- "The last block, or if nothing is left over e, joins the block after Y by the same rule."
-unfoldable pub afterJoined : Layout → List ℕ → List ℕ → List ℕ → Progress → ℕ → Progress
+unfoldable pub afterJoined : Offsets → List ℕ → List ℕ → List ℕ → Progress → ℕ → Progress
 afterJoined z xs out ys w end =
     let q = getD ys (w .y .i) 0 in
     let size = getD xs (startOf z q) 0 in
@@ -114,15 +114,15 @@ rested a ys end =
     }
 
 -- the joins, before the last write
-abbrev pub joinedUp : Layout → List ℕ → ℕ → Memory → Memory
+abbrev pub joinedUp : Offsets → List ℕ → ℕ → Memory → Memory
 joinedUp z ys end a = record { words = a .words; used = a .used; out = a .out; st = afterJoined z (a .words) (a .out) ys (leftJoined z (a .words) (a .out) (a .st)) end }
 
 -- Step 4, whole: the joins, "Joined blocks are written once", and the blocks after Y
-unfoldable pub closed : Layout → List ℕ → ℕ → Memory → Memory
+unfoldable pub closed : Offsets → List ℕ → ℕ → Memory → Memory
 closed z ys end a = rested (flushed z (joinedUp z ys end a)) ys end
 
 -- what step 4 asks
-pub record Closable (z : Layout) (ys : List ℕ) (end : ℕ) (a : Memory) : Type 0 where
+pub record Closable (z : Offsets) (ys : List ℕ) (end : ℕ) (a : Memory) : Type 0 where
   pub lefts : Lefts z (a .words) (a .out) (a .st)
   pub afters : Afters z (a .words) (a .out) ys (leftJoined z (a .words) (a .out) (a .st)) end
   pub flushable : Flushable z (a .words) (a .used) (joinedUp z ys end a .st)

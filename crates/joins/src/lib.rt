@@ -9,12 +9,12 @@ ghost use Rattle.blocks.specs.Room.{listRoom};
 ghost use Rattle.stream.specs.Machine.{Memory};
 ghost use Rattle.joins.specs.Joins.{Clean, Loadable, appended, joined, Pullable, pulled, Lefts, leftJoined, Afters, afterTaken, afterJoined, restedOut, Closable, closed};
 use blocks::Buffer;
-use blocks::Layout;
+use blocks::Offsets;
 use stream::Point;
 use stream::Progress;
 
 // The first n records of the block whose words start at `at`, after those of the buffer.
-fn append_words(s: &[u32], z: Layout, at: usize, n: usize, buf: Buffer) -> Buffer
+fn append_words(s: &[u32], z: Offsets, at: usize, n: usize, buf: Buffer) -> Buffer
     requires { ⌜ (at + (2 + 2 * z .b) ≤ length (now s)) × (n ≤ z .b) × (z .b ≤ 16) × (buf .n + n ≤ 16) × Clean buf ⌝ }
     ensures { λ r. ⌜ r ≡ appended (z .b) (now (s .entry)) at buf n ⌝ }
 {
@@ -30,7 +30,7 @@ fn append_words(s: &[u32], z: Layout, at: usize, n: usize, buf: Buffer) -> Buffe
 }
 
 // The records of the block at place q, after those of the buffer.
-fn append_block(s: &[u32], z: Layout, q: usize, buf: Buffer) -> Buffer
+fn append_block(s: &[u32], z: Offsets, q: usize, buf: Buffer) -> Buffer
     requires { ⌜ Loadable z (now s) q buf ⌝ }
     ensures { λ r. ⌜ r ≡ appended (z .b) (now (s .entry)) (startOf z q) buf (getD (now (s .entry)) (startOf z q) 0) ⌝ }
 {
@@ -58,7 +58,7 @@ fn append_buffer(a: Buffer, more: Buffer) -> Buffer
 }
 
 // The last block listed is taken back: its records stand before those of the buffer.
-fn pull_last(s: &[u32], z: Layout, out: &[u32; blocks::LIST_ROOM], st: Progress) -> Progress
+fn pull_last(s: &[u32], z: Offsets, out: &[u32; blocks::LIST_ROOM], st: Progress) -> Progress
     requires { ⌜ Pullable z (now s) (now out) st ⌝ }
     ensures { λ r. ⌜ r ≡ pulled z (now (s .entry)) (now (out .entry)) st ⌝ }
 {
@@ -74,7 +74,7 @@ fn pull_last(s: &[u32], z: Layout, out: &[u32; blocks::LIST_ROOM], st: Progress)
 }
 
 // A leftover that with the last block holds B or fewer joins it.
-fn join_left(s: &[u32], z: Layout, out: &[u32; blocks::LIST_ROOM], st: Progress) -> Progress
+fn join_left(s: &[u32], z: Offsets, out: &[u32; blocks::LIST_ROOM], st: Progress) -> Progress
     requires { ⌜ Lefts z (now s) (now out) st ⌝ }
     ensures { λ r. ⌜ r ≡ leftJoined z (now (s .entry)) (now (out .entry)) st ⌝ }
 {
@@ -93,7 +93,7 @@ fn join_left(s: &[u32], z: Layout, out: &[u32; blocks::LIST_ROOM], st: Progress)
 }
 
 // The block after Y joins the buffer.
-fn take_after(s: &[u32], z: Layout, q: usize, st: Progress) -> Progress
+fn take_after(s: &[u32], z: Offsets, q: usize, st: Progress) -> Progress
     requires { ⌜ Loadable z (now s) q (st .buf) × (st .y .i < listRoom) ⌝ }
     ensures { λ r. ⌜ r ≡ afterTaken z (now (s .entry)) q st ⌝ }
 {
@@ -109,7 +109,7 @@ fn take_after(s: &[u32], z: Layout, q: usize, st: Progress) -> Progress
 // The buffer, or if it is empty the last block, joins the block after Y by the same rule.
 fn join_after(
     s: &[u32],
-    z: Layout,
+    z: Offsets,
     out: &[u32; blocks::LIST_ROOM],
     ys: &[u32; blocks::LIST_ROOM],
     st: Progress,
@@ -169,7 +169,7 @@ pub fn close(
     used: &mut [bool; blocks::PLACES],
     out: &mut [u32; blocks::LIST_ROOM],
     ys: &[u32; blocks::LIST_ROOM],
-    z: Layout,
+    z: Offsets,
     st: Progress,
     end: usize,
 ) -> Progress

@@ -69,7 +69,7 @@ module _ (g : Geometry) (s : Store) (v : Valid g) (f : Fits g s) (o : Sound g s)
   enter-here = let t : Store = afterMerges s (mergesFor g s (r .key)) in over-same r (t .top) (map records (t .levels))
 
   -- level 0 has room for the record
-  top-room : length (insert r (afterMerges s (mergesFor g s (r .key)) .top)) ≤ topCapacityOf g
+  pub top-room : length (insert r (afterMerges s (mergesFor g s (r .key)) .top)) ≤ topCapacityOf g
   top-room = go (isSome (find (r .key) (s .top))) (ltb (length (s .top)) (topCapacityOf g)) refl refl
     where
       none-made : (isSome (find (r .key) (s .top)) || ltb (length (s .top)) (topCapacityOf g)) ≡ true → afterMerges s (mergesFor g s (r .key)) .top ≡ s .top

@@ -17,16 +17,9 @@ use Rattle.geometry.specs.Geometry.{
   inSizes,
   isLegal,
   topCapacityOf,
-  marksStart,
-  keysStart,
-  paysStart,
-  listStart,
   blockWidth,
-  placesStart,
-  placeStart,
-  storeLength,
-  sizeReason,
 }
+use Rattle.layout.specs.Layouts.{old, sizeReason}
 use Rattle.levels.specs.Basics.{if_then_else_}
 use Rattle.levels.specs.Record.{Rec, Block, Level}
 use Rattle.levels.specs.Map.{find, into, overlay, view, unmarked, mapOf, liveCount, decides, lookUp, isLive}
@@ -153,11 +146,11 @@ pub data Figure : Type 0 where
 
 unfoldable pub holds : Figure → Bool
 unfolding
-    capacityOf windowOf capacitySum flashCapacityOf keyLimitOf inRanges inSizes isLegal topCapacityOf marksStart keysStart paysStart listStart blockWidth
-    placesStart placeStart storeLength sizeReason find into overlay view unmarked mapOf liveCount decides lookUp isLive cutAt freeAfter firstFree settle
+    capacityOf windowOf capacitySum flashCapacityOf keyLimitOf inRanges inSizes isLegal topCapacityOf blockWidth
+    old sizeReason find into overlay view unmarked mapOf liveCount decides lookUp isLive cutAt freeAfter firstFree settle
     newlyUsed emptyStore mergeCut compactLevel compactIfNeeded stepFive mergeRun mergeLevel deepestOver mergesBelow mergesFrom insert mergesFor enter put
     delete mergesOf aboveOf underOf aboveCount underCount runOf overlapOf blocksMerged blocksCompacted
-holds (sizes g s n l) = isLegal g && eqb (flashCapacityOf g) s && eqb (keyLimitOf g) n && eqb (storeLength g) l && eqb (sizeReason l g) 0
+holds (sizes g s n l) = isLegal g && eqb (flashCapacityOf g) s && eqb (keyLimitOf g) n && eqb (old g .length) l && eqb (sizeReason l g) 0
 holds (turnedDown l g r) = eqb (sizeReason l g) r
 holds (noLimit g) = ltb (keyLimitOf g) 1
 holds (merges bottom w above under u l n) =

@@ -10,22 +10,26 @@ use lib.ListN.{length, take, drop, getD, set, replicate, length-set, length-map,
 use lib.Seq.{getD-set-same, getD-set-other, take-all, ext-getD}
 use Rattle.slices.specs.Slices.{putAt}
 use Rattle.slices.proofs.Put.{put-length}
-use Rattle.geometry.specs.declared.Geometry.{Geometry}
-use Rattle.geometry.specs.Geometry.{Valid, capacityOf, listStart, storeLength}
+use Rattle.geometry.specs.Geometry.{capacityOf}
 use Rattle.geometry.specs.Room.{listRoom}
 use Rattle.levels.specs.Record.{Level}
 use Rattle.levels.specs.Store.{Store}
+use Rattle.levels.specs.Every.{Every}
 use Rattle.levels.specs.Sound.{Fits}
 use Rattle.levels.proofs.Each.{getD-each, map-each, each-same, each-getD}
 use Rattle.levels.proofs.Lists.{getD-replicate-self}
-use Rattle.words.specs.Layout.{countAt, listedAt, levelAt, pad, placeOf}
+use Rattle.words.specs.Stores.{countAt, listedAt, levelAt, pad, placeOf, pieces}
 use Rattle.words.proofs.Lists.{level-places}
 use Rattle.words.proofs.Parts.{pad-length, pad-word}
-use Rattle.words.proofs.State.{Holds, levels-held}
+use Rattle.words.proofs.State.{levels-held}
 use Rattle.lists.specs.Flat.{partStart, partRoom, partOf}
 use Rattle.lists.specs.Lists.{listOf, listsOf, Listed, placesAt}
 use Rattle.lists.proofs.Flat.{part-inside, part-fits, put-part, put-other}
 use Rattle.lists.proofs.Room.{list-in-store, listed-is, listed-length}
+use Rattle.layout.specs.Layouts.{Proper, listStart}
+use Rattle.layout.specs.declared.Layout.{Layout}
+use Rattle.pieces.specs.Pieces.{Held}
+use Rattle.words.specs.Passed.{Standing}
 
 -- the places of the blocks of every level
 abbrev pub placesIn : List Level → List (List ℕ)
@@ -85,23 +89,23 @@ listed-put h m n j lists ns xs p p' k low le hh ht was fit e =
     (λ i a b c. put-other h (suc j) xs lists (k .long) fit ht (omega arith) (omega arith) i a b (λ z. c (sym z)))
 
 -- What `load` does for level i + 1, whose count it reads.
-module _ (g : Geometry) (ws : List ℕ) (v : Valid g) (l : length ws ≡ storeLength g) (i level n : ℕ) (el : level ≡ suc i) (h : level ≤ g .h) (c : countAt ws (suc i) ≤ capacityOf g (suc i)) (en : n ≡ getD ws (9 + i) 0) where
-  read : n ≡ countAt ws (suc i)
-  read = en ∙ (let e : 9 + i ≡ 8 + suc i = omega arith in ap (λ (x : ℕ). getD ws x 0) e)
+module _ (z : Layout) (ws : List ℕ) (v : Proper z) (l : length ws ≡ z .length) (i level n : ℕ) (el : level ≡ suc i) (h : level ≤ z .geo .h) (c : countAt z ws (suc i) ≤ capacityOf (z .geo) (suc i)) (en : n ≡ getD ws (z .count + (i + 1)) 0) where
+  read : n ≡ countAt z ws (suc i)
+  read = en ∙ (let e : z .count + (i + 1) ≡ z .count + suc i = omega arith in ap (λ (x : ℕ). getD ws x 0) e)
 
-  few : n ≤ capacityOf g (suc i)
+  few : n ≤ capacityOf (z .geo) (suc i)
   few = omega (arith, read, c)
 
-  pub load-inside : (listStart g level + n ≤ length ws) × (partStart (g .h) level + n ≤ listRoom)
-  load-inside = rw el (omega (arith, few, list-in-store g (length ws) (suc i) v l (omega arith) (omega arith)), part-fits g v (suc i) n (omega arith) (omega (arith, few)) .1)
+  pub load-inside : (listStart z level + n ≤ length ws) × (partStart (z .geo .h) level + n ≤ listRoom)
+  load-inside = rw el (omega (arith, few, list-in-store z (length ws) (suc i) v l (omega arith) (omega arith)), part-fits z v (suc i) n (omega arith) (omega (arith, few)) .1)
 
-  pub load-more : (lists ns : List ℕ) (start to : ℕ) → start ≡ listStart g level → to ≡ partStart (g .h) level → Listed (g .h) i lists ns (λ j. listedAt g ws (suc j)) → Listed (g .h) level (putAt to (take n (drop start ws)) lists) (set ns i n) (λ j. listedAt g ws (suc j))
+  pub load-more : (lists ns : List ℕ) (start to : ℕ) → start ≡ listStart z level → to ≡ partStart (z .geo .h) level → Listed (z .geo .h) i lists ns (λ j. listedAt z ws (suc j)) → Listed (z .geo .h) level (putAt to (take n (drop start ws)) lists) (set ns i n) (λ j. listedAt z ws (suc j))
   load-more lists ns start to es et k =
-      let f = listed-length g ws (suc i) n read few (omega (arith, list-in-store g (length ws) (suc i) v l (omega arith) (omega arith))) in
-      let e : putAt to (take n (drop start ws)) lists ≡ putAt (partStart (g .h) (suc i)) (listedAt g ws (suc i)) lists = rw (et, es, el, listed-is g ws (suc i) n read few) in
+      let f = listed-length z ws (suc i) n read few (omega (arith, list-in-store z (length ws) (suc i) v l (omega arith) (omega arith))) in
+      let e : putAt to (take n (drop start ws)) lists ≡ putAt (partStart (z .geo .h) (suc i)) (listedAt z ws (suc i)) lists = rw (et, es, el, listed-is z ws (suc i) n read few) in
       rw (e, el, ← f)
-      (listed-put (g .h) i (suc i) i lists ns (listedAt g ws (suc i)) _ (λ j. listedAt g ws (suc j)) k (omega arith) (omega arith) (omega arith) (v .ranged .h-high) (λ x a b. omega (arith, b))
-      (omega (arith, f, part-fits g v (suc i) n (omega arith) (omega (arith, few)))) refl (λ x a. refl))
+      (listed-put (z .geo .h) i (suc i) i lists ns (listedAt z ws (suc i)) _ (λ j. listedAt z ws (suc j)) k (omega arith) (omega arith) (omega arith) (v .valid .ranged .h-high) (λ x a b. omega (arith, b))
+      (omega (arith, f, part-fits z v (suc i) n (omega arith) (omega (arith, few)))) refl (λ x a. refl))
 
 -- Lists that are a store's.
 module _ (h : ℕ) (lists ns : List ℕ) (t : Store) (many : length (t .levels) ≡ h) (k : Listed h h lists ns (placesAt t)) where
@@ -123,7 +127,7 @@ module _ (h : ℕ) (lists ns : List ℕ) (t : Store) (many : length (t .levels) 
       (λ i a. count-is i ∙ sym (pad-word 3 ls i ∙ List·getD-map (λ (l : Level). length l) (t .levels) i []))
 
 -- what `load` gives: the places of the level
-pub places-listed : (g : Geometry) (ws : List ℕ) (t : Store) → Valid g → Fits g t → Holds g ws t → (i : ℕ) → i < g .h → listedAt g ws (suc i) ≡ placesAt t i
+pub places-listed : (z : Layout) (ws : List ℕ) (t : Store) → Proper z → Fits (z .geo) t → length ws ≡ z .length → Every (Held ws) (pieces z t) → Standing z ws (t .levels) → (i : ℕ) → i < z .geo .h → listedAt z ws (suc i) ≡ placesAt t i
 unfolding listedAt
-places-listed g ws t v f k i h =
-    sym (level-places g ws (suc i)) ∙ ap (map placeOf) (sym (rw one-add at (getD-each (levelAt g ws) 1 (g .h) i [] h)) ∙ ap (λ (ls : List Level). getD ls i []) (levels-held g ws t v f k))
+places-listed z ws t v f l o d i h =
+    sym (level-places z ws (suc i)) ∙ ap (map placeOf) (sym (rw one-add at (getD-each (levelAt z ws) 1 (z .geo .h) i [] h)) ∙ ap (λ (ls : List Level). getD ls i []) (levels-held z ws t v f l o d))

@@ -7,14 +7,15 @@ use native.Mathlib.Decide.{decLt}
 use native.Mathlib.Omega.{arith}
 use lib.ListN.{length, take, drop}
 use Rattle.slices.specs.Slices.{putAt}
-use Rattle.geometry.specs.declared.Geometry.{Geometry}
-use Rattle.geometry.specs.Geometry.{Valid, capacityOf}
+use Rattle.geometry.specs.Geometry.{capacityOf}
 use Rattle.geometry.specs.Room.{listRoom}
 use Rattle.geometry.proofs.Laws.{capacity-doubles, capacity-mono}
 use Rattle.pieces.specs.Pieces.{part, piece, lay, layAll}
 use Rattle.pieces.proofs.Parts.{part-length, part-part}
 use Rattle.pieces.proofs.Pieces.{put-lay, lay-here, lay-all-kept}
 use Rattle.lists.specs.Flat.{startAbove, roomAbove, partStart, partRoom, partOf}
+use Rattle.layout.specs.Layouts.{Proper}
+use Rattle.layout.specs.declared.Layout.{Layout}
 
 -- the parts of two levels, the lower one first in the array
 above-next : (k j : ℕ) → k < j → j ≤ 2 → startAbove k + roomAbove k ≤ startAbove j
@@ -47,17 +48,17 @@ parts-clear h i j a b c d e n =
     (λ l. dite (decLt j i) (λ m. inl (parts-apart h j i a d m c)) (λ m. absurd (n (omega arith))))
 
 -- a part has room for twice the capacity of its level
-pub part-roomy : (g : Geometry) → Valid g → (i : ℕ) → i ≤ g .h → 2 * capacityOf g i ≤ partRoom (g .h) i
+pub part-roomy : (z : Layout) → Proper z → (i : ℕ) → i ≤ z .geo .h → 2 * capacityOf (z .geo) i ≤ partRoom (z .geo .h) i
 unfolding partRoom
-part-roomy g v i l = go (g .h - i) refl
+part-roomy z v i l = go (z .geo .h - i) refl
   where
-    go : (k : ℕ) → g .h - i ≡ k → 2 * capacityOf g i ≤ roomAbove k
-    go zero e = let f : g .h ≡ i = omega arith in omega (arith, capacity-mono g (v .ranged) {i = i} {j = g .h} l, v .bottom-high)
-    go (suc k) e = omega (arith, capacity-doubles g (v .ranged) i, capacity-mono g (v .ranged) {i = suc i} {j = g .h} (omega arith), v .bottom-high)
+    go : (k : ℕ) → z .geo .h - i ≡ k → 2 * capacityOf (z .geo) i ≤ roomAbove k
+    go zero e = let f : z .geo .h ≡ i = omega arith in omega (arith, capacity-mono (z .geo) (v .valid .ranged) {i = i} {j = z .geo .h} l, v .valid .bottom-high)
+    go (suc k) e = omega (arith, capacity-doubles (z .geo) (v .valid .ranged) i, capacity-mono (z .geo) (v .valid .ranged) {i = suc i} {j = z .geo .h} (omega arith), v .valid .bottom-high)
 
 -- and so for a list of a call
-pub part-fits : (g : Geometry) → Valid g → (i n : ℕ) → i ≤ g .h → n ≤ 2 * capacityOf g i → (n ≤ partRoom (g .h) i) × (partStart (g .h) i + n ≤ listRoom)
-part-fits g v i n l h = (omega (arith, part-roomy g v i l), omega (arith, part-roomy g v i l, part-inside (g .h) i))
+pub part-fits : (z : Layout) → Proper z → (i n : ℕ) → i ≤ z .geo .h → n ≤ 2 * capacityOf (z .geo) i → (n ≤ partRoom (z .geo .h) i) × (partStart (z .geo .h) i + n ≤ listRoom)
+part-fits z v i n l h = (omega (arith, part-roomy z v i l), omega (arith, part-roomy z v i l, part-inside (z .geo .h) i))
 
 pub part-of-length : (h i : ℕ) (lists : List ℕ) → length lists ≡ listRoom → length (partOf h lists i) ≡ partRoom h i
 unfolding partOf

@@ -1,210 +1,134 @@
--- For the caller: words that hold all of a store but its cursor, block counts and place lists are, with those put back, the store's words.
-use Prim.Native.Nat.{ℕ, suc, _+_, _-_, _≤_, _<_}
-use mathlib.Core.Path.{_≡_, refl, sym, ap, _∙_}
-use mathlib.Core.List.{List, [], _∷_, _++_, map}
-use native.Mathlib.Nat.{add-zero}
+-- For the caller: words that hold all of a store but its cursor, block counts and place lists are, with those laid over them, the store's words.
+use Prim.Native.Nat.{ℕ, suc, _+_, _≤_, _<_}
+use mathlib.Core.Path.{_≡_, refl, sym, ap, _∙_, subst}
+use mathlib.Core.List.{List, [], _∷_, map}
+use mathlib.Core.Logic.{_⊎_, inl}
+use native.Mathlib.Nat.{add-zero, zero-add, add-suc, suc-add}
+use native.Mathlib.Numerals.{one-add}
 use native.Mathlib.Omega.{arith}
-use lib.ListN.{length, take, getD, length-append}
-use lib.Seq.{length-take-le, drop-at}
-use Rattle.slices.specs.Slices.{putAt}
-use Rattle.slices.proofs.Put.{put-length, put-drop}
-use Rattle.geometry.specs.declared.Geometry.{Geometry}
-use Rattle.geometry.specs.Geometry.{Valid, flashCapacityOf, topCapacityOf, marksStart, listStart, placesStart, storeLength}
-use Rattle.geometry.proofs.Laws.{store-length-low}
-use Rattle.levels.specs.Record.{Rec, Level}
+use lib.ListN.{length, getD, length-map}
+use Rattle.geometry.specs.Geometry.{capacityOf, topCapacityOf}
+use Rattle.layout.specs.declared.Layout.{Layout}
+use Rattle.layout.specs.Layouts.{listStart, Proper}
+use Rattle.layout.proofs.Laws.{lists-before, places-before, place-behind, place-inside, six-before, live-before, count-before}
+use Rattle.levels.specs.Basics.{each}
+use Rattle.levels.specs.Record.{Block, Level}
 use Rattle.levels.specs.Store.{Store}
-use Rattle.levels.specs.Sound.{Fits}
-use Rattle.words.specs.Layout.{word, geometryAt, pad, headerWords, topWords, listWords, areaOf, storeWords, part, topLength}
-use Rattle.words.specs.Passed.{Laid}
-use Rattle.words.proofs.Parts.{part-word, part-left, part-front-part, part-split, part-cons}
-use Rattle.words.proofs.Top.{top-words-length}
-use Rattle.words.proofs.Laid.{laid-levels}
-use Rattle.words.proofs.State.{Holds, top-end, lists-length, store-length, counts-length, lists-long, geometry-held, live-held, top-count-held, held-words}
-use Rattle.lists.specs.Lists.{listsOf, placeLists, withLists, Listed, placesAt}
+use Rattle.levels.specs.Every.{Every, allBlocks}
+use Rattle.levels.specs.Sound.{BlockFits, Fits}
+use Rattle.levels.proofs.Every.{every-both}
+use Rattle.pieces.specs.Pieces.{Piece, piece, part, layAll, Held, Clear, Apart, Within}
+use Rattle.pieces.proofs.Pieces.{lay-all-append, lay-all-length, lay-all-kept, lay-all-here, stacked-apart, stacked-clear, stacked-lower, within-most, within-clear, lay-over}
+use Rattle.words.specs.Stores.{geometryFrom, placeOf, pad, keysOf, paysOf, topPieces, listPieces, pieces, withStore, blockPiece, withBlocks}
+use Rattle.words.specs.Halves.{topPart}
+use Rattle.words.specs.Passed.{Standing}
+use Rattle.words.proofs.Blocks.{place-below, blocks-before, blocks-length}
+use Rattle.words.proofs.Parts.{pad-length}
+use Rattle.words.proofs.Top.{marks-long}
+use Rattle.words.proofs.Stacking.{top-stacked, pieces-apart}
+use Rattle.words.proofs.State.{six-same, pieces-in}
+use Rattle.words.proofs.Resting.{list-store}
+use Rattle.lists.specs.Lists.{listPiece, Listed, placesAt, withCounts, withLists}
 use Rattle.lists.specs.Holds.{HoldsBut}
-use Rattle.lists.proofs.Keeps.{put-here, put-before, put-behind}
-use Rattle.lists.proofs.Arrays.{placesIn, lists-are, counts-are}
+use Rattle.lists.proofs.Arrays.{counts-are}
 
--- the lists of the levels' places are the layout's lists
-pub place-lists : (g : Geometry) (i : ℕ) (ls : List Level) → placeLists g i (placesIn ls) ≡ listWords g i ls
-unfolding placeLists listWords
-place-lists g i [] = refl
-place-lists g i (l ∷ ls) = rw (place-lists g (suc i) ls)
+-- pieces by number are the pieces of the levels from level i on
+pieces-each : (z : Layout) (ls : List Level) (i a : ℕ) (f : ℕ → Piece) → ((j : ℕ) → j < length ls → f (a + j) ≡ piece (listStart z (i + j)) (pad (capacityOf (z .geo) (i + j)) (map placeOf (getD ls j [])))) → each f a (length ls) ≡ listPieces z i ls
+unfolding listPieces
+pieces-each z [] i a f e = refl
+pieces-each z (l ∷ ls) i a f e =
+    let p : f a ≡ piece (listStart z i) (pad (capacityOf (z .geo) i) (map placeOf l)) = rw (add-zero, add-zero) at (e 0 (omega arith)) in
+    rw (p, pieces-each z ls (suc i) (suc a) f (λ j h. rw (suc-add, suc-add) (rw (add-suc, add-suc) at (e (suc j) (omega arith)))))
 
-part-one : (ws : List ℕ) (a : ℕ) → a < length ws → part ws a 1 ≡ word ws a ∷ []
-unfolding part
-part-one ws a h = part-cons ws a 0 h
+-- The words with the lists back are the store's.
+pub lists-back : (z : Layout) (ws : List ℕ) (t : Store) → Proper z → Fits (z .geo) t → HoldsBut z ws t → (work ns : List ℕ) → Listed (z .geo .h) (z .geo .h) work ns (placesAt t) → withLists z ws (t .cursor) ns work ≡ withStore z t ws
+unfolding withLists withCounts listPiece
+lists-back z ws t v f k work ns l =
+    let H : Piece = piece (z .hand) (t .cursor ∷ []) in
+    let g : Level → ℕ = λ (x : Level). length x in
+    let c : ns ≡ pad 3 (map g (t .levels)) = counts-are (z .geo .h) work ns t (f .level-count) l (v .valid .ranged .h-high) in
+    let p : each (listPiece z work ns) 0 (z .geo .h) ≡ listPieces z 1 (t .levels) = subst (λ (n : ℕ). each (listPiece z work ns) 0 n ≡ listPieces z 1 (t .levels)) (f .level-count) (pieces-each z (t .levels) 1 0 (listPiece z work ns) (λ j h. rw (zero-add, one-add) (ap (λ (xs : List ℕ). piece (listStart z (suc j)) (pad (capacityOf (z .geo) (suc j)) xs)) (l .places j (omega (arith, f .level-count)))))) in
+    sym (lay-all-append (H ∷ piece (z .count + 1) ns ∷ []) (each (listPiece z work ns) 0 (z .geo .h)) ws)
+    ∙ (λ i. layAll (H ∷ piece (z .count + 1) (c i) ∷ p i) ws)
+    ∙ list-store z t ws v f (k .long) (k .held)
 
--- the words 0 to 6, one by one
-front-words : (ws : List ℕ) → 12 ≤ length ws → part ws 0 7 ≡ word ws 0 ∷ word ws 1 ∷ word ws 2 ∷ word ws 3 ∷ word ws 4 ∷ word ws 5 ∷ word ws 6 ∷ []
-unfolding part
-front-words ws h = rw (part-cons ws 0 6 (omega arith), part-cons ws 1 5 (omega arith), part-cons ws 2 4 (omega arith), part-cons ws 3 3 (omega arith), part-cons ws 4 2 (omega arith), part-cons ws 5 1 (omega arith), part-cons ws 6 0 (omega arith))
+-- words that pass
+pub but-held : (z : Layout) (ws : List ℕ) (t : Store) → length ws ≡ z .length → geometryFrom ws (z .six) ≡ z .geo → Every (Held ws) (pieces z t) → Standing z ws (t .levels) → HoldsBut z ws t
+unfolding pieces
+but-held z ws t l g o d = record { long = l; six = g; held = (o .0, (o .1 .1 .0, (o .1 .1 .1 .1 .0, (o .1 .1 .1 .1 .1 .0, (o .1 .1 .1 .1 .1 .1 .0, tt))))); standing = d }
 
--- the header of words whose word 7 and block counts are put anew
-new-header : (ws cs : List ℕ) (c : ℕ) → 12 ≤ length ws → length cs ≡ 3
-    → part (putAt 9 cs (putAt 7 (c ∷ []) ws)) 0 12 ≡ word ws 0 ∷ word ws 1 ∷ word ws 2 ∷ word ws 3 ∷ word ws 4 ∷ word ws 5 ∷ word ws 6 ∷ c ∷ word ws 8 ∷ cs
-new-header ws cs c h n =
-    let us = putAt 7 (c ∷ []) ws in
-    let u : length us ≡ length ws = put-length 7 (c ∷ []) ws (omega arith) in
-    let a : part us 0 9 ≡ part us 0 7 ++ (part us 7 1 ++ part us 8 1) = part-split us 0 7 2 ∙ ap (λ (x : List ℕ). part us 0 7 ++ x) (part-split us 7 1 1) in
-    let b : part us 0 7 ≡ part ws 0 7 = put-before 7 0 7 (c ∷ []) ws (omega arith) (omega arith) in
-    let d : part us 7 1 ≡ c ∷ [] = put-here 7 1 (c ∷ []) ws refl (omega arith) in
-    let e : part us 8 1 ≡ part ws 8 1 = put-behind 7 8 1 (c ∷ []) ws (omega arith) (omega arith) in
-    part-split (putAt 9 cs us) 0 9 3
-    ∙ rw (put-here 9 3 cs us n (omega arith), put-before 9 0 9 cs us (omega arith) (omega arith), a, b, d, e, front-words ws h, part-one ws 8 (omega arith))
+-- live, c and level 0 stand before the places, and apart
+pub part-in : (z : Layout) (t : Store) → Proper z → length (t .top) ≤ topCapacityOf (z .geo) → Within (z .places) (topPart z t)
+part-in z t v h =
+    (omega (arith, live-before z v), (omega (arith, count-before z v), within-most (topPieces z (t .top)) (z .lists) (z .places) (lists-before z v) (top-stacked z (t .top) v h .1)))
 
--- where the parts of the layout start
-starts : (g : Geometry) → Valid g → (marksStart g ≡ 12) × (marksStart g + topLength g ≡ listStart g 1) × (listStart g 1 + flashCapacityOf g ≡ placesStart g) × (placesStart g ≤ storeLength g) × (12 < storeLength g)
-unfolding marksStart
-starts g v = (refl, top-end g, lists-length g, omega (arith, store-length g), store-length-low g v)
+pub part-apart : (z : Layout) (t : Store) → Proper z → length (t .top) ≤ topCapacityOf (z .geo) → Apart (topPart z t)
+part-apart z t v h =
+    let g = top-stacked z (t .top) v h .0 in
+    stacked-apart (topPart z t) (z .live) (omega arith, (omega (arith, v .live-count), stacked-lower (topPieces z (t .top)) (z .count + 1) (z .marks) (omega (arith, v .count-marks)) g))
 
-module _ (g : Geometry) (ws : List ℕ) (t : Store) (v : Valid g) (f : Fits g t) (k : HoldsBut g ws t) where
-  counts : List ℕ
-  counts = pad 3 (map (λ (l : Level). length l) (t .levels))
+-- the words beside level 0's parts are the same for every level 0 that fits
+part-clear : (z : Layout) (s t : Store) (i : ℕ) → Proper z → length (s .top) ≤ topCapacityOf (z .geo) → length (t .top) ≤ topCapacityOf (z .geo) → Every (Clear i 1) (topPart z t) → Every (Clear i 1) (topPart z s)
+unfolding topCapacityOf
+part-clear z s t i v hs ht o =
+    let b = v .valid .ranged .b-low in
+    let same : (a n m : ℕ) → n ≡ m → (i + 1 ≤ a) ⊎ (a + n ≤ i) → (i + 1 ≤ a) ⊎ (a + m ≤ i) = λ a n m e x. rw e at x in
+    let K = topCapacityOf (z .geo) in (
+      o .0,
+      (
+        o .1 .0,
+        (
+          same (z .marks) _ _ (marks-long (z .geo .b) (capacityOf (z .geo) 0) (t .top) (omega arith) ht ∙ sym (marks-long (z .geo .b) (capacityOf (z .geo) 0) (s .top) (omega arith) hs)) (o .1 .1 .0),
+          (
+            same (z .keys) _ _ (pad-length K (keysOf (t .top)) (rw length-map ht) ∙ sym (pad-length K (keysOf (s .top)) (rw length-map hs))) (o .1 .1 .1 .0),
+            (same (z .pays) _ _ (pad-length K (paysOf (t .top)) (rw length-map ht) ∙ sym (pad-length K (paysOf (s .top)) (rw length-map hs))) (o .1 .1 .1 .1 .0), tt),
+          ),
+        ),
+      ),
+    )
 
-  lists : List ℕ
-  lists = listWords g 1 (t .levels)
+-- live, c and level 0 laid, blocks written, and the first laid anew: the old ones are gone
+pub part-over : (z : Layout) (s t : Store) (bs : List Block) (ws : List ℕ) → Proper z → length ws ≡ z .length → length (s .top) ≤ topCapacityOf (z .geo) → length (t .top) ≤ topCapacityOf (z .geo)
+    → layAll (topPart z t) (withBlocks z bs (layAll (topPart z s) ws)) ≡ layAll (topPart z t) (withBlocks z bs ws)
+unfolding withBlocks
+part-over z s t bs ws v l hs ht =
+    lay-over (topPart z t) (map (blockPiece z) bs) (topPart z s) ws (within-most (topPart z t) (z .places) (length ws) (omega (arith, l, places-before z v)) (part-in z t v ht)) (part-apart z t v ht) (λ i o. part-clear z s t i v hs ht o)
 
-  counts-long : length counts ≡ 3
-  unfolding counts
-  counts-long = counts-length t (omega (arith, f .level-count, v .ranged .h-high))
+-- and so are they beneath a store that is laid
+pub store-over : (z : Layout) (t : Store) (ws : List ℕ) → Proper z → Fits (z .geo) t → length ws ≡ z .length → withStore z t (layAll (topPart z t) ws) ≡ withStore z t ws
+unfolding withStore pieces layAll
+store-over z t ws v f l = lay-over (pieces z t) [] (topPart z t) ws (pieces-in z t ws v f l) (pieces-apart z t v f) (λ i o. (o .0, (o .1 .1 .0, (o .1 .1 .1 .1 .0, (o .1 .1 .1 .1 .1 .0, (o .1 .1 .1 .1 .1 .1 .0, tt))))))
 
-  lists-fit : length lists ≡ flashCapacityOf g
-  unfolding lists
-  lists-fit = lists-long g t v f
+kept-pieces : (us ws : List ℕ) (n : ℕ) (ps : List Piece) → ((a m : ℕ) → a + m ≤ n → part us a m ≡ part ws a m) → Within n ps → Every (Held ws) ps → Every (Held us) ps
+kept-pieces us ws n [] e i h = tt
+kept-pieces us ws n (p ∷ ps) e i h = (e (p .at) (length (p .words)) (i .0) ∙ h .0, kept-pieces us ws n ps e (i .1) (h .1))
 
-  -- the words with cursor and counts, and with the lists too
-  headed : List ℕ
-  headed = putAt 9 counts (putAt 7 (t .cursor ∷ []) ws)
-
-  back : List ℕ
-  back = putAt (listStart g 1) lists headed
-
-  cursor-long : length (putAt 7 (t .cursor ∷ []) ws) ≡ length ws
-  cursor-long = let s = starts g v in put-length 7 (t .cursor ∷ []) ws (omega (arith, k .long))
-
-  headed-long : length headed ≡ storeLength g
-  unfolding headed
-  headed-long =
-      let l = k .long in
-      let s = starts g v in
-      put-length 9 counts (putAt 7 (t .cursor ∷ []) ws) (omega (arith, counts-long, cursor-long)) ∙ cursor-long ∙ l
-
-  -- a part that lies behind the header and before the lists, and the places, are kept
-  headed-behind : (b n : ℕ) → 12 ≤ b → part headed b n ≡ part ws b n
-  unfolding headed
-  headed-behind b n h =
-      let l = k .long in
-      let s = starts g v in
-      put-behind 9 b n counts (putAt 7 (t .cursor ∷ []) ws) (omega (arith, counts-long)) (omega (arith, cursor-long)) ∙ put-behind 7 b n (t .cursor ∷ []) ws (omega arith) (omega arith)
-
-  back-area : areaOf g back ≡ areaOf g ws
-  unfolding back headed
-  back-area =
-      let l = k .long in
-      let s = starts g v in
-      put-drop (listStart g 1) (placesStart g) lists headed (omega (arith, lists-fit)) (omega (arith, headed-long))
-      ∙ put-drop 9 (placesStart g) counts (putAt 7 (t .cursor ∷ []) ws) (omega (arith, counts-long)) (omega (arith, cursor-long)) ∙ put-drop 7 (placesStart g) (t .cursor ∷ []) ws (omega arith) (omega arith)
-
-  back-header : part back 0 12 ≡ headerWords g t
-  unfolding back headed headerWords counts
-  back-header =
-      let l = k .long in
-      let s = starts g v in
-      put-before (listStart g 1) 0 12 lists headed (omega arith) (omega (arith, headed-long)) ∙ new-header ws counts (t .cursor) (omega arith) counts-long
-      ∙ rw
-      (k .live, k .count, ap (λ (x : Geometry). x .b) (k .six), ap (λ (x : Geometry). x .w) (k .six), ap (λ (x : Geometry). x .d) (k .six), ap (λ (x : Geometry). x .g) (k .six), ap (λ (x : Geometry). x .h) (k .six), ap (λ (x : Geometry). x .p) (k .six))
-
-  back-holds : Holds g back t
-  unfolding back lists
-  back-holds =
-      let s = starts g v in
-      record {
-        long = put-length (listStart g 1) lists headed (omega (arith, lists-fit, headed-long)) ∙ headed-long;
-        header = back-header;
-        top = put-before (listStart g 1) (marksStart g) (topLength g) lists headed (omega arith) (omega (arith, headed-long)) ∙ headed-behind (marksStart g) (topLength g) (omega arith) ∙ k .top;
-        lists = put-here (listStart g 1) (flashCapacityOf g) lists headed lists-fit (omega (arith, headed-long));
-        laid = rw back-area (k .laid);
-      }
-
-  -- The law of the caller: the lists of the levels put back give the words of the store.
-  pub lists-back : (work ns : List ℕ) → Listed (g .h) (g .h) work ns (placesAt t) → withLists g ws (t .cursor) ns (listsOf (g .h) work ns) ≡ storeWords g t (areaOf g ws)
-  unfolding withLists back headed counts lists
-  lists-back work ns l =
-      rw (lists-are (g .h) work ns t (f .level-count) l, counts-are (g .h) work ns t (f .level-count) l (v .ranged .h-high), place-lists g 1 (t .levels)) (sym (held-words g back t back-holds) ∙ ap (storeWords g t) back-area)
-
--- How words come to hold all but the cursor, counts and lists.
-
--- words of one list that are those of another at the same places
-same-word : (us ws : List ℕ) (a n : ℕ) → part us a n ≡ part ws a n → (i : ℕ) → a ≤ i → i < a + n → word us i ≡ word ws i
-same-word us ws a n e i h l =
-    let j : a + (i - a) ≡ i = omega arith in
-    rw j at (sym (part-word us a n (i - a) (omega arith)) ∙ ap (λ (x : List ℕ). getD x (i - a) 0) e ∙ part-word ws a n (i - a) (omega arith))
-
-word-here : (ws : List ℕ) (i x : ℕ) → part ws i 1 ≡ x ∷ [] → word ws i ≡ x
-word-here ws i x e = rw add-zero at (sym (part-word ws i 1 0 (omega arith))) ∙ ap (λ (y : List ℕ). getD y 0 0) e
-
-same-geometry : (us ws : List ℕ) → part us 0 6 ≡ part ws 0 6 → geometryAt us ≡ geometryAt ws
-same-geometry us ws e =
-    let b = same-word us ws 0 6 e 0 (omega arith) (omega arith) in
-    let w = same-word us ws 0 6 e 1 (omega arith) (omega arith) in
-    let d = same-word us ws 0 6 e 2 (omega arith) (omega arith) in
-    let gr = same-word us ws 0 6 e 3 (omega arith) (omega arith) in
-    let h = same-word us ws 0 6 e 4 (omega arith) (omega arith) in
-    let p = same-word us ws 0 6 e 5 (omega arith) (omega arith) in
-    λ i. record { b = b i; w = w i; d = d i; g = gr i; h = h i; p = p i }
-
--- words that hold a store
-pub but-held : (g : Geometry) (ws : List ℕ) (t : Store) → Valid g → Fits g t → Holds g ws t → HoldsBut g ws t
-but-held g ws t v f k =
+-- Blocks written: the words before the places stay.
+pub but-blocks : (z : Layout) (ws : List ℕ) (bs : List Block) (s t : Store) → Proper z → HoldsBut z ws s → t .live ≡ s .live → t .top ≡ s .top → length (s .top) ≤ topCapacityOf (z .geo) → Standing z (withBlocks z bs ws) (t .levels) → HoldsBut z (withBlocks z bs ws) t
+but-blocks z ws bs s t v k l e r d =
+    let us : List ℕ = withBlocks z bs ws in
+    let same : (a m : ℕ) → a + m ≤ z .places → part us a m ≡ part ws a m = λ a m h. blocks-before z v a m bs ws (k .long) h in
     record {
-      long = k .long;
-      six = geometry-held g ws t v f k;
-      live = live-held g ws t v f k;
-      count = top-count-held g ws t v f k;
-      top = k .top;
-      laid = k .laid;
+      long = blocks-length z bs ws ∙ k .long;
+      six = six-same us ws (z .six) (same (z .six) 6 (six-before z v)) ∙ k .six;
+      held = kept-pieces us ws (z .places) (topPart z t) same (part-in z t v (rw e r)) (rw (l, e) (k .held));
+      standing = d;
     }
 
--- another area: the words of the places anew
-abbrev pub withArea : Geometry → List ℕ → List ℕ → List ℕ
-withArea g area ws = take (placesStart g) ws ++ area
-
--- another level 0: its record count and all its words anew
-abbrev pub withTop : Geometry → List Rec → List ℕ → List ℕ
-withTop g rs ws = putAt (marksStart g) (topWords g rs) (putAt 8 (length rs ∷ []) ws)
-
-pub but-area : (g : Geometry) (ws area : List ℕ) (s t : Store) → Valid g → HoldsBut g ws s → t .live ≡ s .live → t .top ≡ s .top → Laid g area t → HoldsBut g (withArea g area ws) t
-but-area g ws area s t v k l e d =
-    let us = withArea g area ws in
-    let o = starts g v in
-    let n : length (take (placesStart g) ws) ≡ placesStart g = length-take-le (placesStart g) ws (omega (arith, k .long)) in
-    let front : (b m : ℕ) → b + m ≤ placesStart g → part us b m ≡ part ws b m = λ b m h. part-left (take (placesStart g) ws) area b m (rw n h) ∙ part-front-part ws (placesStart g) b m h in
-    let nine : part us 0 9 ≡ part ws 0 9 = front 0 9 (omega arith) in
+-- Another level 0: its record count and its three parts laid anew.
+pub but-top : (z : Layout) (ws : List ℕ) (s t : Store) → Proper z → HoldsBut z ws s → t .live ≡ s .live → t .levels ≡ s .levels → length (t .top) ≤ topCapacityOf (z .geo) → Every (BlockFits (z .geo)) (allBlocks (t .levels))
+    → HoldsBut z (layAll (piece (z .count) (length (t .top) ∷ []) ∷ topPieces z (t .top)) ws) t
+but-top z ws s t v k l e r f =
+    let T = topPieces z (t .top) in
+    let ps : List Piece = piece (z .count) (length (t .top) ∷ []) ∷ T in
+    let us : List ℕ = layAll ps ws in
+    let g = top-stacked z (t .top) v r in
+    let w : Within (z .places) ps = part-in z t v r .1 in
+    let m = places-before z v in
+    let live : part us (z .live) 1 ≡ t .live ∷ [] = lay-all-kept ps ws (z .live) 1 (omega (arith, k .long, live-before z v)) (inl (omega (arith, v .live-count)), stacked-clear T (z .marks) (z .live) 1 (omega (arith, v .live-count, v .count-marks)) (g .0)) ∙ k .held .0 ∙ ap (λ (n : ℕ). n ∷ []) (sym l) in
     record {
-      long = rw (length-append, n, d .full) (sym (store-length g));
-      six = same-geometry us ws (front 0 6 (omega arith)) ∙ k .six;
-      live = same-word us ws 0 9 nine 6 (omega arith) (omega arith) ∙ k .live ∙ sym l;
-      count = same-word us ws 0 9 nine 8 (omega arith) (omega arith) ∙ k .count ∙ rw e;
-      top = front (marksStart g) (topLength g) (omega arith) ∙ k .top ∙ rw e;
-      laid = rw (drop-at (take (placesStart g) ws) area (placesStart g) n) d;
-    }
-
-pub but-top : (g : Geometry) (ws : List ℕ) (s t : Store) → Valid g → HoldsBut g ws s → t .live ≡ s .live → t .levels ≡ s .levels → length (t .top) ≤ topCapacityOf g → HoldsBut g (withTop g (t .top) ws) t
-but-top g ws s t v k l e r =
-    let o = starts g v in
-    let w = k .long in
-    let tops : length (topWords g (t .top)) ≡ topLength g = top-words-length g (t .top) (omega (arith, v .ranged .b-low)) r in
-    let us = putAt 8 (length (t .top) ∷ []) ws in
-    let u : length us ≡ length ws = put-length 8 (length (t .top) ∷ []) ws (omega arith) in
-    let vs = putAt (marksStart g) (topWords g (t .top)) us in
-    let front : (b n : ℕ) → b + n ≤ 8 → part vs b n ≡ part ws b n = λ b n h. put-before (marksStart g) b n (topWords g (t .top)) us (omega arith) (omega arith) ∙ put-before 8 b n (length (t .top) ∷ []) ws (omega arith) (omega arith) in
-    let area : areaOf g vs ≡ areaOf g ws = put-drop (marksStart g) (placesStart g) (topWords g (t .top)) us (omega arith) (omega arith) ∙ put-drop 8 (placesStart g) (length (t .top) ∷ []) ws (omega arith) (omega arith) in
-    record {
-      long = put-length (marksStart g) (topWords g (t .top)) us (omega arith) ∙ u ∙ w;
-      six = same-geometry vs ws (front 0 6 (omega arith)) ∙ k .six;
-      live = same-word vs ws 6 1 (front 6 1 (omega arith)) 6 (omega arith) (omega arith) ∙ k .live ∙ sym l;
-      count = word-here vs 8 (length (t .top)) (put-before (marksStart g) 8 1 (topWords g (t .top)) us (omega arith) (omega arith) ∙ put-here 8 1 (length (t .top) ∷ []) ws refl (omega arith));
-      top = put-here (marksStart g) (topLength g) (topWords g (t .top)) us tops (omega arith);
-      laid = rw area (laid-levels g (areaOf g ws) s t e (k .laid));
+      long = lay-all-length ps ws ∙ k .long;
+      six = six-same us ws (z .six) (lay-all-kept ps ws (z .six) 6 (omega (arith, k .long, six-before z v)) (inl (omega (arith, v .six-live, v .live-count)), stacked-clear T (z .marks) (z .six) 6 (omega (arith, v .six-live, v .live-count, v .count-marks)) (g .0))) ∙ k .six;
+      held = (live, lay-all-here ps ws (within-most ps (z .places) (length ws) (omega (arith, k .long)) w) (stacked-apart ps (z .count) (omega arith, stacked-lower T (z .count + 1) (z .marks) (omega (arith, v .count-marks)) (g .0))));
+      standing = every-both (BlockFits (z .geo)) _ _ (allBlocks (t .levels)) (λ b h q. lay-all-kept ps ws _ _ (rw (k .long) (place-inside z v (place-below b h))) (within-clear ps _ _ (within-most ps (z .places) _ (place-behind z (placeOf b)) w)) ∙ q) f (rw e (k .standing));
     }

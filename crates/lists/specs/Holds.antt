@@ -3,17 +3,17 @@ use Prim.Native.Nat.{ℕ}
 use mathlib.Core.Path.{_≡_}
 use mathlib.Core.List.{List}
 use lib.ListN.{length}
-use Rattle.geometry.specs.declared.Geometry.{Geometry}
-use Rattle.geometry.specs.Geometry.{marksStart, storeLength}
+use Rattle.layout.specs.declared.Layout.{Layout}
 use Rattle.levels.specs.Store.{Store}
-use Rattle.words.specs.Layout.{geometryAt, liveAt, topCountAt, topWords, areaOf, part, topLength}
-use Rattle.words.specs.Passed.{Laid}
+use Rattle.levels.specs.Every.{Every}
+use Rattle.pieces.specs.Pieces.{Held}
+use Rattle.words.specs.Stores.{geometryFrom}
+use Rattle.words.specs.Halves.{topPart}
+use Rattle.words.specs.Passed.{Standing}
 
 -- The words hold the store, but for the cursor, the block counts and the place lists.
-pub record HoldsBut (g : Geometry) (ws : List ℕ) (t : Store) : Type 0 where
-  pub long : length ws ≡ storeLength g
-  pub six : geometryAt ws ≡ g
-  pub live : liveAt ws ≡ t .live
-  pub count : topCountAt ws ≡ length (t .top)
-  pub top : part ws (marksStart g) (topLength g) ≡ topWords g (t .top)
-  pub laid : Laid g (areaOf g ws) t
+pub record HoldsBut (z : Layout) (ws : List ℕ) (t : Store) : Type 0 where
+  pub long : length ws ≡ z .length
+  pub six : geometryFrom ws (z .six) ≡ z .geo
+  pub held : Every (Held ws) (topPart z t)
+  pub standing : Standing z ws (t .levels)

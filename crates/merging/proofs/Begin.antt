@@ -8,7 +8,7 @@ use lib.ListN.{length, getD, take}
 use lib.Seq.{take-suc}
 use borrow.Author.Tests.{ne-eqb}
 use Rattle.levels.specs.Record.{Block, Level}
-use Rattle.blocks.specs.declared.Layout.{Layout}
+use Rattle.blocks.specs.declared.Offsets.{Offsets}
 use Rattle.blocks.specs.Blocks.{emptyBuffer}
 use Rattle.sides.specs.Sides.{blockChunk, chunkOf, lastSize}
 use Rattle.stream.specs.Machine.{Memory}
@@ -17,17 +17,17 @@ use Rattle.merging.proofs.Blocks.{countAt, storedAt, blocks, Flash, lay
 use Rattle.merging.proofs.Heads.{recs-length}
 use Rattle.merging.proofs.Close.{lay-blocks, entries, entries-snoc, empty-is}
 
-pub lay-done : (z : Layout) (d : Flash) (l acc : Level) → layDone z d (reverseAux l acc) ≡ layAll z (layDone z d acc) l
+pub lay-done : (z : Offsets) (d : Flash) (l acc : Level) → layDone z d (reverseAux l acc) ≡ layAll z (layDone z d acc) l
 unfolding layAll layDone
 lay-done z d [] acc = refl
 lay-done z d (b ∷ l) acc = lay-done z d l (b ∷ acc)
 
-pub blocks-snoc : (z : Layout) (ws ys : List ℕ) (i n : ℕ) → blocks z false ws ys i (suc n) ≡ blocks z false ws ys i n ++ (storedAt z ws (getD ys (i + n) 0) ∷ [])
+pub blocks-snoc : (z : Offsets) (ws ys : List ℕ) (i n : ℕ) → blocks z false ws ys i (suc n) ≡ blocks z false ws ys i n ++ (storedAt z ws (getD ys (i + n) 0) ∷ [])
 unfolding blocks chunkOf
 blocks-snoc z ws ys i zero = let e : i + zero ≡ i = omega arith in rw e
 blocks-snoc z ws ys i (suc n) = let e : i + suc n ≡ suc i + n = omega arith in rw (e, ← blocks-snoc z ws ys (suc i) n)
 
-pub no-blocks : (z : Layout) (ws ys : List ℕ) → blocks z false ws ys 0 0 ≡ []
+pub no-blocks : (z : Offsets) (ws ys : List ℕ) → blocks z false ws ys 0 0 ≡ []
 unfolding blocks chunkOf
 no-blocks z ws ys = refl
 
@@ -39,7 +39,7 @@ take-entries : (out ys : List ℕ) (from m : ℕ) → m ≤ length out → ((i :
 take-entries out ys from zero h f = refl
 take-entries out ys from (suc m) h f = rw (take-suc out m 0 (omega arith), entries-snoc ys from m, take-entries out ys from m (omega arith) (λ i l. f i (omega arith)), f m (omega arith))
 
-module _ (z : Layout) (a : Memory) (ys : List ℕ) (from : ℕ) (empty : a .st .buf ≡ emptyBuffer) (le : a .st .m ≤ length (a .out)) (same : (i : ℕ) → i < a .st .m → getD (a .out) i 0 ≡ getD ys (from + i) 0) where
+module _ (z : Offsets) (a : Memory) (ys : List ℕ) (from : ℕ) (empty : a .st .buf ≡ emptyBuffer) (le : a .st .m ≤ length (a .out)) (same : (i : ℕ) → i < a .st .m → getD (a .out) i 0 ≡ getD ys (from + i) 0) where
   ends-with : (m : ℕ) → ((i : ℕ) → i < m → getD (a .out) i 0 ≡ getD ys (from + i) 0)
       → (lastSize z (a .words) (a .out) m ≡ headSize (z .b) (reverseAux (blocks z false (a .words) ys from m) [])) × LastIs z (a .words) (a .out) m (reverseAux (blocks z false (a .words) ys from m) [])
   unfolding lastSize blocks

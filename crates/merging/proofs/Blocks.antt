@@ -7,7 +7,7 @@ use lib.Dec.{eqb}
 use lib.ListN.{getD, set, drop}
 use Rattle.levels.specs.Basics.{if_then_else_}
 use Rattle.levels.specs.Record.{Rec, Block, Level, new}
-use Rattle.blocks.specs.declared.Layout.{Layout}
+use Rattle.blocks.specs.declared.Offsets.{Offsets}
 use Rattle.blocks.specs.Blocks.{startOf, nextMark, bufferOf, written}
 use Rattle.sides.specs.declared.Chunk.{Chunk}
 use Rattle.sides.specs.Sides.{blockChunk, chunkOf}
@@ -30,14 +30,14 @@ abbrev pub blockOf : List ℕ → Chunk → Block
 blockOf ws c = record { place = chunkPlace c; recs = recsFrom ws c 0 (c .n) }
 
 -- the block at place q, and its count
-abbrev pub storedAt : Layout → List ℕ → ℕ → Block
+abbrev pub storedAt : Offsets → List ℕ → ℕ → Block
 storedAt z ws q = blockOf ws (blockChunk z ws q)
 
-abbrev pub countAt : Layout → List ℕ → ℕ → ℕ
+abbrev pub countAt : Offsets → List ℕ → ℕ → ℕ
 countAt z ws q = getD ws (startOf z q) 0
 
 -- n blocks of a side, from chunk i on
-unfoldable pub blocks : Layout → Bool → List ℕ → List ℕ → ℕ → ℕ → Level
+unfoldable pub blocks : Offsets → Bool → List ℕ → List ℕ → ℕ → ℕ → Level
 blocks z pages ws list i zero = []
 blocks z pages ws list i (suc n) = blockOf ws (chunkOf z pages ws list i) ∷ blocks z pages ws list (suc i) n
 
@@ -51,7 +51,7 @@ beginWith j [] = []
 beginWith j (b ∷ bs) = begun j b ∷ bs
 
 -- what is left of a side: chunks i to end, the first without j records
-unfoldable pub side : Layout → Bool → List ℕ → List ℕ → ℕ → ℕ → ℕ → Level
+unfoldable pub side : Offsets → Bool → List ℕ → List ℕ → ℕ → ℕ → ℕ → Level
 side z pages ws list i j end = beginWith j (blocks z pages ws list i (end - i))
 
 -- the words, the marks of places in use, the cursor, the number of blocks written, and the places of the level laid so far
@@ -63,23 +63,23 @@ pub record Flash : Type 0 where
   pub list : List ℕ
 
 -- a new block is written at place q
-abbrev pub layAt : Layout → Flash → List Rec → ℕ → Flash
+abbrev pub layAt : Offsets → Flash → List Rec → ℕ → Flash
 layAt z d rs q =
     record { words = written z (d .words) q (bufferOf rs); used = set (d .used) q true; cursor = q; writes = d .writes + 1; list = d .list ++ (q ∷ []) }
 
 -- a block that has a place stays there; a new one takes the first free place after the cursor
-unfoldable pub lay : Layout → Flash → Block → Flash
+unfoldable pub lay : Offsets → Flash → Block → Flash
 lay z d b = elim (b .place) [
   | some q ↦ record { words = d .words; used = d .used; cursor = d .cursor; writes = d .writes; list = d .list ++ (q ∷ []) }
   | none ↦ layAt z d (b .recs) (nextMark (z .p) (d .used) (d .cursor))
 ]
 
 -- the blocks of a level, in key order
-unfoldable pub layAll : Layout → Flash → Level → Flash
+unfoldable pub layAll : Offsets → Flash → Level → Flash
 layAll z d [] = d
 layAll z d (b ∷ bs) = layAll z (lay z d b) bs
 
 -- the same of blocks kept last first
-unfoldable pub layDone : Layout → Flash → Level → Flash
+unfoldable pub layDone : Offsets → Flash → Level → Flash
 layDone z d [] = d
 layDone z d (b ∷ bs) = lay z (layDone z d bs) b

@@ -2,13 +2,13 @@
 use Prim.Native.Nat.{ℕ, zero, suc, _+_, _-_, _*_, _≤_, _<_}
 use mathlib.Core.Path.{_≡_, sym, ap, _∙_, refl}
 use mathlib.Core.Bool.{Bool, true, false, true≢false}
-use mathlib.Core.List.{List, []}
+use mathlib.Core.List.{List}
 use native.Mathlib.Decide.{decLt}
 use native.Mathlib.Nat.{le-refl, mul-le-mul-left, le-of-mul-le-mul-right}
 use native.Mathlib.Omega.{arith}
 use Rattle.levels.specs.Basics.{if_then_else_, iterate}
 use Rattle.levels.specs.Merge.{Out, step}
-use Rattle.blocks.specs.declared.Layout.{Layout}
+use Rattle.blocks.specs.declared.Offsets.{Offsets}
 use Rattle.blocks.specs.declared.Buffer.{Buffer}
 use Rattle.blocks.specs.Blocks.{bufferOf}
 use Rattle.sides.specs.declared.Chunk.{Chunk}
@@ -26,7 +26,7 @@ use Rattle.merging.proofs.Run.{sim-turns}
 use Rattle.merging.proofs.Paid.{Paid, upper-paid, lower-paid, both-paid, count-free}
 
 -- a step keeps the potential
-pub turn-paid : (z : Layout) (t : Inputs) (xs ys : List ℕ) (s : Memory) (o : Out) (a : Memory) → Core z t xs ys o a → Paid z t s a → idle z t xs ys a ≡ false → Paid z t s (turn z t xs ys a)
+pub turn-paid : (z : Offsets) (t : Inputs) (xs ys : List ℕ) (s : Memory) (o : Out) (a : Memory) → Core z t xs ys o a → Paid z t s a → idle z t xs ys a ≡ false → Paid z t s (turn z t xs ys a)
 unfolding turn chosen
 turn-paid z t xs ys s o a c p idles = go (decLt (a .st .x .i) (t .x)) (decLt (a .st .y .i) (t .y))
   where
@@ -61,7 +61,7 @@ turn-paid z t xs ys s o a c p idles = go (decLt (a .st .x .i) (t .x)) (decLt (a 
         (both-paid z t s a p (t .bottom) x y kx hx hy gx (c .upper .inside gx) gy (c .lower .inside gy))))
 
 -- what a merge starts with: nothing written, nothing begun, room and free places for its inputs
-pub record Supplied (z : Layout) (t : Inputs) (xs ys : List ℕ) (a : Memory) : Type 0 where
+pub record Supplied (z : Offsets) (t : Inputs) (xs ys : List ℕ) (a : Memory) : Type 0 where
   pub core : Core z t xs ys (relation.first z t xs ys a .out) a
   pub holds : Holds z (start a) (relation.first z t xs ys a .out) a
   pub x-start : a .st .x .j ≡ 0
@@ -73,12 +73,12 @@ pub record Supplied (z : Layout) (t : Inputs) (xs ys : List ℕ) (a : Memory) : 
   pub free : countMarks (z .p) (a .used) + ((t .x - a .st .x .i) + (t .y - a .st .y .i)) + 1 ≤ z .p
 
 -- the potential bounds what is listed, written and marked
-pub record Bounded (z : Layout) (t : Inputs) (s a : Memory) : Type 0 where
+pub record Bounded (z : Offsets) (t : Inputs) (s a : Memory) : Type 0 where
   pub m : a .st .m ≤ s .st .m + 2 * ((t .x - s .st .x .i) + (t .y - s .st .y .i))
   pub writes : a .st .writes ≤ s .st .writes + ((t .x - s .st .x .i) + (t .y - s .st .y .i))
   pub marks : countMarks (z .p) (a .used) ≤ countMarks (z .p) (s .used) + ((t .x - s .st .x .i) + (t .y - s .st .y .i))
 
-pub paid-bounded : (z : Layout) (t : Inputs) (s a : Memory) → 1 ≤ z .b → s .st .x .i ≤ t .x → s .st .y .i ≤ t .y → Paid z t s a → Bounded z t s a
+pub paid-bounded : (z : Offsets) (t : Inputs) (s a : Memory) → 1 ≤ z .b → s .st .x .i ≤ t .x → s .st .y .i ≤ t .y → Paid z t s a → Bounded z t s a
 paid-bounded z t s a b hx hy p =
     let nx = t .x - s .st .x .i in
     let ny = t .y - s .st .y .i in
@@ -92,7 +92,7 @@ paid-bounded z t s a b hx hy p =
     let wl = le-of-mul-le-mul-right w b in
     record { m = ml; writes = wl; marks = (let u = p .marks in omega arith) }
 
-module _ (z : Layout) (t : Inputs) (xs ys : List ℕ) (a : Memory) (k : Supplied z t xs ys a) where
+module _ (z : Offsets) (t : Inputs) (xs ys : List ℕ) (a : Memory) (k : Supplied z t xs ys a) where
   buffer-empty : a .st .buf .n ≡ 0
   unfolding bufferOf
   buffer-empty = ap (λ (b : Buffer). b .n) (k .holds .buf)

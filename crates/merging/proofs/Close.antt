@@ -15,12 +15,12 @@ use borrow.Author.Tests.{le-leb, lt-leb, leb-true, eq-eqb, ne-eqb}
 use Rattle.levels.specs.Basics.{if_then_else_}
 use Rattle.levels.specs.Record.{Rec, Block, Level, new, size}
 use Rattle.levels.specs.Merge.{Out, flush, joinLeft, join}
-use Rattle.blocks.specs.declared.Layout.{Layout}
+use Rattle.blocks.specs.declared.Offsets.{Offsets}
 use Rattle.blocks.specs.declared.Buffer.{Buffer}
 use Rattle.blocks.specs.Blocks.{Sized, startOf, emptyBuffer, bufferOf}
 use Rattle.stream.specs.declared.Point.{Point}
 use Rattle.stream.specs.declared.Progress.{Progress}
-use Rattle.words.specs.Layout.{markWord}
+use Rattle.words.specs.Stores.{markWord}
 use Rattle.sides.specs.Sides.{blockChunk, chunkOf, lastSize}
 use Rattle.stream.specs.Machine.{Memory, flushed, writtenAt, withProgress}
 use Rattle.levels.proofs.Basics.{if-either}
@@ -33,7 +33,7 @@ use Rattle.merging.proofs.Outs.{Fit, flush-none, flush-some, written-ho
 use Rattle.merging.proofs.Loads.{append-place, append-buffers}
 
 -- blocks kept last first are laid as the level that they make
-pub lay-reverse : (z : Layout) (d : Flash) (done l : Level) → layAll z d (reverseAux done l) ≡ layAll z (layDone z d done) l
+pub lay-reverse : (z : Offsets) (d : Flash) (done l : Level) → layAll z d (reverseAux done l) ≡ layAll z (layDone z d done) l
 unfolding layAll layDone
 lay-reverse z d [] l = refl
 lay-reverse z d (b ∷ bs) l = lay-reverse z d bs (b ∷ l)
@@ -44,7 +44,7 @@ entries ys i zero = []
 entries ys i (suc n) = getD ys i 0 ∷ entries ys (suc i) n
 
 -- blocks that have places are only listed
-pub lay-blocks : (z : Layout) (d : Flash) (ws ys : List ℕ) (i n : ℕ) → layAll z d (blocks z false ws ys i n) ≡ record { words = d .words; used = d .used; cursor = d .cursor; writes = d .writes; list = d .list ++ entries ys i n }
+pub lay-blocks : (z : Offsets) (d : Flash) (ws ys : List ℕ) (i n : ℕ) → layAll z d (blocks z false ws ys i n) ≡ record { words = d .words; used = d .used; cursor = d .cursor; writes = d .writes; list = d .list ++ entries ys i n }
 unfolding layAll lay blocks chunkOf
 lay-blocks z d ws ys i zero = rw append-nil
 lay-blocks z d ws ys i (suc n) = lay-blocks z (lay z d (storedAt z ws (getD ys i 0))) ws ys (suc i) n ∙ rw (append-assoc (d .list) (getD ys i 0 ∷ []) (entries ys (suc i) n))
@@ -66,7 +66,7 @@ rested-list out m ys i (suc n) h =
     rw (e, take-suc-set (restedOut out m ys i n) (m + n) (getD ys (i + n) 0) (rw rested-length (omega arith)), rested-list out m ys i n (omega arith), entries-snoc ys i n)
     (append-assoc (take m out) (entries ys i n) (getD ys (i + n) 0 ∷ []))
 
-module _ (z : Layout) (d : Flash) (a : Memory) where
+module _ (z : Offsets) (d : Flash) (a : Memory) where
   -- a buffer p, and blocks laid, at a work state w
   pub record Pend (p : List Rec) (done : Level) (w : Progress) : Type 0 where
     pub buf : w .buf ≡ bufferOf p
@@ -95,12 +95,12 @@ init-snoc (y ∷ w ∷ ys) x = ap (λ (l : List ℕ). y ∷ l) (init-snoc (w ∷
 flash-eq : (c d : Flash) → c .words ≡ d .words → c .used ≡ d .used → c .cursor ≡ d .cursor → c .writes ≡ d .writes → c .list ≡ d .list → c ≡ d
 flash-eq c d e f g n h = rw (e, f, g, n, h)
 
-lay-placed : (z : Layout) (d : Flash) (e : Block) (q : ℕ) → e .place ≡ some q → lay z d e ≡ record { words = d .words; used = d .used; cursor = d .cursor; writes = d .writes; list = d .list ++ (q ∷ []) }
+lay-placed : (z : Offsets) (d : Flash) (e : Block) (q : ℕ) → e .place ≡ some q → lay z d e ≡ record { words = d .words; used = d .used; cursor = d .cursor; writes = d .writes; list = d .list ++ (q ∷ []) }
 unfolding lay
 lay-placed z d e q p = rw p
 
 -- without its last block, a disk lists one place less
-undo : (z : Layout) (c d : Flash) (e : Block) (q m : ℕ) (out : List ℕ) → e .place ≡ some q → 1 ≤ m → m ≤ length out → lay z c e ≡ d → d .list ≡ take m out → c ≡ record { words = d .words; used = d .used; cursor = d .cursor; writes = d .writes; list = take (m - 1) out }
+undo : (z : Offsets) (c d : Flash) (e : Block) (q m : ℕ) (out : List ℕ) → e .place ≡ some q → 1 ≤ m → m ≤ length out → lay z c e ≡ d → d .list ≡ take m out → c ≡ record { words = d .words; used = d .used; cursor = d .cursor; writes = d .writes; list = take (m - 1) out }
 undo z c d e q m out p h l k f =
     let x = sym (lay-placed z c e q p) ∙ k in
     let s : take m out ≡ take (m - 1) out ++ (getD out (m - 1) 0 ∷ []) = (let n : m ≡ suc (m - 1) = omega arith in rw n (take-suc out (m - 1) 0 (omega arith) ∙ (let o : suc (m - 1) - 1 ≡ m - 1 = omega arith in rw o))) in
@@ -115,7 +115,7 @@ buffer-n : (p : List Rec) → bufferOf p .n ≡ length p
 unfolding bufferOf
 buffer-n p = refl
 
-module _ (z : Layout) (d : Flash) (a : Memory) where
+module _ (z : Offsets) (d : Flash) (a : Memory) where
   -- the last block is taken back
   pull-pend : (p : List Rec) (e : Block) (es : Level) (w : Progress) → Pend z d a p (e ∷ es) w → e ≡ storedAt z (a .words) (getD (a .out) (w .m - 1) 0) → size e + length p ≤ 16 → 1 ≤ w .m → w .m ≤ length (a .out)
       → Pend z d a (e .recs ++ p) es (pulled z (a .words) (a .out) w)
@@ -137,7 +137,7 @@ module _ (z : Layout) (d : Flash) (a : Memory) where
   unfolding afterTaken
   after-pend p done w q k n = record { buf = rw (k .buf) (append-place z (a .words) q p (countAt z (a .words) q) n); flash = k .flash }
 
-lay-listed : (z : Layout) (d : Flash) (e : Block) → 1 ≤ length (lay z d e .list)
+lay-listed : (z : Offsets) (d : Flash) (e : Block) → 1 ≤ length (lay z d e .list)
 unfolding lay
 lay-listed z d e = go (e .place) refl
   where
@@ -146,7 +146,7 @@ lay-listed z d e = go (e .place) refl
     go (some q) p = rw (p, lay) (rw length-append (omega arith))
 
 -- a block that is laid is listed
-pend-listed : (z : Layout) (d : Flash) (a : Memory) (p : List Rec) (e : Block) (es : Level) (w : Progress) → Pend z d a p (e ∷ es) w → 1 ≤ w .m
+pend-listed : (z : Offsets) (d : Flash) (a : Memory) (p : List Rec) (e : Block) (es : Level) (w : Progress) → Pend z d a p (e ∷ es) w → 1 ≤ w .m
 unfolding layDone
 pend-listed z d a p e es w k =
     let l = lay-listed z (layDone z d es) e in
@@ -158,24 +158,24 @@ flush-filled : (p : List Rec) (done : Level) → 1 ≤ length p → flush p done
 flush-filled [] done h = absurd (omega arith)
 flush-filled (r ∷ rs) done h = refl
 
-pub flushed-out : (z : Layout) (a : Memory) → length (flushed z a .out) ≡ length (a .out)
+pub flushed-out : (z : Offsets) (a : Memory) → length (flushed z a .out) ≡ length (a .out)
 unfolding flushed
 flushed-out z a = if-either (λ (b : Memory). length (b .out) ≡ length (a .out)) (eqb (a .st .buf .n) 0) a (writtenAt z a (nextFree z a)) refl (length-set (a .out) (a .st .m) (nextFree z a))
 
-blocks-cons : (z : Layout) (ws ys : List ℕ) (i end : ℕ) → i < end → blocks z false ws ys i (end - i) ≡ storedAt z ws (getD ys i 0) ∷ blocks z false ws ys (i + 1) (end - (i + 1))
+blocks-cons : (z : Offsets) (ws ys : List ℕ) (i end : ℕ) → i < end → blocks z false ws ys i (end - i) ≡ storedAt z ws (getD ys i 0) ∷ blocks z false ws ys (i + 1) (end - (i + 1))
 unfolding blocks chunkOf
 blocks-cons z ws ys i end h = let e : end - i ≡ suc (end - (i + 1)) = omega arith in rw (e, add-one i)
 
-blocks-end : (z : Layout) (ws ys : List ℕ) (i end : ℕ) → end ≤ i → blocks z false ws ys i (end - i) ≡ []
+blocks-end : (z : Offsets) (ws ys : List ℕ) (i end : ℕ) → end ≤ i → blocks z false ws ys i (end - i) ≡ []
 unfolding blocks chunkOf
 blocks-end z ws ys i end h = let e : end - i ≡ 0 = omega arith in rw e
 
 -- a new block, laid before the rest
-lay-new : (z : Layout) (d : Flash) (p : List Rec) (done rest : Level) → 1 ≤ length p → layAll z d (reverseAux done (new p ∷ rest)) ≡ layAll z (layDone z d (flush p done)) rest
+lay-new : (z : Offsets) (d : Flash) (p : List Rec) (done rest : Level) → 1 ≤ length p → layAll z d (reverseAux done (new p ∷ rest)) ≡ layAll z (layDone z d (flush p done)) rest
 unfolding layAll layDone
 lay-new z d p done rest h = lay-reverse z d done (new p ∷ rest) ∙ rw (flush-filled p done h)
 
-module _ (z : Layout) (d : Flash) (a : Memory) (ys : List ℕ) (end : ℕ) (sized : Sized z (a .words)) where
+module _ (z : Offsets) (d : Flash) (a : Memory) (ys : List ℕ) (end : ℕ) (sized : Sized z (a .words)) where
   finish-at : (p : List Rec) (done : Level) (w : Progress) → w .cursor < z .p → w .m + 1 + (end - w .y .i) ≤ length (a .out) → Pend z d a p done w
       → flashOf (rested (flushed z (withProgress a w)) ys end) ≡ layAll z (layDone z d (flush p done)) (blocks z false (a .words) ys (w .y .i) (end - w .y .i))
   finish-at p done w h r k =
@@ -282,16 +282,16 @@ module _ (z : Layout) (d : Flash) (a : Memory) (ys : List ℕ) (end : ℕ) (size
       go (no n) = rw (le-leb end (w .y .i) (omega arith)) (finish-at p done w h r k ∙ rw (blocks-end z (a .words) ys (w .y .i) end (omega arith)) (ended (flush p done)))
       go (yes y) = cases p done k last tail y
 
-left-none : (z : Layout) (xs out : List ℕ) (w : Progress) → eqb (w .buf .n) 0 ≡ true → leftJoined z xs out w ≡ w
+left-none : (z : Offsets) (xs out : List ℕ) (w : Progress) → eqb (w .buf .n) 0 ≡ true → leftJoined z xs out w ≡ w
 unfolding leftJoined
 left-none z xs out w e = rw e
 
-left-some : (z : Layout) (xs out : List ℕ) (w : Progress) (t : Bool) → eqb (w .buf .n) 0 ≡ false → leb (lastSize z xs out (w .m) + w .buf .n) (z .b) ≡ t → leftJoined z xs out w ≡ (if t then pulled z xs out w else w)
+left-some : (z : Offsets) (xs out : List ℕ) (w : Progress) (t : Bool) → eqb (w .buf .n) 0 ≡ false → leb (lastSize z xs out (w .m) + w .buf .n) (z .b) ≡ t → leftJoined z xs out w ≡ (if t then pulled z xs out w else w)
 unfolding leftJoined
 left-some z xs out w t e f = rw (e, f)
 
 -- what is kept of a merge's end: a buffer of fewer than B records
-module _ (z : Layout) (d : Flash) (a : Memory) (ys : List ℕ) (end : ℕ) (o : Out) (h : Holds z d o a) (sized : Sized z (a .words)) (few : length (o .buffer) < z .b)
+module _ (z : Offsets) (d : Flash) (a : Memory) (ys : List ℕ) (end : ℕ) (o : Out) (h : Holds z d o a) (sized : Sized z (a .words)) (few : length (o .buffer) < z .b)
     (cursor : a .st .cursor < z .p) (room : a .st .m + 1 + (end - a .st .y .i) ≤ length (a .out)) (tail : LastIs z (a .words) (a .out) (a .st .m) (o .done))
     (form : a .st .y .i < end → Formed z (a .words) (blockChunk z (a .words) (getD ys (a .st .y .i) 0))) where
   -- step 4 on words, from any end of step 3

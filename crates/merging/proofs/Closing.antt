@@ -2,7 +2,7 @@
 use Prim.Native.Nat.{ℕ, _+_, _-_, _≤_}
 use mathlib.Core.Path.{_≡_, ap, _∙_, refl}
 use mathlib.Core.Bool.{Bool, true, false}
-use mathlib.Core.List.{List, []}
+use mathlib.Core.List.{List}
 use native.Mathlib.Nat.{le-refl}
 use native.Mathlib.Omega.{arith}
 use lib.Dec.{leb, eqb}
@@ -10,7 +10,7 @@ use lib.ListN.{length, getD}
 use borrow.Author.Tests.{leb-true, leb-false, eqb-true, eqb-false}
 use Rattle.levels.specs.Basics.{if_then_else_}
 use Rattle.levels.specs.Merge.{Out}
-use Rattle.blocks.specs.declared.Layout.{Layout}
+use Rattle.blocks.specs.declared.Offsets.{Offsets}
 use Rattle.blocks.specs.declared.Buffer.{Buffer}
 use Rattle.blocks.specs.Blocks.{startOf, bufferOf}
 use Rattle.stream.specs.declared.Point.{Point}
@@ -33,7 +33,7 @@ pub record Joined (w v : Progress) : Type 0 where
   pub writes : v .writes ≡ w .writes
   pub few : v .buf .n ≤ 16
 
-module _ (z : Layout) (xs out : List ℕ) (w : Progress) where
+module _ (z : Offsets) (xs out : List ℕ) (w : Progress) where
   pulled-m : pulled z xs out w .m ≡ w .m - 1
   unfolding pulled
   pulled-m = refl
@@ -89,7 +89,7 @@ module _ (z : Layout) (xs out : List ℕ) (w : Progress) where
 joined-next : (u v w : Progress) → Joined u v → Joined v w → Joined u w
 joined-next u v w j k = record { m = (let a = j .m in let b = k .m in omega arith); cursor = k .cursor ∙ j .cursor; writes = k .writes ∙ j .writes; few = k .few }
 
-module _ (z : Layout) (xs out ys : List ℕ) (w : Progress) (end : ℕ) (k : Afters z xs out ys w end) where
+module _ (z : Offsets) (xs out ys : List ℕ) (w : Progress) (end : ℕ) (k : Afters z xs out ys w end) where
   after-joined : Joined w (afterJoined z xs out ys w end)
   unfolding afterJoined
   after-joined = go (leb end (w .y .i)) (eqb (w .buf .n) 0) (leb (lastSize z xs out (w .m) + size) (z .b)) (leb (w .buf .n + size) (z .b)) refl refl refl refl
@@ -144,7 +144,7 @@ module _ (z : Layout) (xs out ys : List ℕ) (w : Progress) (end : ℕ) (k : Aft
           (if-either Ends (leb (w .buf .n + size) (z .b)) (afterTaken z xs q w) w (omega arith, omega arith) (omega arith, omega arith))
 
 -- at the end of step 3, with all of the lower list standing
-pub closable : (z : Layout) (t : Inputs) (xs ys : List ℕ) (end : ℕ) (d : Flash) (o : Out) (a : Memory) → Core z t xs ys o a → Holds z d o a → Budget z a → Listed z false a ys (a .st .y .i) end → end ≤ 4096 → a .st .y .i ≤ end
+pub closable : (z : Offsets) (t : Inputs) (xs ys : List ℕ) (end : ℕ) (d : Flash) (o : Out) (a : Memory) → Core z t xs ys o a → Holds z d o a → Budget z a → Listed z false a ys (a .st .y .i) end → end ≤ 4096 → a .st .y .i ≤ end
     → a .st .m + 1 + (end - a .st .y .i) ≤ 4096 → Closable z ys end a
 unfolding bufferOf chunkOf
 closable z t xs ys end d o a c h g all he hy r =

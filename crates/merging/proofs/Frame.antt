@@ -2,7 +2,7 @@
 use Prim.Native.Nat.{ℕ, zero, suc, _+_, _-_, _*_, _≤_, _<_}
 use mathlib.Core.Path.{_≡_, sym, ap, _∙_, refl}
 use mathlib.Core.Bool.{Bool, true, false, _&&_, true≢false}
-use mathlib.Core.List.{List, []}
+use mathlib.Core.List.{List}
 use mathlib.Core.Logic.{_≢_, dite}
 use native.Mathlib.Decide.{decLt}
 use native.Mathlib.Nat.{add-zero, le-refl}
@@ -11,7 +11,7 @@ use lib.Arith.{digits-lt}
 use lib.Dec.{leb, eqb}
 use lib.ListN.{length, getD, set, length-set}
 use lib.Seq.{getD-set-same, getD-set-other}
-use Rattle.blocks.specs.declared.Layout.{Layout}
+use Rattle.blocks.specs.declared.Offsets.{Offsets}
 use Rattle.blocks.specs.declared.Buffer.{Buffer}
 use Rattle.blocks.specs.Blocks.{Sized, startOf, pushed}
 use Rattle.blocks.proofs.Laws.{free-low}
@@ -27,17 +27,17 @@ use Rattle.merging.proofs.Blocks.{recsFrom, blockOf, storedAt, countAt,
 use Rattle.merging.proofs.Words.{written-other, written-low, written-length, recs-agree}
 
 -- the words of places in use and those before the places are as they were
-pub record Same (z : Layout) (a b : Memory) : Type 0 where
+pub record Same (z : Offsets) (a b : Memory) : Type 0 where
   pub words : (q : ℕ) → getD (a .used) q false ≡ true → (j : ℕ) → j < 2 + 2 * z .b → getD (b .words) (startOf z q + j) 0 ≡ getD (a .words) (startOf z q + j) 0
   pub low : (k : ℕ) → k < z .base → getD (b .words) k 0 ≡ getD (a .words) k 0
   pub used : (q : ℕ) → getD (a .used) q false ≡ true → getD (b .used) q false ≡ true
 
 -- where the merge stands has no part in this
-pub same-from : (z : Layout) (a b : Memory) (w : Progress) → Same z (withProgress a w) b → Same z a b
+pub same-from : (z : Offsets) (a b : Memory) (w : Progress) → Same z (withProgress a w) b → Same z a b
 same-from z a b w k = record { words = k .words; low = k .low; used = k .used }
 
 -- besides, the two sides stand where they stood, and the list grows by places
-pub record Kept (z : Layout) (a b : Memory) : Type 0 where
+pub record Kept (z : Offsets) (a b : Memory) : Type 0 where
   pub same : Same z a b
   pub x : b .st .x ≡ a .st .x
   pub y : b .st .y ≡ a .st .y
@@ -46,7 +46,7 @@ pub record Kept (z : Layout) (a b : Memory) : Type 0 where
   pub cursor : a .st .cursor < z .p → b .st .cursor < z .p
   pub places : a .st .m < length (a .out) → ((i : ℕ) → i < a .st .m → getD (a .out) i 0 < z .p) → (a .st .cursor < z .p) → (i : ℕ) → i < b .st .m → getD (b .out) i 0 < z .p
 
-pub full-kept : (z : Layout) (a : Memory) (b : Buffer) → Kept z a (withProgress a (withBuffer (a .st) b))
+pub full-kept : (z : Offsets) (a : Memory) (b : Buffer) → Kept z a (withProgress a (withBuffer (a .st) b))
 full-kept z a b =
     record {
       same = record { words = λ q u j l. refl; low = λ k l. refl; used = λ q u. u };
@@ -59,14 +59,14 @@ full-kept z a b =
     }
 
 -- a memory keeps itself
-all-kept : (z : Layout) (a : Memory) → Kept z a a
+all-kept : (z : Offsets) (a : Memory) → Kept z a a
 all-kept z a = full-kept z a (a .st .buf)
 
 put-places : (out : List ℕ) (m q p : ℕ) → m < length out → ((i : ℕ) → i < m → getD out i 0 < p) → q < p → (i : ℕ) → i < m + 1 → getD (set out m q) i 0 < p
 put-places out m q p l f h i k =
     dite (decLt i m) (λ y. rw (getD-set-other out m i q 0 (λ e. omega arith)) (f i y)) (λ n. let e : i ≡ m = omega arith in rw (e, getD-set-same out m q 0 l) h)
 
-pub written-kept : (z : Layout) (a : Memory) → getD (a .used) (nextFree z a) false ≡ false → Kept z a (writtenAt z a (nextFree z a))
+pub written-kept : (z : Offsets) (a : Memory) → getD (a .used) (nextFree z a) false ≡ false → Kept z a (writtenAt z a (nextFree z a))
 written-kept z a f =
     record {
       same = record {
@@ -85,11 +85,11 @@ written-kept z a f =
     other : (q : ℕ) → getD (a .used) q false ≡ true → q ≢ nextFree z a
     other q u e = true≢false (sym u ∙ ap (λ (k : ℕ). getD (a .used) k false) e ∙ f)
 
-pub flush-kept : (z : Layout) (a : Memory) → getD (a .used) (nextFree z a) false ≡ false → Kept z a (flushed z a)
+pub flush-kept : (z : Offsets) (a : Memory) → getD (a .used) (nextFree z a) false ≡ false → Kept z a (flushed z a)
 unfolding flushed
 flush-kept z a f = if-either (Kept z a) (eqb (a .st .buf .n) 0) a (writtenAt z a (nextFree z a)) (all-kept z a) (written-kept z a f)
 
-pub gather-kept : (z : Layout) (bottom : Bool) (a : Memory) (h : Head) → getD (a .used) (nextFree z a) false ≡ false → Kept z a (gathered z bottom a h)
+pub gather-kept : (z : Offsets) (bottom : Bool) (a : Memory) (h : Head) → getD (a .used) (nextFree z a) false ≡ false → Kept z a (gathered z bottom a h)
 unfolding gathered flushed
 gather-kept z bottom a h f =
     if-either (Kept z a) (bottom && eqb (h .tombstone) 1) a _ (all-kept z a)
@@ -104,7 +104,7 @@ gather-kept z bottom a h f =
     through : Kept z full (flushed z full) → Kept z a (flushed z full)
     through k = record { same = same-from z a (flushed z full) (withBuffer (a .st) more) (k .same); x = k .x; y = k .y; length-words = k .length-words; length-out = k .length-out; cursor = k .cursor; places = k .places }
 
-pub append-kept : (z : Layout) (a c : Memory) (q : ℕ) → c .st .m < length (c .out) → q < z .p → Kept z a c → Kept z a (append c q)
+pub append-kept : (z : Offsets) (a c : Memory) (q : ℕ) → c .st .m < length (c .out) → q < z .p → Kept z a c → Kept z a (append c q)
 append-kept z a c q l h k =
     record {
       same = record { words = k .same .words; low = k .same .low; used = k .same .used };
@@ -117,7 +117,7 @@ append-kept z a c q l h k =
     }
 
 -- so the chunks that stand there hold the same records
-module _ (z : Layout) (a b : Memory) (sized : Sized z (a .words)) (k : Same z a b) where
+module _ (z : Offsets) (a b : Memory) (sized : Sized z (a .words)) (k : Same z a b) where
   pub count-kept : (q : ℕ) → getD (a .used) q false ≡ true → countAt z (b .words) q ≡ countAt z (a .words) q
   count-kept q u = rw add-zero at (k .words q u 0 (omega arith))
 

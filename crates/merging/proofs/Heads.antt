@@ -16,7 +16,7 @@ use borrow.Author.Tests.{eq-eqb, ne-eqb, lt-ltb}
 use Rattle.levels.specs.Basics.{if_then_else_}
 use Rattle.levels.specs.Record.{Rec, Block, Level, new, size, placed, firstKey, lastKey, hasTombstone}
 use Rattle.levels.specs.Merge.{Out, headRec, endsBelow, apart, reusable}
-use Rattle.blocks.specs.declared.Layout.{Layout}
+use Rattle.blocks.specs.declared.Offsets.{Offsets}
 use Rattle.sides.specs.declared.Chunk.{Chunk}
 use Rattle.sides.specs.declared.Head.{Head}
 use Rattle.sides.specs.Sides.{headAt, wholeBelow, follows}
@@ -84,7 +84,7 @@ div-one : (n : ℕ) → n / 2 ^ 0 ≡ n
 div-one n = omega arith
 
 -- the next record of a chunk shows what is left of its block
-pub shows-at : (z : Layout) (ws : List ℕ) (c : Chunk) (j : ℕ) → Formed z ws c → j < c .n → Shows ws (headAt ws c j) (begun j (blockOf ws c))
+pub shows-at : (z : Offsets) (ws : List ℕ) (c : Chunk) (j : ℕ) → Formed z ws c → j < c .n → Shows ws (headAt ws c j) (begun j (blockOf ws c))
 unfolding recsFrom
 shows-at z ws c zero f l = go (c .n) (c .listed) refl refl (f .low)
   where
@@ -152,7 +152,7 @@ off true v x = refl
 off false v x = refl
 
 -- the test on heads is the definition's test
-pub follows-same : (z : Layout) (bottom : Bool) (ws : List ℕ) (h o : Head) (b : Block) (l : Level) (out : Out) (e : ℕ) → Shows ws h b → Sees ws o l → e ≡ headSize (z .b) (out .done)
+pub follows-same : (z : Offsets) (bottom : Bool) (ws : List ℕ) (h o : Head) (b : Block) (l : Level) (out : Out) (e : ℕ) → Shows ws h b → Sees ws o l → e ≡ headSize (z .b) (out .done)
     → follows z bottom ws h o (length (out .buffer)) e ≡ reusable (z .b) bottom out l b
 unfolding follows wholeBelow
 follows-same z bottom ws h o b l out e s t d = go (h .whole) refl (out .buffer) (out .done) d

@@ -8,10 +8,10 @@ use lib.Pow.{shr-shr}
 use lib.ListN.{length, getD, take, replicate, length-append, length-map, List·getD-append, length-take}
 use lib.Seq.{take-suc}
 use Rattle.levels.specs.Record.{Rec}
-use Rattle.blocks.specs.declared.Layout.{Layout}
+use Rattle.blocks.specs.declared.Offsets.{Offsets}
 use Rattle.blocks.specs.Blocks.{startOf, bufferOf}
 use Rattle.joins.specs.Joins.{appended, joined}
-use Rattle.words.specs.Layout.{bit, markWord, pad}
+use Rattle.words.specs.Stores.{bit, markWord, pad}
 use Rattle.sides.specs.declared.Chunk.{Chunk}
 use Rattle.sides.specs.Sides.{blockChunk}
 use Rattle.merging.proofs.Blocks.{recAt, recsFrom}
@@ -28,7 +28,7 @@ recs-snoc ws c i zero = let e : i + zero ≡ i = omega arith in rw e
 recs-snoc ws c i (suc j) = let e : i + suc j ≡ suc i + j = omega arith in rw (e, ← recs-snoc ws c (suc i) j)
 
 -- the records of a place, after those of a buffer
-pub append-place : (z : Layout) (ws : List ℕ) (q : ℕ) (rs : List Rec) (j : ℕ) → length rs + j ≤ 16 → appended (z .b) ws (startOf z q) (bufferOf rs) j ≡ bufferOf (rs ++ recsFrom ws (blockChunk z ws q) 0 j)
+pub append-place : (z : Offsets) (ws : List ℕ) (q : ℕ) (rs : List Rec) (j : ℕ) → length rs + j ≤ 16 → appended (z .b) ws (startOf z q) (bufferOf rs) j ≡ bufferOf (rs ++ recsFrom ws (blockChunk z ws q) 0 j)
 unfolding appended
 append-place z ws q rs zero h = rw (recs-none ws (blockChunk z ws q) 0, append-nil)
 append-place z ws q rs (suc j) h =

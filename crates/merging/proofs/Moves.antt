@@ -7,7 +7,7 @@ use native.Mathlib.Numerals.{add-one}
 use native.Mathlib.Omega.{arith}
 use Rattle.levels.specs.Record.{Level, new}
 use Rattle.levels.specs.Merge.{flush, rest}
-use Rattle.blocks.specs.declared.Layout.{Layout}
+use Rattle.blocks.specs.declared.Offsets.{Offsets}
 use Rattle.sides.specs.declared.Chunk.{Chunk}
 use Rattle.sides.specs.Sides.{chunkOf}
 use Rattle.merging.proofs.Blocks.{recsFrom, blockOf, blocks, begun, beginWith, side}
@@ -17,13 +17,13 @@ pub begin-zero : (l : Level) → beginWith 0 l ≡ l
 begin-zero [] = refl
 begin-zero (b ∷ bs) = refl
 
-pub side-cons : (z : Layout) (pages : Bool) (ws list : List ℕ) (i j end : ℕ) → i < end → side z pages ws list i j end ≡ begun j (blockOf ws (chunkOf z pages ws list i)) ∷ side z pages ws list (i + 1) 0 end
+pub side-cons : (z : Offsets) (pages : Bool) (ws list : List ℕ) (i j end : ℕ) → i < end → side z pages ws list i j end ≡ begun j (blockOf ws (chunkOf z pages ws list i)) ∷ side z pages ws list (i + 1) 0 end
 unfolding side blocks
 side-cons z pages ws list i j end h =
     let e : end - i ≡ suc (end - (i + 1)) = omega arith in
     rw (e, begin-zero, add-one i)
 
-pub side-none : (z : Layout) (pages : Bool) (ws list : List ℕ) (i j end : ℕ) → end ≤ i → side z pages ws list i j end ≡ []
+pub side-none : (z : Offsets) (pages : Bool) (ws list : List ℕ) (i j end : ℕ) → end ≤ i → side z pages ws list i j end ≡ []
 unfolding side blocks
 side-none z pages ws list i j end h = let e : end - i ≡ 0 = omega arith in rw e
 

@@ -16,7 +16,7 @@ use borrow.Author.Tests.{eq-eqb, ne-eqb}
 use Rattle.levels.specs.Basics.{if_then_else_}
 use Rattle.levels.specs.Record.{Rec, Block, Level, new, size}
 use Rattle.levels.specs.Merge.{Out, flush, gather}
-use Rattle.blocks.specs.declared.Layout.{Layout}
+use Rattle.blocks.specs.declared.Offsets.{Offsets}
 use Rattle.blocks.specs.declared.Buffer.{Buffer}
 use Rattle.blocks.specs.Blocks.{Sized, pushed, bufferOf, written}
 use Rattle.blocks.proofs.Laws.{free-low}
@@ -24,7 +24,7 @@ use Rattle.sides.specs.declared.Head.{Head}
 use Rattle.sides.specs.Sides.{lastSize}
 use Rattle.stream.specs.Machine.{Memory, flushed, writtenAt, append, gathered, withProgress, withBuffer}
 use Rattle.merging.proofs.Relation.{nextFree, flashOf, Holds}
-use Rattle.words.specs.Layout.{bit, markWord, pad, keysOf, paysOf}
+use Rattle.words.specs.Stores.{bit, markWord, pad, keysOf, paysOf}
 use Rattle.merging.proofs.Blocks.{Flash, lay, layDone, countAt}
 use Rattle.merging.proofs.Words.{written-count}
 
@@ -53,12 +53,12 @@ buffer-push rs r m h e =
     rw (map-push (λ (r : Rec). r .key) rs r, map-push (λ (r : Rec). r .pay) rs r, marks-push rs r, e, length-append rs (r ∷ []), ← k, ← v, a, b)
 
 -- a block can be written and listed
-pub record Fit (z : Layout) (a : Memory) : Type 0 where
+pub record Fit (z : Offsets) (a : Memory) : Type 0 where
   pub sized : Sized z (a .words)
   pub cursor : a .st .cursor < z .p
   pub list : a .st .m < length (a .out)
 
-last-is : (z : Layout) (ws out : List ℕ) (m q : ℕ) → m < length out → lastSize z ws (set out m q) (m + 1) ≡ countAt z ws q
+last-is : (z : Offsets) (ws out : List ℕ) (m q : ℕ) → m < length out → lastSize z ws (set out m q) (m + 1) ≡ countAt z ws q
 unfolding lastSize
 last-is z ws out m q h =
     let e : m + 1 - 1 ≡ m = omega arith in
@@ -67,15 +67,15 @@ last-is z ws out m q h =
 list-is : (out : List ℕ) (m q : ℕ) → m < length out → take (m + 1) (set out m q) ≡ take m out ++ (q ∷ [])
 list-is out m q h = rw (add-one m) (take-suc-set out m q h)
 
-pub flush-none : (z : Layout) (a : Memory) → a .st .buf ≡ bufferOf [] → flushed z a ≡ a
+pub flush-none : (z : Offsets) (a : Memory) → a .st .buf ≡ bufferOf [] → flushed z a ≡ a
 unfolding flushed bufferOf
 flush-none z a e = rw e
 
-pub flush-some : (z : Layout) (a : Memory) (r : Rec) (rs : List Rec) → a .st .buf ≡ bufferOf (r ∷ rs) → flushed z a ≡ writtenAt z a (nextFree z a)
+pub flush-some : (z : Offsets) (a : Memory) (r : Rec) (rs : List Rec) → a .st .buf ≡ bufferOf (r ∷ rs) → flushed z a ≡ writtenAt z a (nextFree z a)
 unfolding flushed bufferOf
 flush-some z a r rs e = rw (ne-eqb (a .st .buf .n) 0 (λ g. omega (arith, ap (λ (b : Buffer). b .n) e)))
 
-pub written-holds : (z : Layout) (d : Flash) (r : Rec) (rs : List Rec) (done : Level) (a : Memory) → Fit z a → a .st .buf ≡ bufferOf (r ∷ rs) → layDone z d done ≡ flashOf a
+pub written-holds : (z : Offsets) (d : Flash) (r : Rec) (rs : List Rec) (done : Level) (a : Memory) → Fit z a → a .st .buf ≡ bufferOf (r ∷ rs) → layDone z d done ≡ flashOf a
     → Holds z d (record { buffer = []; done = new (r ∷ rs) ∷ done }) (writtenAt z a (nextFree z a))
 unfolding layDone lay bufferOf markWord
 written-holds z d r rs done a f e h =
@@ -86,7 +86,7 @@ written-holds z d r rs done a f e h =
           ∙ written-count z (a .words) (nextFree z a) (a .st .buf) (f .sized) (free-low (z .p) (z .p) (a .used) (a .st .cursor) (f .cursor)) ∙ ap (λ (b : Buffer). b .n) e;
     }
 
-pub flush-holds : (z : Layout) (d : Flash) (o : Out) (a : Memory) → Fit z a → Holds z d o a → Holds z d (record { buffer = []; done = flush (o .buffer) (o .done) }) (flushed z a)
+pub flush-holds : (z : Offsets) (d : Flash) (o : Out) (a : Memory) → Fit z a → Holds z d o a → Holds z d (record { buffer = []; done = flush (o .buffer) (o .done) }) (flushed z a)
 flush-holds z d o a f h = go (o .buffer) (h .buf)
   where
     go : (buf : List Rec) → a .st .buf ≡ bufferOf buf → Holds z d (record { buffer = []; done = flush buf (o .done) }) (flushed z a)
@@ -94,7 +94,7 @@ flush-holds z d o a f h = go (o .buffer) (h .buf)
     go (r ∷ rs) e = rw (flush-some z a r rs e) (written-holds z d r rs (o .done) a f e (h .flash))
 
 -- a block that has a place follows
-pub append-holds : (z : Layout) (d : Flash) (b : Block) (q : ℕ) (done : Level) (a : Memory) → a .st .m < length (a .out) → b .place ≡ some q → countAt z (a .words) q ≡ size b
+pub append-holds : (z : Offsets) (d : Flash) (b : Block) (q : ℕ) (done : Level) (a : Memory) → a .st .m < length (a .out) → b .place ≡ some q → countAt z (a .words) q ≡ size b
     → Holds z d (record { buffer = []; done = done }) a → Holds z d (record { buffer = []; done = b ∷ done }) (append a q)
 unfolding layDone lay
 append-holds z d b q done a l p n h =
@@ -116,7 +116,7 @@ pub full-test : (B : ℕ) (buf : Buffer) (rs : List Rec) → buf ≡ bufferOf rs
 unfolding bufferOf
 full-test B buf rs e = rw (e, add-one (length rs))
 
-pub gather-holds : (z : Layout) (bottom : Bool) (d : Flash) (o : Out) (a : Memory) (h : Head) → Fit z a → length (o .buffer) < 16 → h .tombstone < 2 → Holds z d o a
+pub gather-holds : (z : Offsets) (bottom : Bool) (d : Flash) (o : Out) (a : Memory) (h : Head) → Fit z a → length (o .buffer) < 16 → h .tombstone < 2 → Holds z d o a
     → Holds z d (gather (z .b) bottom (record { key = h .key; tombstone = eqb (h .tombstone) 1; pay = h .pay }) o) (gathered z bottom a h)
 unfolding gathered bufferOf
 gather-holds z bottom d o a h f l k s = go (bottom && eqb (h .tombstone) 1) (leb (z .b) (suc (length (o .buffer)))) refl

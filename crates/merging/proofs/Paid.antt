@@ -2,7 +2,7 @@
 use Prim.Native.Nat.{ℕ, zero, suc, _+_, _-_, _*_, _≤_, _<_}
 use mathlib.Core.Path.{_≡_, sym, ap, refl}
 use mathlib.Core.Bool.{Bool, true, false, not, _&&_, _||_, true≢false}
-use mathlib.Core.List.{List, []}
+use mathlib.Core.List.{List}
 use native.Mathlib.Decide.{ℕ-discrete}
 use native.Mathlib.Nat.{mul-le-mul-left}
 use native.Mathlib.Omega.{arith}
@@ -11,8 +11,8 @@ use lib.ListN.{getD, set}
 use lib.Seq.{getD-set-other}
 use borrow.Author.Tests.{leb-true, eqb-true}
 use Rattle.levels.specs.Basics.{if_then_else_}
-use Rattle.words.specs.Layout.{bit}
-use Rattle.blocks.specs.declared.Layout.{Layout}
+use Rattle.words.specs.Stores.{bit}
+use Rattle.blocks.specs.declared.Offsets.{Offsets}
 use Rattle.blocks.specs.Blocks.{SomeFree, pushed}
 use Rattle.sides.specs.declared.Chunk.{Chunk}
 use Rattle.sides.specs.declared.Head.{Head}
@@ -55,14 +55,14 @@ count-free (suc n) used h = go (getD used n false) refl (λ l. count-free n used
         record { at = s .at; low = (let l = s .low in omega arith); free = s .free }
 
 -- what is listed and what is written from a to b, with the buffer; the two sides stand still
-pub record Spent (z : Layout) (a b : Memory) (k l : ℕ) : Type 0 where
+pub record Spent (z : Offsets) (a b : Memory) (k l : ℕ) : Type 0 where
   pub list : z .b * b .st .m + b .st .buf .n ≤ z .b * a .st .m + a .st .buf .n + k
   pub places : z .b * b .st .writes + b .st .buf .n ≤ z .b * a .st .writes + a .st .buf .n + l
   pub marks : countMarks (z .p) (b .used) + a .st .writes ≤ countMarks (z .p) (a .used) + b .st .writes
   pub x : b .st .x ≡ a .st .x
   pub y : b .st .y ≡ a .st .y
 
-module _ (z : Layout) (a : Memory) where
+module _ (z : Offsets) (a : Memory) where
   flush-spent : Spent z a (flushed z a) (z .b) (z .b)
   unfolding flushed
   flush-spent =
@@ -106,13 +106,13 @@ onList b r = if r then 2 * b else 1
 abbrev onPlaces : ℕ → Bool → ℕ
 onPlaces b r = if r then b else 1
 
-emit-spent : (z : Layout) (a : Memory) (bottom : Bool) (x y : Point) (h : Head) (r : Bool) → Spent z (moved a x y) (emitted z bottom a (record { x = x; y = y; head = h; whole = r })) (onList (z .b) r) (onPlaces (z .b) r)
+emit-spent : (z : Offsets) (a : Memory) (bottom : Bool) (x y : Point) (h : Head) (r : Bool) → Spent z (moved a x y) (emitted z bottom a (record { x = x; y = y; head = h; whole = r })) (onList (z .b) r) (onPlaces (z .b) r)
 unfolding emitted
 emit-spent z a bottom x y h true = reuse-spent z (moved a x y) (h .place)
 emit-spent z a bottom x y h false = gather-spent z (moved a x y) bottom h
 
 -- what has been paid for since memory s
-pub record Paid (z : Layout) (t : Inputs) (s a : Memory) : Type 0 where
+pub record Paid (z : Offsets) (t : Inputs) (s a : Memory) : Type 0 where
   pub x-end : z .b * a .st .x .i + a .st .x .j ≤ z .b * t .x
   pub y-end : z .b * a .st .y .i + a .st .y .j ≤ z .b * t .y
   pub list : z .b * a .st .m + a .st .buf .n + 2 * (z .b * s .st .x .i + z .b * s .st .y .i) ≤ z .b * s .st .m + 2 * (z .b * a .st .x .i + z .b * a .st .y .i) + (a .st .x .j + a .st .y .j)
@@ -139,7 +139,7 @@ module _ (b end : ℕ) (p : Point) where
       after-one (λ (q : Point). Far b end p q 1 1) p n (λ g. record { list = omega arith; places = omega arith; end-high = omega arith }) (λ g. record { list = omega arith; places = omega arith; end-high = omega arith })
 
 -- a block that is reused has not been begun
-follows-start : (z : Layout) (bottom : Bool) (ws : List ℕ) (c : Chunk) (j : ℕ) (o : Head) (n e : ℕ) → follows z bottom ws (headAt ws c j) o n e ≡ true → j ≡ 0
+follows-start : (z : Offsets) (bottom : Bool) (ws : List ℕ) (c : Chunk) (j : ℕ) (o : Head) (n e : ℕ) → follows z bottom ws (headAt ws c j) o n e ≡ true → j ≡ 0
 unfolding follows wholeBelow
 follows-start z bottom ws c j o n e f = eqb-true j 0 (and-right (c .listed) (eqb j 0) (go (eqb n 0) f))
   where
@@ -150,7 +150,7 @@ follows-start z bottom ws c j o n e f = eqb-true j 0 (and-right (c .listed) (eqb
     go true f = and-left (h .whole) _ (and-left _ _ f)
     go false f = and-left (h .whole) _ (and-left _ _ f)
 
-module _ (z : Layout) (t : Inputs) (s a : Memory) (p : Paid z t s a) where
+module _ (z : Offsets) (t : Inputs) (s a : Memory) (p : Paid z t s a) where
   -- a move of the sides to x and y pays for what is spent then
   paid-by : (x y : Point) (b : Memory) (k l kx lx ky ly : ℕ) → Far (z .b) (t .x) (a .st .x) x kx lx → Far (z .b) (t .y) (a .st .y) y ky ly → k ≤ kx + ky → l ≤ lx + ly → Spent z (moved a x y) b k l → Paid z t s b
   paid-by x y b k l kx lx ky ly fx fy hk hl q =

@@ -2,13 +2,13 @@
 use Prim.Native.Nat.{ℕ, zero, suc, _≤_, _<_}
 use mathlib.Core.Path.{_≡_, _∙_, refl}
 use mathlib.Core.Bool.{Bool, true, false}
-use mathlib.Core.List.{List, []}
+use mathlib.Core.List.{List}
 use native.Mathlib.Nat.{le-refl}
 use native.Mathlib.Omega.{arith}
 use lib.ListN.{getD}
 use Rattle.levels.specs.Basics.{if_then_else_, iterate}
 use Rattle.levels.specs.Merge.{Out, State, step}
-use Rattle.blocks.specs.declared.Layout.{Layout}
+use Rattle.blocks.specs.declared.Offsets.{Offsets}
 use Rattle.blocks.specs.Blocks.{Sized, bufferOf}
 use Rattle.sides.specs.Sides.{keysIn, chunkOf, Readable}
 use Rattle.sides.proofs.Laws.{chunk-inside}
@@ -31,17 +31,17 @@ iterate-end zero f a = refl
 iterate-end (suc n) f a = iterate-end n f (f a)
 
 -- the keys of a chunk that stands rise, as a search reads them
-chunk-rises : (z : Layout) (pages : Bool) (ws : List ℕ) (used : List Bool) (list : List ℕ) (i : ℕ) → Sized z ws → i < 4096 → Stands z pages ws used list i → numbers.Rising 0 (keysIn ws (chunkOf z pages ws list i))
+chunk-rises : (z : Offsets) (pages : Bool) (ws : List ℕ) (used : List Bool) (list : List ℕ) (i : ℕ) → Sized z ws → i < 4096 → Stands z pages ws used list i → numbers.Rising 0 (keysIn ws (chunkOf z pages ws list i))
 chunk-rises z pages ws used list i s h k =
     let c = chunkOf z pages ws list i in
     let n = chunk-inside z pages ws list i (record { sized = s; low = h; place = k .place; page = k .page }) (k .formed .high) in
     rw (← keys-slots ws (getD ws (c .marks) 0) (c .keys) (c .pays) (c .n) (n .1), chunk-slots ws c (c .n)) (keys-rise 0 (recsFrom ws c 0 (c .n)) (k .formed .rises))
 
-side-readable : {z : Layout} {pages : Bool} {ws : List ℕ} {used : List Bool} {list : List ℕ} {end : ℕ} {p : Point} → Sized z ws → end ≤ 4096 → SideAt z pages ws used list end p → Readable z pages ws list (p .i) (p .j) end
+side-readable : {z : Offsets} {pages : Bool} {ws : List ℕ} {used : List Bool} {list : List ℕ} {end : ℕ} {p : Point} → Sized z ws → end ≤ 4096 → SideAt z pages ws used list end p → Readable z pages ws list (p .i) (p .j) end
 side-readable {z = z} {pages = pages} {ws = ws} {used = used} {list = list} {p = p} s h k =
     record { sized = s; end-high = h; place = λ g. k .stands (p .i) (le-refl (p .i)) g .place; page = λ g. k .stands (p .i) (le-refl (p .i)) g .page; inside = k .inside; count = λ g. k .stands (p .i) (le-refl (p .i)) g .formed .high; rises = λ g. chunk-rises z pages ws used list (p .i) s (omega arith) (k .stands (p .i) (le-refl (p .i)) g) }
 
-module _ (z : Layout) (t : Inputs) (xs ys : List ℕ) (d : Flash) where
+module _ (z : Offsets) (t : Inputs) (xs ys : List ℕ) (d : Flash) where
   -- the code's `requires` follow
   pub ready-of : (o : Out) (a : Memory) → t .x ≤ 4096 → t .y ≤ 4096 → Core z t xs ys o a → Budget z a → Holds z d o a → Ready z t xs ys a
   unfolding bufferOf
@@ -81,7 +81,7 @@ module _ (z : Layout) (t : Inputs) (xs ys : List ℕ) (d : Flash) where
           (ih .1 .upper ∙ side-none z (t .pages) (r .words) xs (r .st .x .i) (r .st .x .j) (t .x) (h .0))
           (ih .1 .lower ∙ side-none z false (r .words) ys (r .st .y .i) (r .st .y .j) (t .y) (h .1))) ih
 
-module _ (z : Layout) (t : Inputs) (xs ys : List ℕ) (n : ℕ) (a : Memory) (b : Begun z t xs ys n a) where
+module _ (z : Offsets) (t : Inputs) (xs ys : List ℕ) (n : ℕ) (a : Memory) (b : Begun z t xs ys n a) where
   -- a merge that has begun goes on as the stream on blocks
   pub begun-turns : (i : ℕ) → i ≤ n
       → Both z t xs ys (start a) (iterate i (step (z .b) (t .bottom)) (first z t xs ys a)) (turns z t xs ys i a)

@@ -14,7 +14,7 @@ use borrow.Author.Tests.{le-leb, lt-leb, leb-true, eqb-true, eqb-false, ltb-true
 use Rattle.levels.specs.Basics.{if_then_else_}
 use Rattle.levels.specs.Record.{Rec, Block, Level, new, size, placed}
 use Rattle.levels.specs.Merge.{Out, State, headRec, reusable, flush, rest, reuse, gather, fromUpper, fromLower, fromBoth, step}
-use Rattle.blocks.specs.declared.Layout.{Layout}
+use Rattle.blocks.specs.declared.Offsets.{Offsets}
 use Rattle.blocks.specs.Blocks.{bufferOf, pushed}
 use Rattle.blocks.proofs.Laws.{free-found}
 use Rattle.sides.specs.declared.Chunk.{Chunk}
@@ -36,7 +36,7 @@ use Rattle.merging.proofs.Frame.{Kept, flush-kept, append-kept, gather-
 use Rattle.merging.proofs.Steps.{past, put, from-upper, from-lower, placed-of, gather-few}
 
 -- the same world, at another place of the sides
-moved-holds : (z : Layout) (d : Flash) (o : Out) (a : Memory) (x y : Point) → Holds z d o a → Holds z d o (moved a x y)
+moved-holds : (z : Offsets) (d : Flash) (o : Out) (a : Memory) (x y : Point) → Holds z d o a → Holds z d o (moved a x y)
 moved-holds z d o a x y h = record { buf = h .buf; flash = h .flash; last = h .last }
 
 -- the side that comes first, in both readings
@@ -52,30 +52,30 @@ three P fx fy kx ky ex ey sl su sb wl wu wb pl pu pb = rw (ex, ey) (go (ltb fy f
     go false false false p q r = absurd (omega (arith, eqb-false fy fx q, ltb-false fx fy r, ltb-false fy fx p))
 
 -- what a side reads at a record, and at its end
-pub head-at : (z : Layout) (pages : Bool) (ws list : List ℕ) (i j end : ℕ) → i < end → headOf z pages ws list i j end ≡ headAt ws (chunkOf z pages ws list i) j
+pub head-at : (z : Offsets) (pages : Bool) (ws list : List ℕ) (i j end : ℕ) → i < end → headOf z pages ws list i j end ≡ headAt ws (chunkOf z pages ws list i) j
 unfolding headOf
 head-at z pages ws list i j end h = rw (lt-leb end i h)
 
-pub head-no : (z : Layout) (pages : Bool) (ws list : List ℕ) (i j end : ℕ) → end ≤ i → headOf z pages ws list i j end ≡ noHead
+pub head-no : (z : Offsets) (pages : Bool) (ws list : List ℕ) (i j end : ℕ) → end ≤ i → headOf z pages ws list i j end ≡ noHead
 unfolding headOf
 head-no z pages ws list i j end h = rw (le-leb end i h)
 
 -- block b stands at place q, which is in use
-record Placed (z : Layout) (ws : List ℕ) (used : List Bool) (q : ℕ) (b : Block) : Type 0 where
+record Placed (z : Offsets) (ws : List ℕ) (used : List Bool) (q : ℕ) (b : Block) : Type 0 where
   low : q < z .p
   taken : getD used q false ≡ true
   high : countAt z ws q ≤ z .b
   is : b ≡ storedAt z ws q
 
 -- a listed chunk that stands is such a block
-listed-placed : (z : Layout) (pages : Bool) (ws : List ℕ) (used : List Bool) (list : List ℕ) (k : ℕ) → Stands z pages ws used list k → chunkOf z pages ws list k .listed ≡ true
+listed-placed : (z : Offsets) (pages : Bool) (ws : List ℕ) (used : List Bool) (list : List ℕ) (k : ℕ) → Stands z pages ws used list k → chunkOf z pages ws list k .listed ≡ true
     → Placed z ws used (chunkOf z pages ws list k .place) (blockOf ws (chunkOf z pages ws list k))
 unfolding chunkOf
 listed-placed z true ws used list k s e = absurd (true≢false (sym e))
 listed-placed z false ws used list k s e = record { low = s .place refl; taken = s .taken refl; high = s .formed .high; is = refl }
 
 -- a side at a record: what it reads, the block there as far as it is left, and the blocks behind it
-module _ {z : Layout} {pages : Bool} {ws : List ℕ} {used : List Bool} {list : List ℕ} {end : ℕ} {p : Point} (k : SideAt z pages ws used list end p) (g : p .i < end) where
+module _ {z : Offsets} {pages : Bool} {ws : List ℕ} {used : List Bool} {list : List ℕ} {end : ℕ} {p : Point} (k : SideAt z pages ws used list end p) (g : p .i < end) where
   abbrev chunk : Chunk
   chunk = chunkOf z pages ws list (p .i)
 
@@ -119,7 +119,7 @@ module _ {z : Layout} {pages : Bool} {ws : List ℕ} {used : List Bool} {list : 
       (λ h. rest-last ws chunk (p .j) behind (omega (arith, k .inside g)))
       (λ h. rest-more ws chunk (p .j) behind (omega arith) ∙ rw (add-one (p .j)) (sym (side-cons z pages ws list (p .i) (suc (p .j)) end g)))
 
-gather-tail : (z : Layout) (bottom : Bool) (o : Out) (a : Memory) (h : Head) → a .st .buf ≡ bufferOf (o .buffer) → LastIs z (a .words) (a .out) (a .st .m) (o .done)
+gather-tail : (z : Offsets) (bottom : Bool) (o : Out) (a : Memory) (h : Head) → a .st .buf ≡ bufferOf (o .buffer) → LastIs z (a .words) (a .out) (a .st .m) (o .done)
     → LastIs z (gathered z bottom a h .words) (gathered z bottom a h .out) (gathered z bottom a h .st .m) (gather (z .b) bottom (record { key = h .key; tombstone = eqb (h .tombstone) 1; pay = h .pay }) o .done)
 unfolding gathered
 gather-tail z bottom o a h n l = go (bottom && eqb (h .tombstone) 1) (leb (z .b) (suc (length (o .buffer)))) refl
@@ -140,7 +140,7 @@ gather-tail z bottom o a h n l = go (bottom && eqb (h .tombstone) 1) (leb (z .b)
     go false true e = λ k. absurd (omega (arith, leb-true (z .b) (suc (length (o .buffer))) e, length-append (o .buffer) (r ∷ []), k))
     go false false e = rw (full-test (z .b) (a .st .buf) (o .buffer) n, e) l
 
-module _ (z : Layout) (t : Inputs) (xs ys : List ℕ) (d : Flash) where
+module _ (z : Offsets) (t : Inputs) (xs ys : List ℕ) (d : Flash) where
   -- a state and the memory that stands for it
   abbrev pub Both : State → Memory → Type 0
   Both s a = Core z t xs ys (s .out) a × Sim z t xs ys d s a

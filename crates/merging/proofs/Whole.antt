@@ -2,13 +2,13 @@
 use Prim.Native.Nat.{ℕ, zero, suc, _+_, _-_, _≤_, _<_}
 use mathlib.Core.Path.{_≡_, _∙_, refl}
 use mathlib.Core.Bool.{Bool, true, false}
-use mathlib.Core.List.{List, []}
+use mathlib.Core.List.{List}
 use native.Mathlib.Nat.{le-refl}
 use native.Mathlib.Omega.{arith}
 use lib.ListN.{getD}
 use Rattle.levels.specs.Basics.{iterate}
 use Rattle.levels.specs.Merge.{Out, step, joinLeft, join}
-use Rattle.blocks.specs.declared.Layout.{Layout}
+use Rattle.blocks.specs.declared.Offsets.{Offsets}
 use Rattle.blocks.specs.Blocks.{Free}
 use Rattle.blocks.proofs.Laws.{free-found}
 use Rattle.stream.specs.declared.Move.{Move}
@@ -25,11 +25,11 @@ use Rattle.merging.proofs.Frame.{Same, same-from, flush-kept, gather-ke
 use Rattle.merging.proofs.Run.{begun-turns}
 use Rattle.merging.proofs.Close.{close-laid}
 
-pub same-next : (z : Layout) (a b c : Memory) → Same z a b → Same z b c → Same z a c
+pub same-next : (z : Offsets) (a b c : Memory) → Same z a b → Same z b c → Same z a c
 same-next z a b c k l =
     record { words = λ q u j h. l .words q (k .used q u) j h ∙ k .words q u j h; low = λ i h. l .low i h ∙ k .low i h; used = λ q u. l .used q (k .used q u) }
 
-emit-same : (z : Layout) (bottom : Bool) (a : Memory) (c : Move) → Free (a .used) (nextFree z a) → Same z a (emitted z bottom a c)
+emit-same : (z : Offsets) (bottom : Bool) (a : Memory) (c : Move) → Free (a .used) (nextFree z a) → Same z a (emitted z bottom a c)
 unfolding emitted reused
 emit-same z bottom a c f =
     let b : Memory = moved a (c .x) (c .y) in
@@ -37,7 +37,7 @@ emit-same z bottom a c f =
     if-either (Same z a) (c .whole) (reused z b (c .head .place)) (gathered z bottom b (c .head)) (record { words = k .words; low = k .low; used = k .used })
     (same-from z a (gathered z bottom b (c .head)) (movedTo (a .st) (c .x) (c .y)) (gather-kept z bottom b (c .head) f .same))
 
-module _ (z : Layout) (t : Inputs) (xs ys : List ℕ) where
+module _ (z : Offsets) (t : Inputs) (xs ys : List ℕ) where
   turn-same : (a : Memory) → Free (a .used) (nextFree z a) → Same z a (turn z t xs ys a)
   unfolding turn
   turn-same a f = emit-same z (t .bottom) a _ f
@@ -50,12 +50,12 @@ module _ (z : Layout) (t : Inputs) (xs ys : List ℕ) where
       let k = turns-same n a (λ i h. g i (omega arith)) in
       if-either (Same z a) (idle z t xs ys r) r (turn z t xs ys r) k (same-next z a r (turn z t xs ys r) k (turn-same r (g n (omega arith))))
 
-formed-at : (z : Layout) (a : Memory) (ys : List ℕ) {k : ℕ} → Stands z false (a .words) (a .used) ys k → Formed z (a .words) (blockChunk z (a .words) (getD ys k 0))
+formed-at : (z : Offsets) (a : Memory) (ys : List ℕ) {k : ℕ} → Stands z false (a .words) (a .used) ys k → Formed z (a .words) (blockChunk z (a .words) (getD ys k 0))
 unfolding chunkOf
 formed-at z a ys s = s .formed
 
 -- the whole merge, from the store at its start
-module _ (z : Layout) (t : Inputs) (xs ys : List ℕ) (n end : ℕ) (a : Memory) (b : Begun z t xs ys n a) (all : Listed z false a ys (t .y) end) (le : t .y ≤ end)
+module _ (z : Offsets) (t : Inputs) (xs ys : List ℕ) (n end : ℕ) (a : Memory) (b : Begun z t xs ys n a) (all : Listed z false a ys (t .y) end) (le : t .y ≤ end)
     (ended : idle z t xs ys (turns z t xs ys n a) ≡ true) (room : turns z t xs ys n a .st .m + 1 + (end - t .y) ≤ 4096) where
   abbrev made : Out
   made = iterate n (step (z .b) (t .bottom)) (relation.first z t xs ys a) .out

@@ -8,7 +8,7 @@ use native.Mathlib.Omega.{arith}
 use lib.Arith.{digits-lt}
 use lib.ListN.{length, getD, set, take, length-append, length-take}
 use lib.Seq.{getD-set-same, getD-set-other, sets, length-sets}
-use Rattle.blocks.specs.declared.Layout.{Layout}
+use Rattle.blocks.specs.declared.Offsets.{Offsets}
 use Rattle.blocks.specs.declared.Buffer.{Buffer}
 use Rattle.blocks.specs.Blocks.{Sized, startOf, written}
 use Rattle.blocks.proofs.Laws.{in-store}
@@ -23,15 +23,15 @@ sets-out xs a (y ∷ ys) k h =
     ∙ getD-set-other xs a k y 0 (λ e. let g = h (omega arith) in omega arith)
 
 -- a store of the same length has the same layout
-pub sized-on : (z : Layout) (xs ys : List ℕ) → Sized z xs → length ys ≡ length xs → Sized z ys
+pub sized-on : (z : Offsets) (xs ys : List ℕ) → Sized z xs → length ys ≡ length xs → Sized z ys
 sized-on z xs ys s e =
     record { b-low = s .b-low; b-high = s .b-high; places = s .places; base-high = s .base-high; marks-end = s .marks-end; keys-end = s .keys-end; pays-end = s .pays-end; words = e ∙ s .words }
 
-pub written-length : (z : Layout) (xs : List ℕ) (q : ℕ) (buf : Buffer) → length (written z xs q buf) ≡ length xs
+pub written-length : (z : Offsets) (xs : List ℕ) (q : ℕ) (buf : Buffer) → length (written z xs q buf) ≡ length xs
 unfolding written
 written-length z xs q buf = length-sets xs (startOf z q) (buf .n ∷ buf .marks ∷ (take (z .b) (buf .keys) ++ take (z .b) (buf .pays)))
 
-module _ (z : Layout) (xs : List ℕ) (q : ℕ) (buf : Buffer) where
+module _ (z : Offsets) (xs : List ℕ) (q : ℕ) (buf : Buffer) where
   -- a word that is not of place q
   pub written-out : (k : ℕ) → (startOf z q ≤ k → startOf z q + (2 + 2 * z .b) ≤ k) → getD (written z xs q buf) k 0 ≡ getD xs k 0
   unfolding written
@@ -49,7 +49,7 @@ module _ (z : Layout) (xs : List ℕ) (q : ℕ) (buf : Buffer) where
         ∙ getD-set-same xs (startOf z q) (buf .n) 0 (omega (arith, in-store z xs s q 0 h (omega arith)))
 
 -- the words of another place
-pub written-other : (z : Layout) (xs : List ℕ) (q : ℕ) (buf : Buffer) (p j : ℕ) → p ≢ q → j < 2 + 2 * z .b → getD (written z xs q buf) (startOf z p + j) 0 ≡ getD xs (startOf z p + j) 0
+pub written-other : (z : Offsets) (xs : List ℕ) (q : ℕ) (buf : Buffer) (p j : ℕ) → p ≢ q → j < 2 + 2 * z .b → getD (written z xs q buf) (startOf z p + j) 0 ≡ getD xs (startOf z p + j) 0
 unfolding startOf
 written-other z xs q buf p j n l = written-out z xs q buf (startOf z p + j) (apart (decLt p q))
   where
@@ -58,7 +58,7 @@ written-other z xs q buf p j n l = written-out z xs q buf (startOf z p + j) (apa
     apart (no m) g = let d = digits-lt {q = q} {m = p} {r = 1 + 2 * z .b} {c = 2 + 2 * z .b} (omega arith) (omega arith) in omega arith
 
 -- the words before the places
-pub written-low : (z : Layout) (xs : List ℕ) (q : ℕ) (buf : Buffer) (k : ℕ) → k < z .base → getD (written z xs q buf) k 0 ≡ getD xs k 0
+pub written-low : (z : Offsets) (xs : List ℕ) (q : ℕ) (buf : Buffer) (k : ℕ) → k < z .base → getD (written z xs q buf) k 0 ≡ getD xs k 0
 unfolding startOf
 written-low z xs q buf k h = written-out z xs q buf k (λ l. absurd (omega arith))
 

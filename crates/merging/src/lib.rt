@@ -6,8 +6,9 @@ ghost use Rattle.levels.specs.Place.{Allocation, settle};
 ghost use Rattle.blocks.specs.Blocks.{Marks};
 ghost use Rattle.geometry.specs.Room.{listRoom};
 ghost use Rattle.merging.specs.Contract.{mergeOf, Mergeable, Leaves, inputsOf, beginOf, limitOf};
-use blocks::Layout;
+use blocks::Offsets;
 use geometry::Geometry;
+use layout::Layout;
 use stream::Inputs;
 use stream::Point;
 use stream::Progress;
@@ -82,15 +83,15 @@ pub fn merge_blocks(
     out: &mut [u32; Geometry::LIST_ROOM],
     xs: &[u32; Geometry::LIST_ROOM],
     ys: &[u32; Geometry::LIST_ROOM],
-    g: Geometry,
+    z: Layout,
     parts: Cut,
     cursor: usize,
 ) -> Merged
-    requires { ⌜ Mergeable g (now s) (now used) (now out) (now xs) (now ys) parts cursor ⌝ }
+    requires { ⌜ Mergeable z (now s) (now used) (now out) (now xs) (now ys) parts cursor ⌝ }
     ensures { λ r. ⌜ ((a : Allocation) → a .cursor ≡ cursor → Marks (now (used .entry)) (a .used)
-        → Leaves g (settle (g .p) a (mergeOf g (now (s .entry)) (now (xs .entry)) (now (ys .entry)) parts)) (now (s .entry)) (now (s .exit)) (now (used .exit)) (now (out .exit)) r) ⌝ }
+        → Leaves z (settle (z .geo .p) a (mergeOf z (now (s .entry)) (now (xs .entry)) (now (ys .entry)) parts)) (now (s .entry)) (now (s .exit)) (now (used .exit)) (now (out .exit)) r) ⌝ }
 {
-    let z = Layout::of(g);
+    let o = Offsets::of(z);
     let t = parts.inputs();
     let start = parts.start;
     let y = parts.y;
@@ -98,8 +99,8 @@ pub fn merge_blocks(
     let st = parts.begin(cursor);
     let limit = parts.limit();
     joins::copy_entries(out, ys, 0, start, y);
-    let v = stream::stream(s, used, out, xs, ys, z, t, st, limit);
-    let r = joins::close(s, used, out, ys, z, v, end);
+    let v = stream::stream(s, used, out, xs, ys, o, t, st, limit);
+    let r = joins::close(s, used, out, ys, o, v, end);
     Merged {
         count: r.m,
         cursor: r.cursor,

@@ -6,7 +6,8 @@ use mathlib.Core.List.{List}
 use native.Mathlib.Omega.{arith}
 use Rattle.geometry.specs.declared.Geometry.{Geometry}
 use Rattle.geometry.specs.declared.Built.the-variants.{Legal, Broken}
-use Rattle.geometry.specs.Geometry.{isLegal, builtOf, storeLength}
+use Rattle.geometry.specs.Geometry.{isLegal, builtOf}
+use Rattle.layout.specs.Layouts.{old}
 use Rattle.geometry.proofs.Laws.{built-valid, built-broken, valid-legal}
 use Rattle.words.specs.Calls.{Outcome, FormatAnswer, StretchAnswer, StretchOutcome, ChangeAnswer}
 use Rattle.steps.specs.Running.{numbersOf}
@@ -29,12 +30,12 @@ pub words-broken : (g : Geometry) → builtOf g ≡ Broken → 0 ≡ wordsOf g
 unfolding wordsOf
 words-broken g e = rw (built-broken g e, wordsOf)
 
-pub words-legal : (g t : Geometry) → builtOf g ≡ Legal t → storeLength t ≡ wordsOf g
+pub words-legal : (g t : Geometry) → builtOf g ≡ Legal t → old t .length ≡ wordsOf g
 unfolding wordsOf
 words-legal g t e =
     let k = built-valid g t e in
     let u : isLegal g ≡ true = ap isLegal (k .0) ∙ valid-legal t (k .1) in
-    rw (u, wordsOf) (ap storeLength (sym (k .0)))
+    rw (u, wordsOf) (ap (λ (x : Geometry). old x .length) (sym (k .0)))
 
 -- each count is no more than the sum over the levels
 module _ (c : changed.Changed) (d : Change) (e : c ≡ Done d) (h : SumsFit (changedAnswer c)) where

@@ -4,9 +4,10 @@ use mathlib.Core.Path.{_≡_}
 use mathlib.Core.Bool.{true, false}
 use mathlib.Core.List.{List}
 use Rattle.geometry.specs.declared.Geometry.{Geometry}
-use Rattle.geometry.specs.Geometry.{isLegal, storeLength}
+use Rattle.geometry.specs.Geometry.{isLegal}
+use Rattle.layout.specs.Layouts.{old}
 use Rattle.levels.specs.Count as levels
-use Rattle.words.specs.Layout.{bit}
+use Rattle.words.specs.Stores.{bit}
 use Rattle.words.specs.Calls.{Outcome, FormatAnswer, LookAnswer, NextAnswer, StretchAnswer, StretchOutcome, AboutAnswer, ChangeAnswer, ForecastAnswer, putOf, deleteOf, willPutMergeOf, willDeleteMergeOf}
 use Rattle.writer.specs.declared.Changed as changed
 use Rattle.writer.specs.Answers.{changedAnswer}
@@ -24,7 +25,7 @@ use Rattle.mewilovang.specs.declared.Changed.{Changed}
 
 -- "Layout of the lent store": the words that it takes; a geometry that breaks a limit has none
 unfoldable pub wordsOf : Geometry → ℕ
-wordsOf g = elim (isLegal g) [ true ↦ storeLength g | false ↦ 0 ]
+wordsOf g = elim (isLegal g) [ true ↦ old g .length | false ↦ 0 ]
 
 -- "Format .. answers N."
 abbrev pub formattedReply : FormatAnswer → Formatted

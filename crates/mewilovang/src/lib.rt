@@ -14,6 +14,7 @@ ghost use Rattle.mewilovang.specs.declared.Stretched.{Stretched};
 ghost use Rattle.mewilovang.specs.Answers.{wordsOf, formattedReply, formattedOutcome, lookedReply, nextedReply, stretchedReply, stretchedOutcome, partReply, toldReply, forecastReply, CountsFit, countsReply, changedReply, PutReplied, DeleteReplied};
 use geometry::Built;
 use geometry::Geometry;
+use layout::Layout;
 use levels::Ticket;
 
 // The reason that the call is turned down for, or 0, and N.
@@ -284,7 +285,8 @@ pub extern "C" fn mewilovang_words(b: u32, w: u32, d: u32, g: u32, h: u32, p: u3
     let Built::Legal(t) = Geometry::new(b, w, d, g, h, p) else {
         return 0;
     };
-    t.store_length()
+    let z = Layout::old(t);
+    z.length
 }
 
 #[no_mangle]

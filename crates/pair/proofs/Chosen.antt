@@ -6,11 +6,10 @@ use native.Mathlib.Nat.{le-refl}
 use native.Mathlib.Omega.{arith}
 use lib.ListN.{length, take, drop, length-map}
 use lib.Seq.{take-length}
-use Rattle.geometry.specs.declared.Geometry.{Geometry}
 use Rattle.levels.specs.Record.{Level}
 use Rattle.levels.specs.Choose.{Least, choose, cutAt}
 use Rattle.levels.proofs.Cut.{cut-lengths}
-use Rattle.words.specs.Layout.{blockAt}
+use Rattle.words.specs.Stores.{blockAt}
 use Rattle.choice.specs.declared.Choice.{Choice}
 use Rattle.choice.specs.declared.Stretch.{Stretch}
 use Rattle.choice.specs.Fences.{Fenced, Ordered, fenceOf, fencesOf, chooseFences, choiceOf, stretchOf}
@@ -22,6 +21,7 @@ use Rattle.choice.proofs.Keys.{level-fenced}
 use Rattle.fences.proofs.Words.{listed-fences}
 use Rattle.pair.specs.declared.Picked.{Picked}
 use Rattle.pair.specs.Contract.{Chosen, Readables}
+use Rattle.layout.specs.declared.Layout.{Layout}
 
 -- what is found by fences is the choice by blocks
 pub picked : (firsts lasts starts ends : List ℕ) (a n w : ℕ) (c : Choice) → c ≡ choiceOf (chooseFences w (fencesOf firsts lasts a) (fencesOf starts ends n))
@@ -37,13 +37,13 @@ picked firsts lasts starts ends a n w c e above under ea eu =
     }
 
 -- lists of keys filled from the blocks of a place list
-module _ (g : Geometry) (ws list : List ℕ) (k : Readables g ws list) (xs ys firsts lasts : List ℕ)
-    (e : firsts ≡ fill (λ i. listedFence g ws list i .first) (length list) xs) (d : lasts ≡ fill (λ i. listedFence g ws list i .last) (length list) ys) where
-  pub listed-are : fencesOf firsts lasts (length list) ≡ map fenceOf (map (blockAt g ws) list)
-  listed-are = rw take-length at (listed-fences g ws list (length list) xs ys firsts lasts e d (le-refl (length list)))
+module _ (z : Layout) (ws list : List ℕ) (k : Readables z ws list) (xs ys firsts lasts : List ℕ)
+    (e : firsts ≡ fill (λ i. listedFence z ws list i .first) (length list) xs) (d : lasts ≡ fill (λ i. listedFence z ws list i .last) (length list) ys) where
+  pub listed-are : fencesOf firsts lasts (length list) ≡ map fenceOf (map (blockAt z ws) list)
+  listed-are = rw take-length at (listed-fences z ws list (length list) xs ys firsts lasts e d (le-refl (length list)))
 
   pub listed-fenced : length list ≤ length firsts → length list ≤ length lasts → Fenced firsts lasts 0 (length list)
-  listed-fenced p q = level-fenced firsts lasts (length list) (map (blockAt g ws) list) p q listed-are (k .ordered)
+  listed-fenced p q = level-fenced firsts lasts (length list) (map (blockAt z ws) list) p q listed-are (k .ordered)
 
 -- What a chosen run has, of two levels in key order.
 module _ (w : ℕ) (above under : Level) (r : Picked) (k : Chosen w above under r) (oa : Ordered 0 (map fenceOf above)) (ou : Ordered 0 (map fenceOf under)) (p : 1 ≤ w) (h : w ≤ length above) where

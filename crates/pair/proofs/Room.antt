@@ -8,7 +8,7 @@ use lib.Dec.{eqb}
 use lib.ListN.{length}
 use borrow.Author.Tests.{ne-eqb, eqb-true}
 use Rattle.levels.specs.Basics.{member}
-use Rattle.words.specs.Layout.{bit}
+use Rattle.words.specs.Stores.{bit}
 use Rattle.blocks.specs.Blocks.{Marks}
 use Rattle.merging.specs.Contract.{countMarks}
 

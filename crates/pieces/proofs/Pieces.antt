@@ -6,7 +6,7 @@ use mathlib.Core.Logic.{_⊎_, inl, inr, dite}
 use native.Mathlib.Decide.{decLt}
 use native.Mathlib.Nat.{add-zero}
 use native.Mathlib.Omega.{arith}
-use lib.ListN.{length, getD, set, length-set}
+use lib.ListN.{length, getD, set, length-set, List·getD-eq-default}
 use lib.Seq.{sets, length-sets, getD-set-same, getD-set-other, set-getD, ext-getD}
 use Rattle.levels.specs.Every.{Every}
 use Rattle.slices.specs.Slices.{putAt}
@@ -133,6 +133,39 @@ laid-is (p ∷ ps) us ws l n e f = laid-is ps us (lay p ws) (rw lay-length l) (r
         dite (decLt i (p .at)) (λ y. f i h (inl (omega arith), o) ∙ sym (lay-beside p ws i (inl (omega arith))))
         (λ y. dite (decLt i (ending p)) (λ z. among i (omega arith) z) (λ z. f i h (inr (omega arith), o) ∙ sym (lay-beside p ws i (inr (omega arith)))))
 
+-- Laying goes word by word: what a word is afterwards hangs on no other word.
+sets-point : (vs xs ys : List ℕ) (a i : ℕ) → length xs ≡ length ys → getD xs i 0 ≡ getD ys i 0 → getD (sets xs a vs) i 0 ≡ getD (sets ys a vs) i 0
+sets-point [] xs ys a i l e = e
+sets-point (v ∷ vs) xs ys a i l e = sets-point vs (set xs a v) (set ys a v) (suc a) i (length-set xs a v ∙ l ∙ sym (length-set ys a v)) here
+  where
+    at : i ≡ a → getD (set xs a v) i 0 ≡ getD (set ys a v) i 0
+    at q =
+        dite (decLt i (length xs))
+        (λ y. rw q (getD-set-same xs a v 0 (omega arith) ∙ sym (getD-set-same ys a v 0 (omega arith))))
+        (λ y. List·getD-eq-default (set xs a v) 0 (rw length-set (omega arith)) ∙ sym (List·getD-eq-default (set ys a v) 0 (rw length-set (omega arith))))
+
+    here : getD (set xs a v) i 0 ≡ getD (set ys a v) i 0
+    here =
+        dite (decLt i a)
+        (λ y. getD-set-other xs a i v 0 (λ q. omega arith) ∙ e ∙ sym (getD-set-other ys a i v 0 (λ q. omega arith)))
+        (λ y. dite (decLt a i) (λ m. getD-set-other xs a i v 0 (λ q. omega arith) ∙ e ∙ sym (getD-set-other ys a i v 0 (λ q. omega arith))) (λ m. at (omega arith)))
+
+lay-point : (ps : List Piece) (xs ys : List ℕ) (i : ℕ) → length xs ≡ length ys → word xs i ≡ word ys i → word (layAll ps xs) i ≡ word (layAll ps ys) i
+unfolding layAll lay
+lay-point [] xs ys i l e = e
+lay-point (p ∷ ps) xs ys i l e = lay-point ps (lay p xs) (lay p ys) i (lay-length p xs ∙ l ∙ sym (lay-length p ys)) (sets-point (p .words) xs ys (p .at) i l e)
+
+-- pieces qs that lie beneath ps are gone, whatever was laid between
+pub lay-over : (ps rs qs : List Piece) (ws : List ℕ) → Within (length ws) ps → Apart ps → ((i : ℕ) → Every (Clear i 1) ps → Every (Clear i 1) qs) → layAll ps (layAll rs (layAll qs ws)) ≡ layAll ps (layAll rs ws)
+lay-over ps rs qs ws w a f =
+    let xs : List ℕ = layAll rs (layAll qs ws) in
+    let ys : List ℕ = layAll rs ws in
+    let lx : length xs ≡ length ws = lay-all-length rs (layAll qs ws) ∙ lay-all-length qs ws in
+    let ly : length ys ≡ length ws = lay-all-length rs ws in
+    sym
+    (laid-is ps (layAll ps xs) ys (lay-all-length ps xs ∙ lx ∙ sym ly) (rw ly w) (lay-all-here ps xs (rw lx w) a)
+    (λ i h o. lay-all-beside ps xs i o ∙ lay-point rs (layAll qs ws) ws i (lay-all-length qs ws) (lay-all-beside qs ws i (f i o))))
+
 -- A piece that stands already need not be laid, if the pieces laid before it do not meet it.
 pub lay-all-skip : (ps qs rs : List Piece) (ws : List ℕ) → Within (length ws) qs → Every (λ q. Every (Clear (q .at) (length (q .words))) ps) qs → Every (Held ws) qs → layAll (ps ++ (qs ++ rs)) ws ≡ layAll (ps ++ rs) ws
 lay-all-skip ps qs rs ws i o e =
@@ -179,16 +212,48 @@ lay-all-across ps (q ∷ qs) ws i j o = ap (layAll qs) (lay-across ps q ws i (j 
 
 -- Pieces in rising order do not meet.
 
-stacked-above : (ps : List Piece) (low a n : ℕ) → a + n ≤ low → Stacked low ps → Every (Clear a n) ps
-stacked-above [] low a n h s = tt
-stacked-above (p ∷ ps) low a n h s = (inl (omega (arith, s .0)), stacked-above ps (ending p) a n (omega (arith, s .0)) (s .1))
-
 pub stacked-clear : (ps : List Piece) (low a n : ℕ) → a + n ≤ low → Stacked low ps → Every (Clear a n) ps
-stacked-clear = stacked-above
+stacked-clear [] low a n h s = tt
+stacked-clear (p ∷ ps) low a n h s = (inl (omega (arith, s .0)), stacked-clear ps (ending p) a n (omega (arith, s .0)) (s .1))
 
 pub stacked-apart : (ps : List Piece) (low : ℕ) → Stacked low ps → Apart ps
 stacked-apart [] low s = tt
-stacked-apart (p ∷ ps) low s = (stacked-above ps (ending p) (p .at) (length (p .words)) (omega arith) (s .1), stacked-apart ps (ending p) (s .1))
+stacked-apart (p ∷ ps) low s = (stacked-clear ps (ending p) (p .at) (length (p .words)) (omega arith) (s .1), stacked-apart ps (ending p) (s .1))
+
+pub stacked-lower : (ps : List Piece) (low high : ℕ) → low ≤ high → Stacked high ps → Stacked low ps
+stacked-lower [] low high h s = tt
+stacked-lower (p ∷ ps) low high h s = (omega (arith, s .0), s .1)
+
+pub within-most : (ps : List Piece) (n m : ℕ) → n ≤ m → Within n ps → Within m ps
+within-most [] n m h i = tt
+within-most (p ∷ ps) n m h i = (omega (arith, i .0), within-most ps n m h (i .1))
+
+pub within-append : (ps qs : List Piece) (n : ℕ) → Within n ps → Within n qs → Within n (ps ++ qs)
+within-append [] qs n i j = j
+within-append (p ∷ ps) qs n i j = (i .0, within-append ps qs n (i .1) j)
+
+pub stacked-append : (ps qs : List Piece) (low high : ℕ) → low ≤ high → Stacked low ps → Within high ps → Stacked high qs → Stacked low (ps ++ qs)
+stacked-append [] qs low high h s i t = stacked-lower qs low high h t
+stacked-append (p ∷ ps) qs low high h s i t = (s .0, stacked-append ps qs (ending p) high (i .0) (s .1) (i .1) t)
+
+-- what lies before word a does not meet the words from a on, nor a piece there
+pub within-clear : (ps : List Piece) (a n : ℕ) → Within a ps → Every (Clear a n) ps
+within-clear [] a n i = tt
+within-clear (p ∷ ps) a n i = (inr (i .0), within-clear ps a n (i .1))
+
+pub within-under : (ps : List Piece) (m : ℕ) (q : Piece) → m ≤ q .at → Within m ps → Every (λ p. Clear (p .at) (length (p .words)) q) ps
+within-under [] m q h i = tt
+within-under (p ∷ ps) m q h i = (inl (omega (arith, i .0)), within-under ps m q h (i .1))
+
+-- pieces from word `low` on do not meet what ends before it
+pub stacked-behind : (ps qs : List Piece) (low : ℕ) → Within low ps → Stacked low qs → Every (λ q. Every (Clear (q .at) (length (q .words))) ps) qs
+stacked-behind ps [] low w s = tt
+stacked-behind ps (q ∷ qs) low w s =
+    (within-clear ps (q .at) (length (q .words)) (within-most ps low (q .at) (s .0) w), stacked-behind ps qs (ending q) (within-most ps low (ending q) (omega (arith, s .0)) w) (s .1))
+
+pub stacked-over : (ps : List Piece) (low : ℕ) (q : Piece) → ending q ≤ low → Stacked low ps → Every (λ p. Clear (p .at) (length (p .words)) q) ps
+stacked-over [] low q h s = tt
+stacked-over (p ∷ ps) low q h s = (inr (omega (arith, s .0)), stacked-over ps (ending p) q (omega (arith, s .0)) (s .1))
 
 -- What `slices` writes, as a piece.
 pub put-lay : (a : ℕ) (ys xs : List ℕ) → a + length ys ≤ length xs → putAt a ys xs ≡ lay (piece a ys) xs

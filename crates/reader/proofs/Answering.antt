@@ -10,16 +10,14 @@ use native.Mathlib.Omega.{arith}
 use lib.ListN.{length, take, drop}
 use borrow.Author.Tests.{le-leb, lt-leb}
 use Rattle.geometry.specs.declared.Geometry.{Geometry}
-use Rattle.geometry.specs.Geometry.{keyLimitOf, listStart, placeStart, blockWidth, within}
-use Rattle.geometry.proofs.Laws.{place-inside}
+use Rattle.geometry.specs.Geometry.{keyLimitOf, blockWidth, within}
 use Rattle.levels.specs.Basics.{if_then_else_, orElse}
 use Rattle.levels.specs.Record.{Rec, Block}
 use Rattle.levels.specs.Map.{find, unmarked, mapOf, decides, present, firstFrom, next, stretch}
 use Rattle.levels.specs.Store.{rows}
-use Rattle.words.specs.Layout.{word, geometryAt, storeAt, liveAt, topCountAt, countAt, levelAt, blockAt}
+use Rattle.words.specs.Stores.{part, word, storeAt, liveAt, topCountAt, countAt, levelAt, blockAt, geometryFrom}
 use Rattle.words.specs.Calls.{lookAnswer, nextAnswer, enclosing, partOf, showIn, aboutIn}
 use Rattle.words.proofs.About.{answerWith, about-read}
-use Rattle.entry.specs.declared.Opened.the-variants.{Ready}
 use Rattle.chunks.specs.Chunks.{chunkRecs}
 use Rattle.directory.specs.declared.Directory.{Directory}
 use Rattle.directory.specs.Directory.{Formed, chunkAt, recordsOf}
@@ -31,16 +29,19 @@ use Rattle.search.specs.declared.Enclosed.{Enclosed}
 use Rattle.search.specs.declared.Enclosed.the-variants as enclosed
 use Rattle.search.specs.Search.{foundOf, encloses, enclosedFrom, enclosedOf}
 use Rattle.form.specs.Form.{topOf, levelOf, levelsOf}
-use Rattle.form.specs.Checked.{checkedOf}
 use Rattle.form.proofs.Parts.{wordsFrom, Listed}
 use Rattle.form.proofs.Sizes.{lists-in, place-below}
 use Rattle.form.proofs.Blocks.{level-blocks, chunk-recs}
 use Rattle.form.proofs.Clauses.{filled-level}
-use Rattle.form.proofs.Ready.{checked-ready, ready-sized, ready-headed, ready-filled, ready-lists, ready-levels, ready-view, ready-decides}
+use Rattle.form.proofs.Ready.{ready-sized, ready-headed, ready-filled, ready-lists, ready-levels, ready-view, ready-decides}
 use Rattle.reader.specs.Answers.{lookedAnswer, lookedOf, nextedAnswer, factsAnswer}
 use Rattle.reader.specs.Show.{emptyPart, blockPart, showPartIn}
 use Rattle.reader.specs.declared.Part.{Part}
 use Rattle.reader.specs.declared.Nexted.the-variants as nexted
+use Rattle.layout.proofs.Laws.{place-inside}
+use Rattle.layout.specs.Layouts.{listStart, placeStart}
+use Rattle.layout.specs.declared.Layout.{Layout}
+use Rattle.words.specs.Passed.{Passed}
 
 -- the answer of the first of two searches that has one
 abbrev pub orFound : Found → Found → Found
@@ -71,61 +72,62 @@ pub next-nothing : (o : Option Rec) → Nothing ≡ followingOf o → nextedAnsw
 next-nothing none e = refl
 next-nothing (some r) e = absurd (let z : _≡_ {A = ℕ} 0 1 = cc in omega arith)
 
-module _ (ws : List ℕ) (g : Geometry) (e : checkedOf ws ≡ Ready g) where
+module _ (ws : List ℕ) (z : Layout) (e : Passed z ws) where
   -- "the first level from 0 down that has k decides", by the four searches
-  pub found-levels : (k : ℕ) → foundOf (decides k (rows (storeAt g ws)))
-      ≡ orFound (foundOf (find k (recordsOf ws (topOf g ws)))) (orFound (foundOf (find k (recordsOf ws (levelOf g ws 1)))) (orFound (foundOf (find k (recordsOf ws (levelOf g ws 2)))) (foundOf (find k (recordsOf ws (levelOf g ws 3))))))
+  pub found-levels : (k : ℕ) → foundOf (decides k (rows (storeAt z ws)))
+      ≡ orFound (foundOf (find k (recordsOf ws (topOf z ws)))) (orFound (foundOf (find k (recordsOf ws (levelOf z ws 1)))) (orFound (foundOf (find k (recordsOf ws (levelOf z ws 2)))) (foundOf (find k (recordsOf ws (levelOf z ws 3))))))
   found-levels k =
-      ap foundOf (ready-decides ws g e k)
-      ∙ found-or (find k (recordsOf ws (topOf g ws))) (find k (recordsOf ws (levelOf g ws 1))) (find k (recordsOf ws (levelOf g ws 2))) (find k (recordsOf ws (levelOf g ws 3)))
+      ap foundOf (ready-decides ws z e k)
+      ∙ found-or (find k (recordsOf ws (topOf z ws))) (find k (recordsOf ws (levelOf z ws 1))) (find k (recordsOf ws (levelOf z ws 2))) (find k (recordsOf ws (levelOf z ws 3)))
 
   -- the walk goes over the map
-  pub next-levels : (k : ℕ) → firstFrom k (unmarked (layered ws (levelsOf g ws))) ≡ next k (rows (storeAt g ws))
+  pub next-levels : (k : ℕ) → firstFrom k (unmarked (layered ws (levelsOf z ws))) ≡ next k (rows (storeAt z ws))
   unfolding next mapOf
-  next-levels k = rw (ready-view ws g e)
+  next-levels k = rw (ready-view ws z e)
 
-  pub stretch-levels : (first last : ℕ) → stretch first last (unmarked (layered ws (levelsOf g ws))) ≡ stretch first last (mapOf (rows (storeAt g ws)))
+  pub stretch-levels : (first last : ℕ) → stretch first last (unmarked (layered ws (levelsOf z ws))) ≡ stretch first last (mapOf (rows (storeAt z ws)))
   unfolding mapOf
-  stretch-levels first last = rw (ready-view ws g e)
+  stretch-levels first last = rw (ready-view ws z e)
 
 -- Show: levels that there are not, and those that there are.
-pub part-low : (g : Geometry) (ws : List ℕ) (i k : ℕ) → i < 1 → emptyPart ≡ showPartIn g ws i k
+pub part-low : (z : Layout) (ws : List ℕ) (i k : ℕ) → i < 1 → emptyPart ≡ showPartIn z ws i k
 unfolding showPartIn
-part-low g ws i k h = rw (lt-leb 1 i h, showPartIn)
+part-low z ws i k h = rw (lt-leb 1 i h, showPartIn)
 
-pub part-high : (g : Geometry) (ws : List ℕ) (i k : ℕ) → 1 ≤ i → g .h < i → emptyPart ≡ showPartIn g ws i k
+pub part-high : (z : Layout) (ws : List ℕ) (i k : ℕ) → 1 ≤ i → z .geo .h < i → emptyPart ≡ showPartIn z ws i k
 unfolding showPartIn
-part-high g ws i k a b = rw (le-leb 1 i a, lt-leb i (g .h) b, showPartIn)
+part-high z ws i k a b = rw (le-leb 1 i a, lt-leb i (z .geo .h) b, showPartIn)
 
-part-level : (g : Geometry) (ws : List ℕ) (i k : ℕ) → 1 ≤ i → i ≤ g .h → showPartIn g ws i k ≡ blockPart g (enclosing k (levelAt g ws i))
+part-level : (z : Layout) (ws : List ℕ) (i k : ℕ) → 1 ≤ i → i ≤ z .geo .h → showPartIn z ws i k ≡ blockPart z (enclosing k (levelAt z ws i))
 unfolding showPartIn
-part-level g ws i k a b = rw (le-leb 1 i a, le-leb i (g .h) b, showPartIn)
+part-level z ws i k a b = rw (le-leb 1 i a, le-leb i (z .geo .h) b, showPartIn)
 
 -- its words are those that show gives
-words-of : (g : Geometry) (ws : List ℕ) (o : Option Block) → take (blockPart g o .length) (drop (blockPart g o .start) ws) ≡ partOf g ws o
-words-of g ws none = refl
-words-of g ws (some b) = refl
+words-of : (z : Layout) (ws : List ℕ) (o : Option Block) → take (blockPart z o .length) (drop (blockPart z o .start) ws) ≡ partOf z ws o
+unfolding part
+words-of z ws none = refl
+words-of z ws (some b) = refl
 
-pub part-words-in : (g : Geometry) (ws : List ℕ) (i k : ℕ) → take (showPartIn g ws i k .length) (drop (showPartIn g ws i k .start) ws) ≡ showIn g ws i k
-unfolding showPartIn showIn
-part-words-in g ws i k = go (within 1 (g .h) i)
+pub part-words-in : (z : Layout) (ws : List ℕ) (i k : ℕ) → take (showPartIn z ws i k .length) (drop (showPartIn z ws i k .start) ws) ≡ showIn z ws i k
+unfolding showPartIn showIn part
+part-words-in z ws i k = go (within 1 (z .geo .h) i)
   where
-    go : (t : Bool) → let p : Part = elim t [ true ↦ blockPart g (enclosing k (levelAt g ws i)) | false ↦ emptyPart ] in
-        take (p .length) (drop (p .start) ws) ≡ elim t [ true ↦ partOf g ws (enclosing k (levelAt g ws i)) | false ↦ [] ]
-    go true = words-of g ws (enclosing k (levelAt g ws i))
+    go : (t : Bool) → let p : Part = elim t [ true ↦ blockPart z (enclosing k (levelAt z ws i)) | false ↦ emptyPart ] in
+        take (p .length) (drop (p .start) ws) ≡ elim t [ true ↦ partOf z ws (enclosing k (levelAt z ws i)) | false ↦ [] ]
+    go true = words-of z ws (enclosing k (levelAt z ws i))
     go false = refl
 
 -- a part that ends within words that are few enough to be counted in bytes
 abbrev pub Inside : List ℕ → Part → Type 0
-Inside ws p = (p .start + p .length ≤ length ws) × (p .start + p .length ≤ 288524)
+Inside ws p = (p .start + p .length ≤ length ws) × (p .start + p .length ≤ 400000)
 
 pub empty-inside : (ws : List ℕ) → Inside ws emptyPart
 empty-inside ws = (omega arith, omega arith)
 
 -- the block at the place that entry j of a list names
-abbrev listedBlock : Geometry → List ℕ → ℕ → Enclosed → Option Block
-listedBlock g ws start enclosed.Nowhere = none
-listedBlock g ws start (enclosed.At j) = some (blockAt g ws (word ws (start + j)))
+abbrev listedBlock : Layout → List ℕ → ℕ → Enclosed → Option Block
+listedBlock z ws start enclosed.Nowhere = none
+listedBlock z ws start (enclosed.At j) = some (blockAt z ws (word ws (start + j)))
 
 -- the chunk that is answered is one of those gone over
 enclosed-inside : (ws : List ℕ) (d : Directory) (k i n j : ℕ) → enclosedFrom ws d k i n ≡ enclosed.At j → j < i + n
@@ -137,93 +139,90 @@ enclosed-inside ws d k i (suc n) j e = go (encloses k (chunkRecs ws (chunkAt ws 
     go true q ih = let w : i ≡ j = cc in omega arith
     go false q ih = omega (arith, ih q)
 
-module _ (ws : List ℕ) (g : Geometry) (e : checkedOf ws ≡ Ready g) where
+module _ (ws : List ℕ) (z : Layout) (e : Passed z ws) where
   -- every level from 1 on can be searched
-  pub ready-level : (i : ℕ) → 1 ≤ i → i ≤ 3 → Formed (levelOf g ws i) ws
+  pub ready-level : (i : ℕ) → 1 ≤ i → i ≤ 3 → Formed (levelOf z ws i) ws
   ready-level ℕ.zero a b = absurd (omega arith)
-  ready-level (suc ℕ.zero) a b = ready-levels ws g e .formed1
-  ready-level (suc (suc ℕ.zero)) a b = ready-levels ws g e .formed2
-  ready-level (suc (suc (suc ℕ.zero))) a b = ready-levels ws g e .formed3
+  ready-level (suc ℕ.zero) a b = ready-levels ws z e .formed1
+  ready-level (suc (suc ℕ.zero)) a b = ready-levels ws z e .formed2
+  ready-level (suc (suc (suc ℕ.zero))) a b = ready-levels ws z e .formed3
   ready-level (suc (suc (suc (suc i)))) a b = absurd (omega arith)
 
-  module _ (i : ℕ) (a : 1 ≤ i) (b : i ≤ g .h) where
-    listed : Listed g ws i
-    listed = lists-in g ws (ready-headed ws g e) i a b
+  module _ (i : ℕ) (a : 1 ≤ i) (b : i ≤ z .geo .h) where
+    listed : Listed z ws i
+    listed = lists-in z ws (ready-headed ws z e) i a b
 
-    enclosing-from : (k j n : ℕ) → j + n ≤ countAt ws i
-        → enclosing k (map (blockAt g ws) (wordsFrom ws (listStart g i + j) n)) ≡ listedBlock g ws (listStart g i) (enclosedFrom ws (levelOf g ws i) k j n)
+    enclosing-from : (k j n : ℕ) → j + n ≤ countAt z ws i
+        → enclosing k (map (blockAt z ws) (wordsFrom ws (listStart z i + j) n)) ≡ listedBlock z ws (listStart z i) (enclosedFrom ws (levelOf z ws i) k j n)
     unfolding enclosing enclosedFrom
     enclosing-from k j ℕ.zero h = refl
     enclosing-from k j (suc n) h =
-        let p = word ws (listStart g i + j) in
-        let q : suc (listStart g i + j) ≡ listStart g i + suc j = omega arith in
-        let ih : enclosing k (map (blockAt g ws) (wordsFrom ws (suc (listStart g i + j)) n)) ≡ listedBlock g ws (listStart g i) (enclosedFrom ws (levelOf g ws i) k (suc j) n) = rw q (enclosing-from k (suc j) n (omega arith)) in
-        ap (λ (rs : List Rec). elim (encloses k rs) [ true ↦ some (blockAt g ws p) | false ↦ enclosing k (map (blockAt g ws) (wordsFrom ws (suc (listStart g i + j)) n)) ]) (sym (chunk-recs g ws i listed (filled-level g ws (ready-filled ws g e) i a b) j (omega arith)))
-        ∙ go k j n (encloses k (chunkRecs ws (chunkAt ws (levelOf g ws i) j))) (enclosing k (map (blockAt g ws) (wordsFrom ws (suc (listStart g i + j)) n))) (enclosedFrom ws (levelOf g ws i) k (suc j) n) ih
+        let p = word ws (listStart z i + j) in
+        let q : suc (listStart z i + j) ≡ listStart z i + suc j = omega arith in
+        let ih : enclosing k (map (blockAt z ws) (wordsFrom ws (suc (listStart z i + j)) n)) ≡ listedBlock z ws (listStart z i) (enclosedFrom ws (levelOf z ws i) k (suc j) n) = rw q (enclosing-from k (suc j) n (omega arith)) in
+        ap (λ (rs : List Rec). elim (encloses k rs) [ true ↦ some (blockAt z ws p) | false ↦ enclosing k (map (blockAt z ws) (wordsFrom ws (suc (listStart z i + j)) n)) ]) (sym (chunk-recs z ws i listed (filled-level z ws (ready-filled ws z e) i a b) j (omega arith)))
+        ∙ go k j n (encloses k (chunkRecs ws (chunkAt ws (levelOf z ws i) j))) (enclosing k (map (blockAt z ws) (wordsFrom ws (suc (listStart z i + j)) n))) (enclosedFrom ws (levelOf z ws i) k (suc j) n) ih
       where
-        go : (k j n : ℕ) (t : Bool) (o : Option Block) (r : Enclosed) → o ≡ listedBlock g ws (listStart g i) r
-            → elim t [ true ↦ some (blockAt g ws (word ws (listStart g i + j))) | false ↦ o ] ≡ listedBlock g ws (listStart g i) (if t then enclosed.At j else r)
+        go : (k j n : ℕ) (t : Bool) (o : Option Block) (r : Enclosed) → o ≡ listedBlock z ws (listStart z i) r
+            → elim t [ true ↦ some (blockAt z ws (word ws (listStart z i + j))) | false ↦ o ] ≡ listedBlock z ws (listStart z i) (if t then enclosed.At j else r)
         go k j n true o r u = refl
         go k j n false o r u = u
 
     -- the block that encloses k, by the search in the level's list
-    pub enclosing-is : (k : ℕ) → enclosing k (levelAt g ws i) ≡ listedBlock g ws (listStart g i) (enclosedOf ws (levelOf g ws i) k)
+    pub enclosing-is : (k : ℕ) → enclosing k (levelAt z ws i) ≡ listedBlock z ws (listStart z i) (enclosedOf ws (levelOf z ws i) k)
     unfolding enclosedOf levelOf
     enclosing-is k =
-        let s : listStart g i + 0 ≡ listStart g i = omega arith in
-        rw (level-blocks g ws i listed) (rw s at (enclosing-from k 0 (countAt ws i) (omega arith)))
+        let s : listStart z i + 0 ≡ listStart z i = omega arith in
+        rw (level-blocks z ws i listed) (rw s at (enclosing-from k 0 (countAt z ws i) (omega arith)))
 
-    part-found : (k : ℕ) (r : Enclosed) → enclosedOf ws (levelOf g ws i) k ≡ r → blockPart g (listedBlock g ws (listStart g i) r) ≡ showPartIn g ws i k
-    part-found k r q = sym (part-level g ws i k a b ∙ ap (blockPart g) (enclosing-is k ∙ ap (listedBlock g ws (listStart g i)) q))
+    part-found : (k : ℕ) (r : Enclosed) → enclosedOf ws (levelOf z ws i) k ≡ r → blockPart z (listedBlock z ws (listStart z i) r) ≡ showPartIn z ws i k
+    part-found k r q = sym (part-level z ws i k a b ∙ ap (blockPart z) (enclosing-is k ∙ ap (listedBlock z ws (listStart z i)) q))
 
-    pub part-none : (k : ℕ) (d : Directory) → d ≡ levelOf g ws i → enclosed.Nowhere ≡ enclosedOf ws d k → emptyPart ≡ showPartIn g ws i k
+    pub part-none : (k : ℕ) (d : Directory) → d ≡ levelOf z ws i → enclosed.Nowhere ≡ enclosedOf ws d k → emptyPart ≡ showPartIn z ws i k
     part-none k d q h = part-found k enclosed.Nowhere (sym (rw q at h))
 
-    module _ (k : ℕ) (d : Directory) (q : d ≡ levelOf g ws i) (j : ℕ) (h : enclosed.At j ≡ enclosedOf ws d k) where
-      hit : enclosedOf ws (levelOf g ws i) k ≡ enclosed.At j
+    module _ (k : ℕ) (d : Directory) (q : d ≡ levelOf z ws i) (j : ℕ) (h : enclosed.At j ≡ enclosedOf ws d k) where
+      hit : enclosedOf ws (levelOf z ws i) k ≡ enclosed.At j
       hit = sym (rw q at h)
 
       -- the entry that names the block is in the list, and names a place
-      pub shown-listed : (d .list ≡ listStart g i) × (j < countAt ws i)
+      pub shown-listed : (d .list ≡ listStart z i) × (j < countAt z ws i)
       unfolding levelOf enclosedOf
-      shown-listed = (rw q, omega (arith, enclosed-inside ws (levelOf g ws i) k 0 (countAt ws i) j hit))
+      shown-listed = (rw q, omega (arith, enclosed-inside ws (levelOf z ws i) k 0 (countAt z ws i) j hit))
 
       pub shown-in : d .list + j < length ws
       shown-in = let s = shown-listed in omega (arith, listed .inside, listed .fits)
 
-      pub shown-place : word ws (d .list + j) < g .p
-      shown-place = rw (shown-listed .0) (place-below g ws (ready-headed ws g e) (ready-lists ws g e) i a b j (shown-listed .1))
+      pub shown-place : word ws (d .list + j) < z .geo .p
+      shown-place = rw (shown-listed .0) (place-below z ws (ready-headed ws z e) (ready-lists ws z e) i a b j (shown-listed .1))
 
-      pub shown-end : placeStart g (word ws (d .list + j)) + blockWidth g ≤ length ws
-      shown-end = rw (ready-sized ws g e .words) (place-inside g shown-place)
+      pub shown-end : placeStart z (word ws (d .list + j)) + blockWidth (z .geo) ≤ length ws
+      shown-end = rw (ready-sized ws z e .words) (place-inside z (e .proper) shown-place)
 
-      pub part-at : record { start = placeStart g (word ws (d .list + j)); length = blockWidth g } ≡ showPartIn g ws i k
+      pub part-at : record { start = placeStart z (word ws (d .list + j)); length = blockWidth (z .geo) } ≡ showPartIn z ws i k
       unfolding blockAt
       part-at = rw (shown-listed .0) (part-found k (enclosed.At j) hit)
 
     -- the part lies in the lent store, which is short
-    part-inside-level : (k : ℕ) → Inside ws (showPartIn g ws i k)
-    part-inside-level k = go (enclosedOf ws (levelOf g ws i) k) refl
+    part-inside-level : (k : ℕ) → Inside ws (showPartIn z ws i k)
+    part-inside-level k = go (enclosedOf ws (levelOf z ws i) k) refl
       where
-        go : (r : Enclosed) → enclosedOf ws (levelOf g ws i) k ≡ r → Inside ws (showPartIn g ws i k)
+        go : (r : Enclosed) → enclosedOf ws (levelOf z ws i) k ≡ r → Inside ws (showPartIn z ws i k)
         go enclosed.Nowhere q = subst (Inside ws) (part-found k enclosed.Nowhere q) (empty-inside ws)
         go (enclosed.At j) q =
-            let h = shown-end k (levelOf g ws i) refl j (sym q) in
-            subst (Inside ws) (part-at k (levelOf g ws i) refl j (sym q)) (h, omega (arith, h, ready-sized ws g e .short))
+            let h = shown-end k (levelOf z ws i) refl j (sym q) in
+            subst (Inside ws) (part-at k (levelOf z ws i) refl j (sym q)) (h, omega (arith, h, e .long, e .proper .short))
 
-  pub part-inside-in : (i k : ℕ) → Inside ws (showPartIn g ws i k)
+  pub part-inside-in : (i k : ℕ) → Inside ws (showPartIn z ws i k)
   part-inside-in i k =
-      dite (decLt i 1) (λ l. subst (Inside ws) (part-low g ws i k l) (empty-inside ws))
-      (λ l. dite (decLt (g .h) i) (λ m. subst (Inside ws) (part-high g ws i k (omega arith) m) (empty-inside ws))
+      dite (decLt i 1) (λ l. subst (Inside ws) (part-low z ws i k l) (empty-inside ws))
+      (λ l. dite (decLt (z .geo .h) i) (λ m. subst (Inside ws) (part-high z ws i k (omega arith) m) (empty-inside ws))
       (λ m. part-inside-level i (omega arith) (omega arith) k))
 
 -- About: what the size words of a store that passes say of it, and N
-module _ (ws : List ℕ) (g : Geometry) (e : checkedOf ws ≡ Ready g) where
-  facts-ready : answerWith (geometryAt ws) (liveAt ws) (topCountAt ws) (countAt ws 1) (countAt ws 2) (countAt ws 3) ≡ aboutIn g (storeAt g ws)
-  facts-ready = let k = checked-ready ws g e in sym (about-read ws (k .1)) ∙ ap (λ (t : Geometry). aboutIn t (storeAt t ws)) (sym (k .0))
-
-  pub facts-told : (n : ℕ) → n ≡ keyLimitOf g
-      → factsAnswer (record { b = word ws 0; w = word ws 1; d = word ws 2; g = word ws 3; h = word ws 4; p = word ws 5; live = word ws 6; limit = n; top = word ws 8; blocks1 = word ws 9; blocks2 = word ws 10; blocks3 = word ws 11 }) ≡ aboutIn g (storeAt g ws)
-  facts-told n q =
-      let k : n ≡ keyLimitOf (geometryAt ws) = q ∙ ap keyLimitOf (checked-ready ws g e .0) in
-      rw k facts-ready
+pub facts-told : (ws : List ℕ) (z : Layout) → Passed z ws → (n : ℕ) → n ≡ keyLimitOf (z .geo)
+    → let a = z .six in let c = z .count in
+    factsAnswer (record { b = word ws a; w = word ws (a + 1); d = word ws (a + 2); g = word ws (a + 3); h = word ws (a + 4); p = word ws (a + 5); live = word ws (z .live); limit = n; top = word ws c; blocks1 = word ws (c + 1); blocks2 = word ws (c + 2); blocks3 = word ws (c + 3) }) ≡ aboutIn (z .geo) (storeAt z ws)
+facts-told ws z e n q =
+    let k : n ≡ keyLimitOf (geometryFrom ws (z .six)) = q ∙ ap keyLimitOf (sym (e .six)) in
+    rw k (ap (λ (g : Geometry). answerWith g (liveAt z ws) (topCountAt z ws) (countAt z ws 1) (countAt z ws 2) (countAt z ws 3)) (e .six) ∙ sym (about-read z ws e))

@@ -4,14 +4,13 @@ ghost use mathlib.Core.Path.{_≡_};
 ghost use Prim.Native.Nat.{_<_};
 ghost use Rattle.levels.specs.Map.{mapOf, decides, next, stretch};
 ghost use Rattle.levels.specs.Store.{rows};
-ghost use Rattle.words.specs.Layout.{storeAt};
+ghost use Rattle.words.specs.Stores.{storeAt};
+ghost use Rattle.words.specs.Passed.{Passed};
 ghost use Rattle.words.specs.Calls.{StretchAnswer, StretchOutcome, nextAnswer, filled, aboutIn};
-ghost use Rattle.entry.specs.declared.Opened.the-variants.{Ready};
 ghost use Rattle.search.specs.Search.{foundOf};
-ghost use Rattle.form.specs.Checked.{checkedOf};
 ghost use Rattle.reader.specs.Answers.{lookedOf, nextedAnswer, stretchAnswer, factsAnswer};
 ghost use Rattle.reader.specs.Show.{showPartIn};
-use geometry::Geometry;
+use layout::Layout;
 use search::Enclosed;
 use search::Found;
 use walk::Following;
@@ -65,17 +64,17 @@ pub enum Told {
 }
 
 // The record that decides for a key: that of the first level from 0 down that has one.
-pub fn find_key(s: &[u32], g: Geometry, k: usize) -> Found
-    requires { ⌜ (checkedOf (now s) ≡ Ready g) × (k < 4294967296) ⌝ }
-    ensures { λ r. ⌜ r ≡ foundOf (decides k (rows (storeAt g (now (s .entry))))) ⌝ }
+pub fn find_key(s: &[u32], z: Layout, k: usize) -> Found
+    requires { ⌜ Passed z (now s) × (k < 4294967296) ⌝ }
+    ensures { λ r. ⌜ r ≡ foundOf (decides k (rows (storeAt z (now (s .entry))))) ⌝ }
 {
-    let d0 = form::top_of(s, g);
+    let d0 = form::top_of(s, z);
     let Found::Here(m0, v0) = search::find_in(s, d0, k) else {
-        let d1 = form::level_of(s, g, 1);
+        let d1 = form::level_of(s, z, 1);
         let Found::Here(m1, v1) = search::find_in(s, d1, k) else {
-            let d2 = form::level_of(s, g, 2);
+            let d2 = form::level_of(s, z, 2);
             let Found::Here(m2, v2) = search::find_in(s, d2, k) else {
-                let d3 = form::level_of(s, g, 3);
+                let d3 = form::level_of(s, z, 3);
                 return search::find_in(s, d3, k);
             };
             return Found::Here(m2, v2);
@@ -99,11 +98,11 @@ pub fn look_answer(f: Found) -> Looked
 }
 
 // The smallest live key at or above k, of a store that passes.
-pub fn next_key(s: &[u32], g: Geometry, k: usize) -> Nexted
-    requires { ⌜ (checkedOf (now s) ≡ Ready g) × (k < 4294967296) ⌝ }
-    ensures { λ r. ⌜ nextedAnswer r ≡ nextAnswer (next k (rows (storeAt g (now (s .entry))))) ⌝ }
+pub fn next_key(s: &[u32], z: Layout, k: usize) -> Nexted
+    requires { ⌜ Passed z (now s) × (k < 4294967296) ⌝ }
+    ensures { λ r. ⌜ nextedAnswer r ≡ nextAnswer (next k (rows (storeAt z (now (s .entry))))) ⌝ }
 {
-    let levels = form::levels_of(s, g);
+    let levels = form::levels_of(s, z);
     let Following::At(key, pay) = walk::next_from(s, levels, k) else {
         return Nexted::Nothing;
     };
@@ -113,30 +112,31 @@ pub fn next_key(s: &[u32], g: Geometry, k: usize) -> Nexted
 // The live records of a store that passes with keys from `first` to `last`, as many as both arrays have room for.
 pub fn list_stretch(
     s: &[u32],
-    g: Geometry,
+    z: Layout,
     first: usize,
     last: usize,
     keys: &mut [u32],
     pays: &mut [u32],
 ) -> Stretched
-    requires { ⌜ (checkedOf (now s) ≡ Ready g) × ((first < 4294967296) × (last < 4294967296)) ⌝ }
+    requires { ⌜ Passed z (now s) × ((first < 4294967296) × (last < 4294967296)) ⌝ }
     ensures { λ r. ⌜ _≡_ {A = StretchOutcome StretchAnswer} (record { answer = stretchAnswer r; keys = now (keys .exit); pays = now (pays .exit) })
-        (filled (stretch first last (mapOf (rows (storeAt g (now (s .entry)))))) (now (keys .entry)) (now (pays .entry))) ⌝ }
+        (filled (stretch first last (mapOf (rows (storeAt z (now (s .entry)))))) (now (keys .entry)) (now (pays .entry))) ⌝ }
 {
-    let levels = form::levels_of(s, g);
+    let levels = form::levels_of(s, z);
     let listed = walk::list_stretch(s, levels, first, last, keys, pays);
     Stretched::Written(listed.written as u32, listed.more)
 }
 
 // The words of the block of a level whose first to last key encloses k, of a store that passes: where they lie in it.
-pub fn show_block(s: &[u32], g: Geometry, level: usize, k: usize) -> Part
-    requires { ⌜ (checkedOf (now s) ≡ Ready g) × (k < 4294967296) ⌝ }
-    ensures { λ r. ⌜ r ≡ showPartIn g (now (s .entry)) level k ⌝ }
+pub fn show_block(s: &[u32], z: Layout, level: usize, k: usize) -> Part
+    requires { ⌜ Passed z (now s) × (k < 4294967296) ⌝ }
+    ensures { λ r. ⌜ r ≡ showPartIn z (now (s .entry)) level k ⌝ }
 {
     let none = Part {
         start: 0,
         length: 0,
     };
+    let g = z.geo;
     let h = g.levels();
     if level < 1 {
         return none;
@@ -144,36 +144,40 @@ pub fn show_block(s: &[u32], g: Geometry, level: usize, k: usize) -> Part
     if h < level {
         return none;
     }
-    let dir = form::level_of(s, g, level);
+    let dir = form::level_of(s, z, level);
     let Enclosed::At(i) = search::enclosing(s, dir, k) else {
         return none;
     };
     let list = dir.list;
     let place = slices::word(s, list + i);
     Part {
-        start: g.place_start(place),
+        start: z.place_start(place),
         length: g.block_width(),
     }
 }
 
 // The facts of a store that passes. The form check has counted what the size words say, so they are read and not counted again.
-pub fn facts_of(s: &[u32], g: Geometry) -> Facts
-    requires { ⌜ checkedOf (now s) ≡ Ready g ⌝ }
-    ensures { λ r. ⌜ factsAnswer r ≡ aboutIn g (storeAt g (now (s .entry))) ⌝ }
+pub fn facts_of(s: &[u32], z: Layout) -> Facts
+    requires { ⌜ Passed z (now s) ⌝ }
+    ensures { λ r. ⌜ factsAnswer r ≡ aboutIn (z .geo) (storeAt z (now (s .entry))) ⌝ }
 {
+    let g = z.geo;
     let limit = g.key_limit();
+    let six = z.six;
+    let live = z.live;
+    let c = z.count;
     Facts {
-        b: s[0],
-        w: s[1],
-        d: s[2],
-        g: s[3],
-        h: s[4],
-        p: s[5],
-        live: s[6],
+        b: s[six],
+        w: s[six + 1],
+        d: s[six + 2],
+        g: s[six + 3],
+        h: s[six + 4],
+        p: s[six + 5],
+        live: s[live],
         limit: limit as u32,
-        top: s[8],
-        blocks1: s[9],
-        blocks2: s[10],
-        blocks3: s[11],
+        top: s[c],
+        blocks1: s[c + 1],
+        blocks2: s[c + 2],
+        blocks3: s[c + 3],
     }
 }

@@ -16,7 +16,7 @@ use Rattle.levels.specs.Basics.{if_then_else_}
 use Rattle.levels.specs.Record.{Rec, firstKey, lastKey}
 use Rattle.levels.specs.Rising.{Rising, Below}
 use Rattle.levels.proofs.Rising.{rising-right}
-use Rattle.words.specs.Layout.{word, slotsAt}
+use Rattle.words.specs.Stores.{word, slotsAt}
 use Rattle.chunks.specs.declared.Chunk.{Chunk}
 use Rattle.chunks.specs.Chunks.{Inside, chunkRecs}
 use Rattle.chunks.proofs.Slots.{slots-first}

@@ -19,7 +19,7 @@ use Rattle.levels.specs.Map.{find}
 use Rattle.levels.specs.Rising.{Rising, Below}
 use Rattle.slices.proofs.Ranks.{rank-from}
 use Rattle.levels.proofs.Rising.{rising-left, rising-right, below-append}
-use Rattle.words.specs.Layout.{word, slotsAt, keysOf}
+use Rattle.words.specs.Stores.{word, slotsAt, keysOf}
 use Rattle.chunks.specs.declared.Chunk.{Chunk}
 use Rattle.chunks.specs.Chunks.{Inside, chunkRecs}
 use Rattle.words.proofs.Slots.{slots-length, slot-at}

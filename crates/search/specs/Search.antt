@@ -6,7 +6,7 @@ use mathlib.Core.Option.{Option, none, some}
 use Rattle.levels.specs.Basics.{if_then_else_}
 use Rattle.geometry.specs.Geometry.{within}
 use Rattle.levels.specs.Record.{Rec, firstKey, lastKey}
-use Rattle.words.specs.Layout.{word}
+use Rattle.words.specs.Stores.{word}
 use Rattle.chunks.specs.Chunks.{chunkRecs}
 use Rattle.directory.specs.declared.Directory.{Directory}
 use Rattle.directory.specs.Directory.{chunkAt}

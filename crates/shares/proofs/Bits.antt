@@ -15,7 +15,7 @@ use lib.Seq.{take-suc, length-take-le, getD-drop}
 use borrow.Author.Tests.{eqb-true, eqb-false, eq-eqb, ne-eqb, lt-ltb}
 use Rattle.slices.specs.Ranks.{among}
 use Rattle.levels.specs.Record.{Rec}
-use Rattle.words.specs.Layout.{bit, slotsAt, part}
+use Rattle.words.specs.Stores.{bit, slotsAt, part}
 use Rattle.words.proofs.Parts.{part-cons}
 use Rattle.words.proofs.Slots.{bits-high, bit-small}
 use Rattle.shares.specs.Shares.{under, hide}

@@ -14,7 +14,7 @@ use Rattle.slices.specs.Ranks.{among}
 use Rattle.levels.specs.Basics.{isSome}
 use Rattle.levels.specs.Record.{Rec}
 use Rattle.levels.specs.Rising.{Rising, Below}
-use Rattle.words.specs.Layout.{word, slotsAt, keysOf}
+use Rattle.words.specs.Stores.{word, slotsAt, keysOf}
 use Rattle.words.proofs.Ranks.{keys-slots, found-is}
 use Rattle.chunks.specs.declared.Chunk.{Chunk}
 use Rattle.chunks.specs.Chunks.{chunkRecs}

@@ -10,7 +10,7 @@ use borrow.Author.Tests.{leb-true}
 use Rattle.levels.specs.Record.{Rec}
 use Rattle.levels.specs.Map.{unmarked}
 use Rattle.levels.proofs.Basics.{and-left, and-right}
-use Rattle.words.specs.Layout.{keysOf}
+use Rattle.words.specs.Stores.{keysOf}
 use Rattle.directory.specs.declared.Directory.{Directory}
 use Rattle.directory.specs.Directory.{recordsFrom, recordsOf}
 use Rattle.walk.specs.declared.Levels.{Levels}

@@ -16,7 +16,7 @@ use lib.Seq.{getD-set-same, getD-set-other}
 use borrow.Author.Tests.{eqb-true, eqb-false}
 use Rattle.levels.specs.Record.{Rec}
 use Rattle.levels.specs.Map.{unmarked}
-use Rattle.words.specs.Layout.{slotsAt}
+use Rattle.words.specs.Stores.{slotsAt}
 use Rattle.chunks.specs.declared.Chunk.{Chunk}
 use Rattle.chunks.specs.Chunks.{chunkRecs}
 use Rattle.chunks.specs.Peel.{liveBit}

@@ -13,7 +13,7 @@ use borrow.Author.Tests.{ltb-true, ltb-false}
 use Rattle.slices.specs.Slices.{putAt}
 use Rattle.levels.specs.Rising.{Rising, Below}
 use Rattle.levels.proofs.Rising.{rising-right}
-use Rattle.words.specs.Layout.{word, slotsAt}
+use Rattle.words.specs.Stores.{word, slotsAt}
 use Rattle.chunks.specs.declared.Chunk.{Chunk}
 use Rattle.chunks.specs.Chunks.{chunkRecs}
 use Rattle.directory.specs.declared.Directory.{Directory}

@@ -15,7 +15,7 @@ use Rattle.levels.specs.Rising.{Rising, Below, Risings}
 use Rattle.levels.proofs.Rising.{rising-from}
 use Rattle.levels.proofs.Overlay.{find-below, into-below, into-same, into-above, Way, less, same, more, way, overlay-nil}
 use Rattle.levels.proofs.View.{unmarked-drop, view-rising}
-use Rattle.words.specs.Layout.{keysOf}
+use Rattle.words.specs.Stores.{keysOf}
 use Rattle.words.proofs.Ranks.{found-is}
 use Rattle.chunks.proofs.Overlay.{live-cons}
 use Rattle.walk.specs.Walk.{four}

@@ -8,7 +8,7 @@ use lib.ListN.{length, getD}
 use Rattle.slices.specs.Ranks.{among}
 use Rattle.levels.specs.Record.{Rec}
 use Rattle.levels.specs.Rising.{Rising}
-use Rattle.words.specs.Layout.{word, bit, slotsAt, keysOf}
+use Rattle.words.specs.Stores.{word, bit, slotsAt, keysOf}
 use Rattle.chunks.specs.declared.Chunk.{Chunk}
 use Rattle.chunks.specs.Chunks.{chunkRecs}
 use Rattle.directory.specs.declared.Directory.{Directory}

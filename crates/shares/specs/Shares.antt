@@ -8,7 +8,7 @@ use lib.ListN.{length}
 use Rattle.slices.specs.Ranks.{among}
 use Rattle.levels.specs.Record.{Rec}
 use Rattle.levels.specs.Map.{unmarked}
-use Rattle.words.specs.Layout.{keysOf}
+use Rattle.words.specs.Stores.{keysOf}
 
 -- a record under these keys: it shows no longer if its key is one of them
 abbrev pub under : List ℕ → Rec → Rec

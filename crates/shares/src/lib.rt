@@ -10,7 +10,7 @@ ghost use lib.Dec.{ltb};
 ghost use lib.ListN.{length, getD, take, drop};
 ghost use Rattle.slices.specs.Ranks.{among};
 ghost use Rattle.levels.specs.Map.{unmarked};
-ghost use Rattle.words.specs.Layout.{word, keysOf};
+ghost use Rattle.words.specs.Stores.{word, keysOf};
 ghost use Rattle.chunks.specs.Chunks.{chunkRecs};
 ghost use Rattle.directory.specs.Directory.{Formed, recordsOf};
 ghost use Rattle.walk.specs.Walk.{AllFormed, layered};

@@ -14,14 +14,14 @@ use Rattle.slices.specs.Ranks.{rankOf}
 use Rattle.slices.proofs.Ranks.{all-below}
 use Rattle.levels.specs.Basics.{if_then_else_}
 use Rattle.levels.proofs.Basics.{if-either}
-use Rattle.blocks.specs.declared.Layout.{Layout}
+use Rattle.blocks.specs.declared.Offsets.{Offsets}
 use Rattle.blocks.specs.Blocks.{Sized, startOf}
 use Rattle.blocks.proofs.Laws.{ends}
 use Rattle.sides.specs.declared.Head.{Head}
 use Rattle.sides.specs.Sides.{HeadOk, Chunked, Readable, Searchable, chunkOf, headOf, headAt, noHead, lastSize}
 
 -- the words of a chunk lie in the store
-pub chunk-inside : (z : Layout) (pages : Bool) (xs list : List ℕ) (i : ℕ) → Chunked z pages xs list i → chunkOf z pages xs list i .n ≤ z .b
+pub chunk-inside : (z : Offsets) (pages : Bool) (xs list : List ℕ) (i : ℕ) → Chunked z pages xs list i → chunkOf z pages xs list i .n ≤ z .b
     → (chunkOf z pages xs list i .marks < length xs) × (chunkOf z pages xs list i .keys + chunkOf z pages xs list i .n ≤ length xs) × (chunkOf z pages xs list i .pays + chunkOf z pages xs list i .n ≤ length xs)
 unfolding chunkOf
 chunk-inside z true xs list i k h =
@@ -31,19 +31,19 @@ chunk-inside z true xs list i k h =
     (omega arith, omega arith, omega arith)
 chunk-inside z false xs list i k h = let e = ends z xs (k .sized) (getD list i 0) (k .place refl) in (omega arith, omega arith, omega arith)
 
-pub page-inside : (z : Layout) (xs : List ℕ) (i : ℕ) → Sized z xs → i < z .top → (z .marks + i ≤ 1000000) × (z .keys + i * z .b ≤ 1000000) × (z .pays + i * z .b ≤ 1000000)
+pub page-inside : (z : Offsets) (xs : List ℕ) (i : ℕ) → Sized z xs → i < z .top → (z .marks + i ≤ 1000000) × (z .keys + i * z .b ≤ 1000000) × (z .pays + i * z .b ≤ 1000000)
 page-inside z xs i s l = let m = mul-le-mul-right {m = i} {n = z .top} (z .b) (omega arith) in (omega arith, omega arith, omega arith)
 
-pub readable-chunked : (z : Layout) (pages : Bool) (xs list : List ℕ) (i j end : ℕ) → Readable z pages xs list i j end → i < end → Chunked z pages xs list i
+pub readable-chunked : (z : Offsets) (pages : Bool) (xs list : List ℕ) (i j end : ℕ) → Readable z pages xs list i j end → i < end → Chunked z pages xs list i
 readable-chunked z pages xs list i j end k h = record { sized = k .sized; low = omega (arith, k .end-high); place = k .place h; page = k .page h }
 
-chunk-place : (z : Layout) (pages : Bool) (xs list : List ℕ) (i : ℕ) → Chunked z pages xs list i → chunkOf z pages xs list i .place < 8192
+chunk-place : (z : Offsets) (pages : Bool) (xs list : List ℕ) (i : ℕ) → Chunked z pages xs list i → chunkOf z pages xs list i .place < 8192
 unfolding chunkOf
 chunk-place z true xs list i k = omega arith
 chunk-place z false xs list i k = let l = k .place refl in let s = k .sized in omega arith
 
 -- the next record of a side is a record
-pub head-ok : (z : Layout) (pages : Bool) (xs list : List ℕ) (i j end : ℕ) → Readable z pages xs list i j end → HeadOk (headOf z pages xs list i j end)
+pub head-ok : (z : Offsets) (pages : Bool) (xs list : List ℕ) (i j end : ℕ) → Readable z pages xs list i j end → HeadOk (headOf z pages xs list i j end)
 unfolding headOf
 head-ok z pages xs list i j end k = go (leb end i) refl
   where
@@ -53,7 +53,7 @@ head-ok z pages xs list i j end k = go (leb end i) refl
         let h = leb-false end i e in
         record { tombstone = omega arith; n = omega (arith, k .count h, k .sized); place = chunk-place z pages xs list i (readable-chunked z pages xs list i j end k h) }
 
-pub head-some : (z : Layout) (pages : Bool) (xs list : List ℕ) (i j end : ℕ) → Readable z pages xs list i j end → headOf z pages xs list i j end .some ≡ true → (i < 4096) × (j < 16)
+pub head-some : (z : Offsets) (pages : Bool) (xs list : List ℕ) (i j end : ℕ) → Readable z pages xs list i j end → headOf z pages xs list i j end .some ≡ true → (i < 4096) × (j < 16)
 unfolding headOf
 head-some z pages xs list i j end k s = go (leb end i) refl s
   where
@@ -61,7 +61,7 @@ head-some z pages xs list i j end k s = go (leb end i) refl s
     go true e s = absurd (true≢false (sym s))
     go false e s = let h = leb-false end i e in (omega (arith, k .end-high), omega (arith, k .inside h, k .count h, k .sized))
 
-pub head-inside : (z : Layout) (pages : Bool) (xs list : List ℕ) (i j end : ℕ) → Readable z pages xs list i j end → headOf z pages xs list i j end .some ≡ true → j < headOf z pages xs list i j end .n
+pub head-inside : (z : Offsets) (pages : Bool) (xs list : List ℕ) (i j end : ℕ) → Readable z pages xs list i j end → headOf z pages xs list i j end .some ≡ true → j < headOf z pages xs list i j end .n
 unfolding headOf
 head-inside z pages xs list i j end k s = go (leb end i) refl s
   where
@@ -69,11 +69,11 @@ head-inside z pages xs list i j end k s = go (leb end i) refl s
     go true e s = absurd (true≢false (sym s))
     go false e s = k .inside (leb-false end i e)
 
-pub last-low : (z : Layout) (xs out : List ℕ) (m : ℕ) → Sized z xs → ((i : ℕ) → getD xs i 0 < 2 ^ 32) → lastSize z xs out m < 2 ^ 32
+pub last-low : (z : Offsets) (xs out : List ℕ) (m : ℕ) → Sized z xs → ((i : ℕ) → getD xs i 0 < 2 ^ 32) → lastSize z xs out m < 2 ^ 32
 unfolding lastSize
 last-low z xs out m k f = if-either (λ (n : ℕ). n < 2 ^ 32) (eqb m 0) (z .b) (getD xs (startOf z (getD out (m - 1) 0)) 0) (omega (arith, k .b-high)) (f _)
 
-pub head-none : (z : Layout) (pages : Bool) (xs list : List ℕ) (i j end : ℕ) → leb end i ≡ not (headOf z pages xs list i j end .some)
+pub head-none : (z : Offsets) (pages : Bool) (xs list : List ℕ) (i j end : ℕ) → leb end i ≡ not (headOf z pages xs list i j end .some)
 unfolding headOf
 head-none z pages xs list i j end = go (leb end i)
   where
@@ -89,7 +89,7 @@ both-some false true l k p q r = absurd (true≢false q)
 both-some false false l k p q r = absurd (true≢false r)
 
 -- a side that has a record stands in a block that can be searched
-pub head-row : (z : Layout) (pages : Bool) (xs list : List ℕ) (i j end : ℕ) → Readable z pages xs list i j end → headOf z pages xs list i j end .some ≡ true → Searchable xs (headOf z pages xs list i j end)
+pub head-row : (z : Offsets) (pages : Bool) (xs list : List ℕ) (i j end : ℕ) → Readable z pages xs list i j end → headOf z pages xs list i j end .some ≡ true → Searchable xs (headOf z pages xs list i j end)
 unfolding headOf
 head-row z pages xs list i j end k s = go (leb end i) refl s
   where

@@ -7,7 +7,7 @@ ghost use lib.ListN.{length, getD};
 ghost use Rattle.blocks.specs.Blocks.{Sized};
 ghost use Rattle.blocks.specs.Room.{listRoom};
 ghost use Rattle.sides.specs.Sides.{blockChunk, pageChunk, chunkOf, Chunked, headOf, headAt, Readable, Searchable, lastSize, wholeBelow, follows, first};
-use blocks::Layout;
+use blocks::Offsets;
 
 // Where the records of a block or of a page of level 0 stand: the index of its mark word, of its
 // first key and of its first payload, and how many it has. A page is not listed and has no place.
@@ -44,7 +44,7 @@ pub fn listed(list: &[u32; blocks::LIST_ROOM], i: usize) -> usize
 }
 
 // The block at place q.
-pub fn block_chunk(s: &[u32], z: Layout, q: usize) -> Chunk
+pub fn block_chunk(s: &[u32], z: Offsets, q: usize) -> Chunk
     requires { ⌜ Sized z (now s) × (q < z .p) ⌝ }
     ensures { λ r. ⌜ r ≡ blockChunk z (now (s .entry)) q ⌝ }
 {
@@ -62,7 +62,7 @@ pub fn block_chunk(s: &[u32], z: Layout, q: usize) -> Chunk
 }
 
 // Page i of level 0. It is full: level 0 is merged only when it has no room. A million is more than any offset.
-fn page_chunk(z: Layout, i: usize) -> Chunk
+fn page_chunk(z: Offsets, i: usize) -> Chunk
     requires { ⌜ (z .marks + i ≤ 1000000) × (z .keys + i * z .b ≤ 1000000) × (z .pays + i * z .b ≤ 1000000) ⌝ }
     ensures { λ r. ⌜ r ≡ pageChunk z i ⌝ }
 {
@@ -78,7 +78,7 @@ fn page_chunk(z: Layout, i: usize) -> Chunk
 }
 
 // Chunk i of a side: a page of level 0, or the block at the list's i-th place.
-fn chunk_at(s: &[u32], z: Layout, pages: bool, list: &[u32; blocks::LIST_ROOM], i: usize) -> Chunk
+fn chunk_at(s: &[u32], z: Offsets, pages: bool, list: &[u32; blocks::LIST_ROOM], i: usize) -> Chunk
     requires { ⌜ Chunked z pages (now s) (now list) i ⌝ }
     ensures { λ r. ⌜ r ≡ chunkOf z pages (now (s .entry)) (now (list .entry)) i ⌝ }
 {
@@ -118,7 +118,7 @@ pub fn head_at(s: &[u32], chunk: Chunk, j: usize) -> Head
 // The next record of a side: chunk i of it, record j.
 pub fn peek(
     s: &[u32],
-    z: Layout,
+    z: Offsets,
     pages: bool,
     list: &[u32; blocks::LIST_ROOM],
     i: usize,
@@ -147,7 +147,7 @@ pub fn peek(
 }
 
 // The size of the last block of the list so far; B where there is none.
-pub fn last_size(s: &[u32], z: Layout, out: &[u32; blocks::LIST_ROOM], m: usize) -> usize
+pub fn last_size(s: &[u32], z: Offsets, out: &[u32; blocks::LIST_ROOM], m: usize) -> usize
     requires { ⌜ Sized z (now s) × (m ≤ listRoom) × ((i : ℕ) → i < m → getD (now out) i 0 < z .p) ⌝ }
     ensures { λ r. ⌜ r ≡ lastSize z (now (s .entry)) (now (out .entry)) m ⌝ }
 {
@@ -185,7 +185,7 @@ fn whole_below(s: &[u32], a: Head, other: Head) -> bool
 // a's block may follow as it stands: the buffer has n records, the last block e.
 pub fn reusable(
     s: &[u32],
-    z: Layout,
+    z: Offsets,
     bottom: bool,
     a: Head,
     other: Head,

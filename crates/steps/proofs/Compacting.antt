@@ -11,7 +11,6 @@ use lib.Dec.{eqb}
 use lib.ListN.{length, take, drop, getD, set}
 use lib.Seq.{getD-set-same}
 use Rattle.slices.specs.Slices.{putAt}
-use Rattle.geometry.specs.declared.Geometry.{Geometry}
 use Rattle.levels.specs.Basics.{if_then_else_}
 use Rattle.levels.specs.Waste.{needsCompact}
 use Rattle.levels.specs.Waste as waste
@@ -25,35 +24,36 @@ use Rattle.levels.proofs.Room.{compact-room-numbers}
 use Rattle.levels.proofs.StoreRows.{set-at}
 use Rattle.levels.proofs.Inside.{inside-used}
 use Rattle.levels.proofs.CompactInside.{compact-facts, compaction-newly}
-use Rattle.words.specs.Layout.{blockAt, placeOf, areaOf, writeBlocks}
+use Rattle.words.specs.Stores.{blockAt, placeOf}
 use Rattle.words.specs.Calls.{compactedBlocks}
-use Rattle.words.proofs.Steps.{laid-compaction}
+use Rattle.words.proofs.Blocks.{blocks-none}
+use Rattle.words.proofs.Steps.{standing-compaction}
 use Rattle.lists.specs.Flat.{partStart, partRoom, partOf}
 use Rattle.lists.specs.Lists.{listOf, listsOf, Listed, placesAt}
 use Rattle.lists.specs.Holds.{HoldsBut}
 use Rattle.lists.proofs.Flat.{part-inside, part-fits}
 use Rattle.lists.proofs.Arrays.{listed-put}
-use Rattle.lists.proofs.Laws.{but-area}
+use Rattle.lists.proofs.Laws.{but-blocks}
 use Rattle.blocks.specs.Blocks.{Marks}
 use Rattle.merging.specs.declared.Merged.{Merged}
 use Rattle.merging.specs.Contract.{Leaves}
 use Rattle.compaction.specs.Machine.{Countable, Compactable}
-use Rattle.pair.proofs.Kept.{base-drop}
 use Rattle.pair.proofs.Room.{count-few}
 use Rattle.steps.specs.declared.Counts.{Counts}
 use Rattle.steps.specs.declared.Tally.{Tally}
 use Rattle.steps.specs.declared.Run.{Run}
 use Rattle.steps.specs.Running.{named, storeOf, Marking, numbersOf, plus, sumOf, counted, Grown, Leaving, Running, compactedCounts}
-use Rattle.steps.proofs.Standing.{inside-short, stand, top-fits, places-new, level-is, entries-are, in-part, countable, mergeables, marking}
+use Rattle.steps.proofs.Standing.{inside-short, stand, top-fits, held-words, places-new, level-is, entries-are, in-part, countable, mergeables, marking}
+use Rattle.layout.specs.declared.Layout.{Layout}
 
 -- the clauses of compactIfNeeded, as laws
-pub needed-is : (g : Geometry) (t : Store) (j : ℕ) → needsCompact (g .b) (getD (t .levels) j []) ≡ true → compactIfNeeded g (suc j) t ≡ compactLevel g (suc j) t ∷ []
+pub needed-is : (z : Layout) (t : Store) (j : ℕ) → needsCompact (z .geo .b) (getD (t .levels) j []) ≡ true → compactIfNeeded (z .geo) (suc j) t ≡ compactLevel (z .geo) (suc j) t ∷ []
 unfolding compactIfNeeded
-needed-is g t j h = rw (h, compactIfNeeded)
+needed-is z t j h = rw (h, compactIfNeeded)
 
-pub not-needed : (g : Geometry) (t : Store) (j : ℕ) → needsCompact (g .b) (getD (t .levels) j []) ≡ false → compactIfNeeded g (suc j) t ≡ []
+pub not-needed : (z : Layout) (t : Store) (j : ℕ) → needsCompact (z .geo .b) (getD (t .levels) j []) ≡ false → compactIfNeeded (z .geo) (suc j) t ≡ []
 unfolding compactIfNeeded
-not-needed g t j h = rw (h, compactIfNeeded)
+not-needed z t j h = rw (h, compactIfNeeded)
 
 -- The tally. Nothing more:
 pub same-counts : (a b : levels.Counts) → b .merges ≡ 0 → b .written ≡ 0 → b .compacted ≡ 0 → a ≡ plus a b
@@ -105,98 +105,97 @@ compacted-one c n level e b i =
     go false = refl
 
 -- what step 5 for a level leaves alone: level 0, and every other level
-needed-keeps : (g : Geometry) (t : Store) (j : ℕ) → (afterCompactions t (compactIfNeeded g (suc j) t) .top ≡ t .top) × ((i : ℕ) → i ≢ j → getD (afterCompactions t (compactIfNeeded g (suc j) t) .levels) i [] ≡ getD (t .levels) i [])
+needed-keeps : (z : Layout) (t : Store) (j : ℕ) → (afterCompactions t (compactIfNeeded (z .geo) (suc j) t) .top ≡ t .top) × ((i : ℕ) → i ≢ j → getD (afterCompactions t (compactIfNeeded (z .geo) (suc j) t) .levels) i [] ≡ getD (t .levels) i [])
 unfolding compactLevel
-needed-keeps g t j = go (needsCompact (g .b) (getD (t .levels) j [])) refl
+needed-keeps z t j = go (needsCompact (z .geo .b) (getD (t .levels) j [])) refl
   where
     Keeps : List Compaction → Type 0
     Keeps cs = (afterCompactions t cs .top ≡ t .top) × ((i : ℕ) → i ≢ j → getD (afterCompactions t cs .levels) i [] ≡ getD (t .levels) i [])
 
-    go : (b : Bool) → needsCompact (g .b) (getD (t .levels) j []) ≡ b → Keeps (compactIfNeeded g (suc j) t)
-    go true e = subst Keeps (sym (needed-is g t j e)) (refl, λ i n. set-at [] (λ l. l ≡ getD (t .levels) i []) (t .levels) j _ i (λ z. absurd (n z)) refl)
-    go false e = subst Keeps (sym (not-needed g t j e)) (refl, λ i n. refl)
+    go : (b : Bool) → needsCompact (z .geo .b) (getD (t .levels) j []) ≡ b → Keeps (compactIfNeeded (z .geo) (suc j) t)
+    go true e = subst Keeps (sym (needed-is z t j e)) (refl, λ i n. set-at [] (λ l. l ≡ getD (t .levels) i []) (t .levels) j _ i (λ y. absurd (n y)) refl)
+    go false e = subst Keeps (sym (not-needed z t j e)) (refl, λ i n. refl)
 
 -- Step 5 for level j + 1, whose list is lent.
-module _ (g : Geometry) (ws lists : List ℕ) (r : Run) (k : Running 2000000000 g ws lists r) (j level x : ℕ) (el : level ≡ suc j) (high : level ≤ g .h) (ex : x ≡ g .h) where
+module _ (z : Layout) (ws lists : List ℕ) (r : Run) (k : Running 2000000000 z ws lists r) (j level x : ℕ) (el : level ≡ suc j) (high : level ≤ z .geo .h) (ex : x ≡ z .geo .h) where
   abbrev t : Store
-  t = storeOf g ws lists r
+  t = storeOf z ws lists r
 
-  low : j < g .h
+  low : j < z .geo .h
   low = omega arith
 
   -- what `entries` asks
   pub entries-ask : (level ≤ x) × ((x ≤ 3) × ((getD (r .ns) j 0 ≤ partRoom x level) × (length lists ≡ 4096)))
-  entries-ask = rw (ex, el) (low, (k .valid .ranged .h-high, (in-part g (k .entry) t ws lists r (k .valid) (k .inside) (k .stands) j low, k .stands .listed .long)))
+  entries-ask = rw (ex, el) (low, (k .proper .valid .ranged .h-high, (in-part z (k .entry) t ws lists r (k .proper) (k .inside) (k .stands) j low, k .stands .listed .long)))
 
   -- what it lends
   abbrev list : List ℕ
   list = take (getD (r .ns) j 0) (partOf x lists level)
 
-  list-is : list ≡ listOf (g .h) lists (r .ns) j
+  list-is : list ≡ listOf (z .geo .h) lists (r .ns) j
   list-is = rw (ex, el)
 
   -- what `needs_compacting` asks
-  pub due-asks : Countable g ws list
-  due-asks = rw list-is (countable g (k .entry) t ws lists r (k .valid) (k .inside) (k .stands) j low)
+  pub due-asks : Countable z ws list
+  due-asks = rw list-is (countable z (k .entry) t ws lists r (k .proper) (k .inside) (k .stands) j low)
 
-  blocks-are : map (blockAt g ws) list ≡ getD (t .levels) j []
-  blocks-are = ap (map (blockAt g ws)) list-is ∙ level-is g (k .entry) t ws lists r (k .valid) (k .inside) (k .stands) j low
+  blocks-are : map (blockAt z ws) list ≡ getD (t .levels) j []
+  blocks-are = ap (map (blockAt z ws)) list-is ∙ level-is z (k .entry) t ws lists r (k .proper) (k .inside) (k .stands) j low
 
   -- a level that does not need compacting
-  pub kept-level : needsCompact (g .b) (map (blockAt g ws) list) ≡ false → (s : Store) → s ≡ t
-      → Leaving g (afterCompactions s (compactIfNeeded g level s)) (compactedBlocks (compactIfNeeded g level s)) (compactedCounts (compactIfNeeded g level s)) ws r ws lists r
-  unfolding writeBlocks
+  pub kept-level : needsCompact (z .geo .b) (map (blockAt z ws) list) ≡ false → (s : Store) → s ≡ t
+      → Leaving z (afterCompactions s (compactIfNeeded (z .geo) level s)) (compactedBlocks (compactIfNeeded (z .geo) level s)) (compactedCounts (compactIfNeeded (z .geo) level s)) ws r ws lists r
   kept-level h s es =
-      rw (es, el, not-needed g t j (ap (needsCompact (g .b)) (sym blocks-are) ∙ h)) (record { stands = k .stands; area = refl; counts = grown-none (compactedCounts []) (r .tally) (λ i. (refl, refl, refl)) })
+      rw (es, el, not-needed z t j (ap (needsCompact (z .geo .b)) (sym blocks-are) ∙ h)) (record { stands = k .stands; words = held-words z t [] ws ws (k .stands .held) (sym (blocks-none z ws)); counts = grown-none (compactedCounts []) (r .tally) (λ i. (refl, refl, refl)) })
 
   -- a level that needs it, with the marks of the places in use
-  module _ (h : needsCompact (g .b) (map (blockAt g ws) list) ≡ true) (used : List Bool) (ms : Marks used (named (listsOf x lists (r .ns))) × (length used ≡ 8192)) where
+  module _ (h : needsCompact (z .geo .b) (map (blockAt z ws) list) ≡ true) (used : List Bool) (ms : Marks used (named (listsOf x lists (r .ns))) × (length used ≡ 8192)) where
     marks : Marking used t
-    marks = marking g (k .entry) t ws lists r (k .valid) (k .inside) (k .stands) used (rw ex at ms)
+    marks = marking z (k .entry) t ws lists r (k .proper) (k .inside) (k .stands) used (rw ex at ms)
 
-    needs : needsCompact (g .b) (getD (t .levels) j []) ≡ true
-    needs = ap (needsCompact (g .b)) (sym blocks-are) ∙ h
+    needs : needsCompact (z .geo .b) (getD (t .levels) j []) ≡ true
+    needs = ap (needsCompact (z .geo .b)) (sym blocks-are) ∙ h
 
     c : Compaction
-    c = compactLevel g (suc j) t
+    c = compactLevel (z .geo) (suc j) t
 
-    facts : CompactionFacts g (k .entry) c
+    facts : CompactionFacts (z .geo) (k .entry) c
     unfolding c
-    facts = compact-facts g (k .entry) t j (k .valid) low (k .inside) needs
+    facts = compact-facts (z .geo) (k .entry) t j (k .proper .valid) low (k .inside) needs
 
     st : Settled
-    st = settle (g .p) (allocationOf t) (waste.compact (g .b) (getD (t .levels) j []))
+    st = settle (z .geo .p) (allocationOf t) (waste.compact (z .geo .b) (getD (t .levels) j []))
 
     here : getD (c .finish .levels) j [] ≡ st .level
     unfolding c st compactLevel
     here = getD-set-same (t .levels) j (st .level) [] (omega (arith, k .inside .many, low))
 
     new : (placesOf (st .level) ≡ placesAt (c .finish) j) × (length (st .level) ≡ length (placesAt (c .finish) j))
-    new = places-new g (k .entry) (c .finish) (facts .finish-inside) j (st .level) here
+    new = places-new z (k .entry) (c .finish) (facts .finish-inside) j (st .level) here
 
-    fits : length (st .level) ≤ partRoom (g .h) (suc j)
-    fits = part-fits g (k .valid) (suc j) (length (st .level)) low (omega (arith, facts .finish-inside .doubled j, ap length here)) .0
+    fits : length (st .level) ≤ partRoom (z .geo .h) (suc j)
+    fits = part-fits z (k .proper) (suc j) (length (st .level)) low (omega (arith, facts .finish-inside .doubled j, ap length here)) .0
 
     -- what `compact` asks
-    pub list-asks : Compactable g ws used list (r .cursor)
+    pub list-asks : Compactable z ws used list (r .cursor)
     list-asks =
         let s = k .stands in
-        let e = entries-are g (k .entry) t ws lists r (k .valid) (k .inside) s j low in
+        let e = entries-are z (k .entry) t ws lists r (k .proper) (k .inside) s j low in
         rw list-is
         (record {
-          valid = k .valid;
+          proper = k .proper;
           words = s .held .long;
           marks-long = marks .1;
           cursor-low = omega (arith, s .cursor, k .inside .cursor);
-          few = omega (arith, e, inside-short g (k .entry) t (k .valid) (k .inside) j);
-          blocks = mergeables g (k .entry) t ws lists r (k .valid) (k .inside) s j low used (marks .0);
-          free = omega (arith, e, count-few (g .p) used (usedIn t) (marks .0), compact-room-numbers g j (length (usedIn t)) (getD (r .ns) j 0) (k .valid) low (inside-used g (k .entry) t (k .inside)) (omega (arith, e, k .inside .doubled j)));
+          few = omega (arith, e, inside-short z (k .entry) t (k .proper) (k .inside) j);
+          blocks = mergeables z (k .entry) t ws lists r (k .proper) (k .inside) s j low used (marks .0);
+          free = omega (arith, e, count-few (z .geo .p) used (usedIn t) (marks .0), compact-room-numbers (z .geo) j (length (usedIn t)) (getD (r .ns) j 0) (k .proper .valid) low (inside-used (z .geo) (k .entry) t (k .inside)) (omega (arith, e, k .inside .doubled j)));
         })
 
     -- what it leaves
     module _ (ws' : List ℕ) (used' : List Bool) (out : List ℕ) (m : Merged)
-        (left : (a : Allocation) → a .cursor ≡ r .cursor → Marks used (a .used) → Leaves g (settle (g .p) a (waste.compact (g .b) (map (blockAt g ws) list))) ws ws' used' out m) where
-      left-is : Leaves g st ws ws' used' out m
+        (left : (a : Allocation) → a .cursor ≡ r .cursor → Marks used (a .used) → Leaves z (settle (z .geo .p) a (waste.compact (z .geo .b) (map (blockAt z ws) list))) ws ws' used' out m) where
+      left-is : Leaves z st ws ws' used' out m
       unfolding st
       left-is = rw blocks-are at (left (allocationOf t) (sym (k .stands .cursor)) (marks .0))
 
@@ -205,39 +204,39 @@ module _ (g : Geometry) (ws lists : List ℕ) (r : Run) (k : Running 2000000000 
 
       pub list-few : m .writes ≤ 8192
       unfolding c st compactLevel
-      list-few = omega (arith, facts .room, left-is .writes, k .valid .places-high)
+      list-few = omega (arith, facts .room, left-is .writes, k .proper .valid .places-high)
 
       -- the new list, put in its place
       module _ (at : ℕ) (ea : at ≡ partStart x level) where
-        at-is : at ≡ partStart (g .h) (suc j)
+        at-is : at ≡ partStart (z .geo .h) (suc j)
         at-is = ea ∙ rw (ex, el)
 
         pub copy-asks : (0 + m .count ≤ length out) × (at + m .count ≤ length lists)
-        copy-asks = (omega (arith, left-is .count-high, left-is .list-long), omega (arith, at-is, left-is .count, fits, k .stands .listed .long, part-inside (g .h) (suc j)))
+        copy-asks = (omega (arith, left-is .count-high, left-is .list-long), omega (arith, at-is, left-is .count, fits, k .stands .listed .long, part-inside (z .geo .h) (suc j)))
 
-        relisted : Listed (g .h) (g .h) (putAt at (take (m .count) (drop 0 out)) lists) (set (r .ns) j (m .count)) (placesAt (c .finish))
+        relisted : Listed (z .geo .h) (z .geo .h) (putAt at (take (m .count) (drop 0 out)) lists) (set (r .ns) j (m .count)) (placesAt (c .finish))
         unfolding c st
         relisted =
             let q : length (placesOf (st .level)) ≡ m .count = ap length (new .0) ∙ sym (new .1) ∙ sym (left-is .count) in
             rw (at-is, left-is .list, ← q)
-            (listed-put (g .h) (g .h) (g .h) j lists (r .ns) (placesOf (st .level)) (placesAt t) (placesAt (c .finish)) (k .stands .listed) low (omega arith) (omega arith) (k .valid .ranged .h-high) (λ i a b. a)
+            (listed-put (z .geo .h) (z .geo .h) (z .geo .h) j lists (r .ns) (placesOf (st .level)) (placesAt t) (placesAt (c .finish)) (k .stands .listed) low (omega arith) (omega arith) (k .proper .valid .ranged .h-high) (λ i a b. a)
             (omega (arith, q, left-is .count, fits)) (sym (new .0)) (λ i a. ap (map placeOf) (other i a)))
           where
             other : (i : ℕ) → i ≢ j → getD (c .finish .levels) i [] ≡ getD (t .levels) i []
-            other = rw (needed-is g t j needs) at (needed-keeps g t j .1)
+            other = rw (needed-is z t j needs) at (needed-keeps z t j .1)
 
         pub compacted : (lists' : List ℕ) (u : Run) (tally : Tally) → lists' ≡ putAt at (take (m .count) (drop 0 out)) lists → tally ≡ counted (r .tally) (j + 1) (record { merges = 0; written = 0; compacted = m .writes })
             → u ≡ record { ns = set (r .ns) j (m .count); cursor = m .cursor; tally = tally } → (s : Store) → s ≡ t
-            → Leaving g (afterCompactions s (compactIfNeeded g level s)) (compactedBlocks (compactIfNeeded g level s)) (compactedCounts (compactIfNeeded g level s)) ws r ws' lists' u
+            → Leaving z (afterCompactions s (compactIfNeeded (z .geo) level s)) (compactedBlocks (compactIfNeeded (z .geo) level s)) (compactedCounts (compactIfNeeded (z .geo) level s)) ws r ws' lists' u
         unfolding c st compactLevel
         compacted lists' u tally ep et eu s es =
-            let area : List ℕ = writeBlocks g (areaOf g ws) (st .written) in
-            let held : HoldsBut g ws' (c .finish) = rw (left-is .words) (but-area g ws area t (c .finish) (k .valid) (k .stands .held) refl refl (laid-compaction g (k .entry) c (areaOf g ws) facts (k .stands .held .laid))) in
-            let w : blocksCompacted c ≡ m .writes = compaction-newly g (k .entry) c facts ∙ sym (left-is .writes) in
-            rw (es, el, needed-is g t j needs, eu, append-nil, ep)
+            let fits = top-fits z t ws lists r (k .stands) in
+            let held : HoldsBut z ws' (c .finish) = rw (left-is .words) (but-blocks z ws (st .written) t (c .finish) (k .proper) (k .stands .held) refl refl fits (standing-compaction z (k .proper) (k .entry) c ws (k .stands .held .long) facts (k .stands .held .standing))) in
+            let w : blocksCompacted c ≡ m .writes = compaction-newly (z .geo) (k .entry) c facts ∙ sym (left-is .writes) in
+            rw (es, el, needed-is z t j needs, eu, append-nil, ep)
             (record {
-              stands = stand g (k .entry) (c .finish) ws' _ _ (k .valid) (facts .finish-inside) held (top-fits g (k .entry) t ws lists r (k .valid) (k .inside) (k .stands)) relisted (left-is .cursor);
-              area = ap (areaOf g) (left-is .words) ∙ base-drop g ws (k .stands .held .long) area;
-              counts = grown-counted (compactedCounts (c ∷ [])) (r .tally) tally (suc j) (record { merges = 0; written = 0; compacted = m .writes }) (omega arith) (omega (arith, low, k .valid .ranged .h-high))
+              stands = stand z (k .entry) (c .finish) ws' _ _ (k .proper) (facts .finish-inside) held fits relisted (left-is .cursor);
+              words = held-words z (c .finish) (st .written) ws ws' held (left-is .words);
+              counts = grown-counted (compactedCounts (c ∷ [])) (r .tally) tally (suc j) (record { merges = 0; written = 0; compacted = m .writes }) (omega arith) (omega (arith, low, k .proper .valid .ranged .h-high))
                   (et ∙ ap (λ (i : ℕ). counted (r .tally) i (record { merges = 0; written = 0; compacted = m .writes })) (add-one j)) (compacted-one c (m .writes) (suc j) refl w);
             })

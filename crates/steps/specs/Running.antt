@@ -5,8 +5,7 @@ use mathlib.Core.Bool.{Bool, true, false}
 use mathlib.Core.List.{List, [], _∷_, _++_, map}
 use lib.Dec.{eqb}
 use lib.ListN.{length, getD}
-use Rattle.geometry.specs.declared.Geometry.{Geometry}
-use Rattle.geometry.specs.Geometry.{Valid, topCapacityOf}
+use Rattle.geometry.specs.Geometry.{topCapacityOf}
 use Rattle.geometry.specs.Room.{placesMost, listRoom}
 use Rattle.levels.specs.Basics.{if_then_else_}
 use Rattle.levels.specs.Record.{Block}
@@ -17,7 +16,9 @@ use Rattle.levels.specs.Count as levels
 use Rattle.levels.specs.Tickets.{ticketOf}
 use Rattle.levels.specs.Inside.{Inside}
 use Rattle.levels.specs.InCall.{MergeFacts}
-use Rattle.words.specs.Layout.{liveAt, topRecs, blockAt, areaOf, writeBlocks}
+use Rattle.pieces.specs.Pieces.{layAll}
+use Rattle.words.specs.Stores.{liveAt, topRecs, blockAt, withBlocks}
+use Rattle.words.specs.Halves.{topPart}
 use Rattle.lists.specs.Flat.{partRoom}
 use Rattle.lists.specs.Lists.{listOf, listsOf, Listed, placesAt}
 use Rattle.lists.specs.Holds.{HoldsBut}
@@ -26,6 +27,8 @@ use Rattle.steps.specs.declared.Counts.{Counts}
 use Rattle.steps.specs.declared.Tally.{Tally}
 use Rattle.steps.specs.declared.Run.{Run}
 use Rattle.steps.specs.declared.Ticketed.{Ticketed}
+use Rattle.layout.specs.Layouts.{Proper}
+use Rattle.layout.specs.declared.Layout.{Layout}
 
 -- all places of these lists
 abbrev pub named : List (List ℕ) → List ℕ
@@ -33,20 +36,20 @@ named [] = []
 named (l ∷ ls) = l ++ named ls
 
 -- the store that the words, the lists and the cursor hold
-unfoldable pub storeOf : Geometry → List ℕ → List ℕ → Run → Store
-storeOf g ws lists r =
+unfoldable pub storeOf : Layout → List ℕ → List ℕ → Run → Store
+storeOf z ws lists r =
     record {
-      live = liveAt ws;
+      live = liveAt z ws;
       cursor = r .cursor;
-      top = topRecs g ws;
-      levels = map (λ (l : List ℕ). map (blockAt g ws) l) (listsOf (g .h) lists (r .ns));
+      top = topRecs z ws;
+      levels = map (λ (l : List ℕ). map (blockAt z ws) l) (listsOf (z .geo .h) lists (r .ns));
     }
 
 -- the words, the lists and the cursor hold the store t
-pub record Stands (g : Geometry) (t : Store) (ws lists : List ℕ) (r : Run) : Type 0 where
-  pub store : storeOf g ws lists r ≡ t
-  pub held : HoldsBut g ws t
-  pub listed : Listed (g .h) (g .h) lists (r .ns) (placesAt t)
+pub record Stands (z : Layout) (t : Store) (ws lists : List ℕ) (r : Run) : Type 0 where
+  pub store : storeOf z ws lists r ≡ t
+  pub held : HoldsBut z ws t
+  pub listed : Listed (z .geo .h) (z .geo .h) lists (r .ns) (placesAt t)
   pub cursor : r .cursor ≡ t .cursor
 
 -- what may be marked: places in the marks' range, within the parts of h levels
@@ -106,18 +109,19 @@ pub record Grown (f : ℕ → levels.Counts) (t u : Tally) : Type 0 where
   pub two : numbersOf (u .two) ≡ plus (numbersOf (t .two)) (f 2)
   pub three : numbersOf (u .three) ≡ plus (numbersOf (t .three)) (f 3)
 
--- What a change leaves: the words and lists hold the store t, these blocks are written, and the tally has grown.
-pub record Leaving (g : Geometry) (t : Store) (blocks : List Block) (f : ℕ → levels.Counts) (ws : List ℕ) (r : Run) (ws' lists' : List ℕ) (r' : Run) : Type 0 where
-  pub stands : Stands g t ws' lists' r'
-  pub area : areaOf g ws' ≡ writeBlocks g (areaOf g ws) blocks
+-- What a change leaves: the words and lists hold the store t, these blocks are written and live, c and level 0 laid anew, every other
+-- word is kept, and the tally has grown.
+pub record Leaving (z : Layout) (t : Store) (blocks : List Block) (f : ℕ → levels.Counts) (ws : List ℕ) (r : Run) (ws' lists' : List ℕ) (r' : Run) : Type 0 where
+  pub stands : Stands z t ws' lists' r'
+  pub words : ws' ≡ layAll (topPart z t) (withBlocks z blocks ws)
   pub counts : Grown f (r .tally) (r' .tally)
 
 -- a moment of a call, between two changes
-pub record Running (n : ℕ) (g : Geometry) (ws lists : List ℕ) (r : Run) : Type 0 where
-  pub valid : Valid g
+pub record Running (n : ℕ) (z : Layout) (ws lists : List ℕ) (r : Run) : Type 0 where
+  pub proper : Proper z
   pub entry : Store
-  pub inside : Inside g entry (storeOf g ws lists r)
-  pub stands : Stands g (storeOf g ws lists r) ws lists r
+  pub inside : Inside (z .geo) entry (storeOf z ws lists r)
+  pub stands : Stands z (storeOf z ws lists r) ws lists r
   pub small : Small n (r .tally)
 
 -- the counts of compactions
@@ -129,12 +133,12 @@ abbrev pub mergedCounts : Merge → ℕ → levels.Counts
 mergedCounts m j = record { merges = if eqb (suc (m .level)) j then 1 else 0; written = if eqb (suc (m .level)) j then blocksMerged m else 0; compacted = 0 }
 
 -- a moment of a call where a merge out of level i is due; level 0 is full then
-pub record StepReady (n : ℕ) (g : Geometry) (ws lists : List ℕ) (level : ℕ) (r : Run) : Type 0 where
-  pub valid : Valid g
+pub record StepReady (n : ℕ) (z : Layout) (ws lists : List ℕ) (level : ℕ) (r : Run) : Type 0 where
+  pub proper : Proper z
   pub entry : Store
-  pub stands : Stands g (storeOf g ws lists r) ws lists r
-  pub facts : MergeFacts g entry (mergeLevel g level (storeOf g ws lists r))
-  pub full : level ≡ 0 → length (storeOf g ws lists r .top) ≡ topCapacityOf g
+  pub stands : Stands z (storeOf z ws lists r) ws lists r
+  pub facts : MergeFacts (z .geo) entry (mergeLevel (z .geo) level (storeOf z ws lists r))
+  pub full : level ≡ 0 → length (storeOf z ws lists r .top) ≡ topCapacityOf (z .geo)
   pub small : Small n (r .tally)
 
 -- the counts of a merge with its step 5
@@ -142,7 +146,7 @@ abbrev pub stepCounts : Merge → ℕ → levels.Counts
 stepCounts m j = levels.countsOf j (m ∷ [])
 
 -- a merge out of a level of the store that stands, without its step 5, and its ticket
-abbrev pub LevelMerged : Geometry → ℕ → List ℕ → List ℕ → Run → List ℕ → List ℕ → Ticketed → Type 0
-LevelMerged g level ws lists r ws' lists' u =
-    (t : Store) → t ≡ storeOf g ws lists r
-    → Leaving g (mergeLevel g level t .finish) (mergeLevel g level t .written) (mergedCounts (mergeLevel g level t)) ws r ws' lists' (u .run) × (u .ticket ≡ ticketOf g (mergeLevel g level t))
+abbrev pub LevelMerged : Layout → ℕ → List ℕ → List ℕ → Run → List ℕ → List ℕ → Ticketed → Type 0
+LevelMerged z level ws lists r ws' lists' u =
+    (t : Store) → t ≡ storeOf z ws lists r
+    → Leaving z (mergeLevel (z .geo) level t .finish) (mergeLevel (z .geo) level t .written) (mergedCounts (mergeLevel (z .geo) level t)) ws r ws' lists' (u .run) × (u .ticket ≡ ticketOf (z .geo) (mergeLevel (z .geo) level t))

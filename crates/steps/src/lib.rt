@@ -2,7 +2,8 @@
 
 ghost use mathlib.Core.Path.{_≡_};
 ghost use Prim.Native.Nat.{_+_, _≤_, _<_};
-ghost use lib.ListN.{length, set};
+ghost use mathlib.Core.Bool.{false};
+ghost use lib.ListN.{length, set, replicate};
 ghost use mathlib.Core.List.{_++_};
 ghost use Rattle.lists.specs.Lists.{listsOf};
 ghost use Rattle.levels.specs.Store.{Store};
@@ -13,6 +14,7 @@ ghost use Rattle.blocks.specs.Blocks.{Marks};
 ghost use Rattle.geometry.specs.Room.{placesMost};
 ghost use Rattle.steps.specs.Running.{named, storeOf, Markable, Marking, sumOf, counted, countsMost, countsBefore, Few, Small, Leaving, Running, compactedCounts, LevelMerged, StepReady, stepCounts};
 use geometry::Geometry;
+use layout::Layout;
 use levels::Ticket;
 use pair::Lengths;
 
@@ -101,16 +103,19 @@ fn ticket(level: usize, first: usize, overlap: usize, written: usize) -> Ticket
 }
 
 // The marks of the places in use, as document 01 has them: `[false; 8192]` filled from the lists.
-fn marks(lists: &[u32; Geometry::LIST_ROOM], h: usize, ns: [usize; 3]) -> [bool; Geometry::MAX_P]
-    requires { ⌜ Markable h (now lists) ns ⌝ }
-    ensures { λ used. ⌜ Marks used (named (listsOf h (now (lists .entry)) ns)) × (length used ≡ placesMost) ⌝ }
+fn marks(
+    used: &mut [bool; Geometry::MAX_P],
+    lists: &[u32; Geometry::LIST_ROOM],
+    h: usize,
+    ns: [usize; 3],
+)
+    requires { ⌜ (now used ≡ replicate placesMost false) × Markable h (now lists) ns ⌝ }
+    ensures { λ _. ⌜ Marks (now (used .exit)) (named (listsOf h (now (lists .entry)) ns)) × (length (now (used .exit)) ≡ placesMost) ⌝ }
 {
-    let mut used = [false; Geometry::MAX_P];
     for i in 0..h {
         let list = lists::entries(lists, h, i + 1, ns[i]);
-        blocks::mark_listed(&mut used, list);
+        blocks::mark_listed(used, list);
     }
-    used
 }
 
 // The lengths of the lists, that of level j + 1 anew.
@@ -128,26 +133,28 @@ fn relist(ns: [usize; 3], j: usize, n: usize) -> [usize; 3]
 fn compact_level(
     s: &mut [u32],
     lists: &mut [u32; Geometry::LIST_ROOM],
-    g: Geometry,
+    z: Layout,
     level: usize,
     r: Run,
 ) -> Run
-    requires { ⌜ Running countsMost g (now s) (now lists) r × ((1 ≤ level) × (level ≤ g .h)) ⌝ }
-    ensures { λ u. ⌜ ((t : Store) → t ≡ storeOf g (now (s .entry)) (now (lists .entry)) r
-        → Leaving g (afterCompactions t (compactIfNeeded g level t)) (compactedBlocks (compactIfNeeded g level t)) (compactedCounts (compactIfNeeded g level t)) (now (s .entry)) r (now (s .exit)) (now (lists .exit)) u) ⌝ }
+    requires { ⌜ Running countsMost z (now s) (now lists) r × ((1 ≤ level) × (level ≤ z .geo .h)) ⌝ }
+    ensures { λ u. ⌜ ((t : Store) → t ≡ storeOf z (now (s .entry)) (now (lists .entry)) r
+        → Leaving z (afterCompactions t (compactIfNeeded (z .geo) level t)) (compactedBlocks (compactIfNeeded (z .geo) level t)) (compactedCounts (compactIfNeeded (z .geo) level t)) (now (s .entry)) r (now (s .exit)) (now (lists .exit)) u) ⌝ }
 {
     let ns = r.ns;
     let j = level - 1;
+    let g = z.geo;
     let h = g.levels();
     let n = ns[j];
     let list = lists::entries(lists, h, level, n);
-    if !compaction::needs_compacting(s, list, g) {
+    if !compaction::needs_compacting(s, list, z) {
         return r;
     }
-    let mut used = marks(lists, h, ns);
+    let mut used = [false; Geometry::MAX_P];
+    marks(&mut used, lists, h, ns);
     let mut out = [0u32; Geometry::LIST_ROOM];
     let old = lists::entries(lists, h, level, n);
-    let m = compaction::compact(s, &mut used, &mut out, old, g, r.cursor);
+    let m = compaction::compact(s, &mut used, &mut out, old, z, r.cursor);
     let at = lists::start_of(h, level);
     slices::copy(&out, 0, m.count, lists, at);
     let counts = Counts {
@@ -169,18 +176,18 @@ fn merge_two(
     s: &mut [u32],
     used: &mut [bool; Geometry::MAX_P],
     lists: &mut [u32; Geometry::LIST_ROOM],
-    g: Geometry,
+    z: Layout,
     level: usize,
     r: Run,
 ) -> Ticketed
-    requires { ⌜ StepReady countsMost g (now s) (now lists) level r × (Marking (now used) (storeOf g (now s) (now lists) r) × (1 ≤ level)) ⌝ }
-    ensures { λ u. ⌜ LevelMerged g level (now (s .entry)) (now (lists .entry)) r (now (s .exit)) (now (lists .exit)) u ⌝ }
+    requires { ⌜ StepReady countsMost z (now s) (now lists) level r × (Marking (now used) (storeOf z (now s) (now lists) r) × (1 ≤ level)) ⌝ }
+    ensures { λ u. ⌜ LevelMerged z level (now (s .entry)) (now (lists .entry)) r (now (s .exit)) (now (lists .exit)) u ⌝ }
 {
     let ns = r.ns;
     let above = ns[level - 1];
     let under = ns[level];
     let lengths = Lengths { above, under };
-    let m = pair::merge_pair(s, used, lists, g, level, lengths, r.cursor);
+    let m = pair::merge_pair(s, used, lists, z, level, lengths, r.cursor);
     let counts = Counts {
         merges: 1,
         written: m.writes,
@@ -204,17 +211,18 @@ fn merge_top(
     s: &mut [u32],
     used: &mut [bool; Geometry::MAX_P],
     lists: &mut [u32; Geometry::LIST_ROOM],
-    g: Geometry,
+    z: Layout,
     r: Run,
 ) -> Ticketed
-    requires { ⌜ StepReady countsMost g (now s) (now lists) 0 r × Marking (now used) (storeOf g (now s) (now lists) r) ⌝ }
-    ensures { λ u. ⌜ LevelMerged g 0 (now (s .entry)) (now (lists .entry)) r (now (s .exit)) (now (lists .exit)) u ⌝ }
+    requires { ⌜ StepReady countsMost z (now s) (now lists) 0 r × Marking (now used) (storeOf z (now s) (now lists) r) ⌝ }
+    ensures { λ u. ⌜ LevelMerged z 0 (now (s .entry)) (now (lists .entry)) r (now (s .exit)) (now (lists .exit)) u ⌝ }
 {
     let ns = r.ns;
     let n = ns[0];
-    let m = pair::merge_pages(s, used, lists, g, n, r.cursor);
+    let m = pair::merge_pages(s, used, lists, z, n, r.cursor);
+    let g = z.geo;
     let w = g.window(0);
-    top::close_gap(s, g, m.first, w);
+    top::close_gap(s, z, m.first, w);
     let counts = Counts {
         merges: 1,
         written: m.writes,
@@ -236,33 +244,35 @@ fn merge_top(
 pub fn merge_step(
     s: &mut [u32],
     lists: &mut [u32; Geometry::LIST_ROOM],
-    g: Geometry,
+    z: Layout,
     level: usize,
     r: Run,
 ) -> Ticketed
-    requires { ⌜ StepReady countsBefore g (now s) (now lists) level r ⌝ }
-    ensures { λ u. ⌜ ((t : Store) → t ≡ storeOf g (now (s .entry)) (now (lists .entry)) r
-        → Leaving g (afterMerge (mergeLevel g level t)) (mergeLevel g level t .written ++ compactedBlocks (mergeLevel g level t .compactions)) (stepCounts (mergeLevel g level t)) (now (s .entry)) r (now (s .exit)) (now (lists .exit)) (u .run)
-        × (u .ticket ≡ ticketOf g (mergeLevel g level t))) ⌝ }
+    requires { ⌜ StepReady countsBefore z (now s) (now lists) level r ⌝ }
+    ensures { λ u. ⌜ ((t : Store) → t ≡ storeOf z (now (s .entry)) (now (lists .entry)) r
+        → Leaving z (afterMerge (mergeLevel (z .geo) level t)) (mergeLevel (z .geo) level t .written ++ compactedBlocks (mergeLevel (z .geo) level t .compactions)) (stepCounts (mergeLevel (z .geo) level t)) (now (s .entry)) r (now (s .exit)) (now (lists .exit)) (u .run)
+        × (u .ticket ≡ ticketOf (z .geo) (mergeLevel (z .geo) level t))) ⌝ }
 {
     let ns = r.ns;
+    let g = z.geo;
     let h = g.levels();
-    let mut used = marks(lists, h, ns);
+    let mut used = [false; Geometry::MAX_P];
+    marks(&mut used, lists, h, ns);
     if level == 0 {
-        let merged = merge_top(s, &mut used, lists, g, r);
+        let merged = merge_top(s, &mut used, lists, z, r);
         let a = merged.run;
         let ticket = merged.ticket;
         return Ticketed {
-            run: compact_level(s, lists, g, 1, a),
+            run: compact_level(s, lists, z, 1, a),
             ticket: ticket,
         };
     }
-    let merged = merge_two(s, &mut used, lists, g, level, r);
+    let merged = merge_two(s, &mut used, lists, z, level, r);
     let a = merged.run;
     let ticket = merged.ticket;
-    let next = compact_level(s, lists, g, level, a);
+    let next = compact_level(s, lists, z, level, a);
     Ticketed {
-        run: compact_level(s, lists, g, level + 1, next),
+        run: compact_level(s, lists, z, level + 1, next),
         ticket: ticket,
     }
 }

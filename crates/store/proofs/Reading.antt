@@ -1,6 +1,6 @@
 -- Laws of the reading calls, for whoever uses them: a store that passes reads as a finite map, and one that does not is turned down for the first reason there is.
 use Prim.Native.Nat.{ℕ, _≤_, _<_}
-use mathlib.Core.Path.{_≡_, refl, sym, ap, _∙_}
+use mathlib.Core.Path.{_≡_, refl, sym, ap, _∙_, subst}
 use mathlib.Core.Bool.{Bool, true, false, and-eq-true-iff}
 use mathlib.Core.List.{List, [], _∷_}
 use mathlib.Core.Option.{none, some}
@@ -9,14 +9,18 @@ use lib.Dec.{leb, eqb}
 use lib.ListN.{length, take, drop}
 use borrow.Author.Tests.{eq-eqb, ne-eqb, leb-true, leb-false, le-leb, lt-leb}
 use Rattle.geometry.specs.declared.Geometry.{Geometry}
-use Rattle.geometry.specs.Geometry.{within, isLegal, placeStart, blockWidth, storeLength, sizeReason}
+use Rattle.geometry.specs.Geometry.{within, isLegal, blockWidth}
 use Rattle.geometry.proofs.Laws.{legal-valid}
 use Rattle.levels.specs.Basics.{if_then_else_}
 use Rattle.levels.specs.Record.{Block, Level, firstKey, lastKey}
-use Rattle.words.specs.Layout.{geometryAt, levelAt, placeOf}
+use Rattle.words.specs.Stores.{part, geometryAt, levelAt, placeOf, layoutAt}
 use Rattle.words.specs.Form.{formed, reasonOf}
 use Rattle.words.specs.Calls.{checkOf, lookUpOf, nextOf, enclosing, partOf, showIn, showOf}
-use Rattle.entry.proofs.Laws.{size-short, size-broken, size-other, sized-opened, ready-reason}
+use Rattle.layout.specs.declared.Layout.{Layout}
+use Rattle.layout.specs.Layouts.{placeStart, sizeReason}
+use Rattle.layout.proofs.Opening.{size-short, size-broken, size-other, sized-opened}
+use Rattle.words.proofs.Reason.{layout-geometry}
+use Rattle.form.proofs.Ready.{ready-reason}
 -- Demand 2: a store that passes reads as one finite map. With the contract of look up, `look-up-map` is what the map has for the key; with
 -- that of next, `next-map` is the map's first record at or above the key, which is the smallest there is (`next-smallest-map`).
 -- The map's keys rise (`map-rises`), none of its records is a mark (`map-unmarked`), their number is live (`live-map`) and at most N (`map-within`).
@@ -28,35 +32,35 @@ pub use Rattle.levels.proofs.Stretch.{stretch-first, stretch-none, find-stretch
 pub use Rattle.words.proofs.Stretch.{stretch-map, stretch-turned-down, filled-keys, filled-pays, filled-keys-behind, filled-pays-behind, filled-lengths, filled-ends, filled-full, stretch-below-last, stretch-goes-on, walk-keys, walk-pays}
 
 -- Show: levels that there are not, and those that there are.
-show-low : (g : Geometry) (ws : List ℕ) (i k : ℕ) → i < 1 → [] ≡ showIn g ws i k
+show-low : (z : Layout) (ws : List ℕ) (i k : ℕ) → i < 1 → [] ≡ showIn z ws i k
 unfolding showIn
-show-low g ws i k h = rw (lt-leb 1 i h, showIn)
+show-low z ws i k h = rw (lt-leb 1 i h, showIn)
 
-show-high : (g : Geometry) (ws : List ℕ) (i k : ℕ) → 1 ≤ i → g .h < i → [] ≡ showIn g ws i k
+show-high : (z : Layout) (ws : List ℕ) (i k : ℕ) → 1 ≤ i → z .geo .h < i → [] ≡ showIn z ws i k
 unfolding showIn
-show-high g ws i k a b = rw (le-leb 1 i a, lt-leb i (g .h) b, showIn)
+show-high z ws i k a b = rw (le-leb 1 i a, lt-leb i (z .geo .h) b, showIn)
 
-show-inside : (g : Geometry) (ws : List ℕ) (i k : ℕ) → 1 ≤ i → i ≤ g .h → showIn g ws i k ≡ partOf g ws (enclosing k (levelAt g ws i))
+show-inside : (z : Layout) (ws : List ℕ) (i k : ℕ) → 1 ≤ i → i ≤ z .geo .h → showIn z ws i k ≡ partOf z ws (enclosing k (levelAt z ws i))
 unfolding showIn
-show-inside g ws i k a b = rw (le-leb 1 i a, le-leb i (g .h) b, showIn)
+show-inside z ws i k a b = rw (le-leb 1 i a, le-leb i (z .geo .h) b, showIn)
 
 module _ (ws : List ℕ) (e : reasonOf ws ≡ 0) where
   none-test : eqb (reasonOf ws) 0 ≡ true
   none-test = eq-eqb (reasonOf ws) 0 e
 
   -- Show, of a level that there is
-  pub show-level : (i k : ℕ) → 1 ≤ i → i ≤ geometryAt ws .h → showOf ws i k ≡ partOf (geometryAt ws) ws (enclosing k (levelAt (geometryAt ws) ws i))
+  pub show-level : (i k : ℕ) → 1 ≤ i → i ≤ geometryAt ws .h → showOf ws i k ≡ partOf (layoutAt ws) ws (enclosing k (levelAt (layoutAt ws) ws i))
   unfolding showOf
-  show-level i k a b = rw (none-test, showOf) (show-inside (geometryAt ws) ws i k a b)
+  show-level i k a b = rw (none-test, showOf) (show-inside (layoutAt ws) ws i k a (subst (λ (g : Geometry). i ≤ g .h) (sym (layout-geometry ws)) b))
 
   -- "an empty part if .. i is another number"
   pub show-no-level : (i k : ℕ) → (1 ≤ i → geometryAt ws .h < i) → showOf ws i k ≡ []
   unfolding showOf
   show-no-level i k h = rw (none-test, showOf) (sym (go (leb 1 i) refl))
     where
-      go : (t : Bool) → leb 1 i ≡ t → [] ≡ showIn (geometryAt ws) ws i k
-      go true q = show-high (geometryAt ws) ws i k (leb-true 1 i q) (h (leb-true 1 i q))
-      go false q = show-low (geometryAt ws) ws i k (leb-false 1 i q)
+      go : (t : Bool) → leb 1 i ≡ t → [] ≡ showIn (layoutAt ws) ws i k
+      go true q = show-high (layoutAt ws) ws i k (leb-true 1 i q) (subst (λ (g : Geometry). g .h < i) (sym (layout-geometry ws)) (h (leb-true 1 i q)))
+      go false q = show-low (layoutAt ws) ws i k (leb-false 1 i q)
 
 -- what Show's block is: "the block whose first to last key encloses k"
 pub enclosing-encloses : (k : ℕ) (l : Level) (b : Block) → enclosing k l ≡ some b → (firstKey (b .recs) ≤ k) × (k ≤ lastKey (b .recs))
@@ -73,13 +77,14 @@ enclosing-encloses k (x ∷ xs) b e = go (within (firstKey (x .recs)) (lastKey (
     go false q z ih = ih z
 
 -- "given back as that part of the lent store": the 2 + 2B words of the block's place
-pub show-block-words : (ws : List ℕ) (e : reasonOf ws ≡ 0) (i k : ℕ) (b : Block) → 1 ≤ i → i ≤ geometryAt ws .h → enclosing k (levelAt (geometryAt ws) ws i) ≡ some b
-    → showOf ws i k ≡ take (blockWidth (geometryAt ws)) (drop (placeStart (geometryAt ws) (placeOf b)) ws)
-show-block-words ws e i k b a h q = show-level ws e i k a h ∙ ap (partOf (geometryAt ws) ws) q
+pub show-block-words : (ws : List ℕ) (e : reasonOf ws ≡ 0) (i k : ℕ) (b : Block) → 1 ≤ i → i ≤ geometryAt ws .h → enclosing k (levelAt (layoutAt ws) ws i) ≡ some b
+    → showOf ws i k ≡ take (blockWidth (layoutAt ws .geo)) (drop (placeStart (layoutAt ws) (placeOf b)) ws)
+unfolding part
+show-block-words ws e i k b a h q = show-level ws e i k a h ∙ ap (partOf (layoutAt ws) ws) q
 
 -- "an empty part if there is none"
-pub show-no-block : (ws : List ℕ) (e : reasonOf ws ≡ 0) (i k : ℕ) → 1 ≤ i → i ≤ geometryAt ws .h → enclosing k (levelAt (geometryAt ws) ws i) ≡ none → showOf ws i k ≡ []
-show-no-block ws e i k a h q = show-level ws e i k a h ∙ ap (partOf (geometryAt ws) ws) q
+pub show-no-block : (ws : List ℕ) (e : reasonOf ws ≡ 0) (i k : ℕ) → 1 ≤ i → i ≤ geometryAt ws .h → enclosing k (levelAt (layoutAt ws) ws i) ≡ none → showOf ws i k ≡ []
+show-no-block ws e i k a h q = show-level ws e i k a h ∙ ap (partOf (layoutAt ws) ws) q
 
 -- "Why a call is turned down. In this order".
 reason-size : (ws : List ℕ) (n : ℕ) → 1 ≤ n → sizeReason (length ws) (geometryAt ws) ≡ n → checkOf ws ≡ n
@@ -95,13 +100,14 @@ pub check-geometry : (ws : List ℕ) → 12 ≤ length ws → isLegal (geometryA
 check-geometry ws h l = reason-size ws 2 (omega arith) (size-broken (length ws) (geometryAt ws) h l)
 
 -- "3. The length differs from the layout's."
-pub check-length : (ws : List ℕ) → 12 ≤ length ws → isLegal (geometryAt ws) ≡ true → (length ws ≡ storeLength (geometryAt ws) → ⊥) → checkOf ws ≡ 3
+pub check-length : (ws : List ℕ) → 12 ≤ length ws → isLegal (geometryAt ws) ≡ true → (length ws ≡ layoutAt ws .length → ⊥) → checkOf ws ≡ 3
+unfolding layoutAt
 check-length ws h l k = reason-size ws 3 (omega arith) (size-other (length ws) (geometryAt ws) h l k)
 
 -- "4. The form check finds a breach."
-pub check-form : (ws : List ℕ) → isLegal (geometryAt ws) ≡ true → length ws ≡ storeLength (geometryAt ws) → checkOf ws ≡ (if formed (geometryAt ws) ws then 0 else 4)
+pub check-form : (ws : List ℕ) → isLegal (geometryAt ws) ≡ true → length ws ≡ layoutAt ws .length → checkOf ws ≡ (if formed (layoutAt ws) ws then 0 else 4)
 unfolding checkOf
-check-form ws l k = ready-reason ws (geometryAt ws) (sized-opened ws (geometryAt ws) (legal-valid (geometryAt ws) l) refl k)
+check-form ws l k = ready-reason ws (layoutAt ws) (sized-opened ws (legal-valid (geometryAt ws) l) k)
 
 -- a call that is turned down: "the answer has only the number and zeros"
 module _ (ws : List ℕ) (h : reasonOf ws ≡ 0 → ⊥) where

@@ -1,6 +1,6 @@
 -- "Why a call is turned down. In this order", of the calls that change the store; for those that read it see Reading.
 use Prim.Native.Nat.{ℕ, _≤_, _<_}
-use mathlib.Core.Path.{_≡_, ap, _∙_}
+use mathlib.Core.Path.{_≡_, sym, ap, _∙_}
 use mathlib.Core.Bool.{true, false}
 use mathlib.Core.List.{List}
 use mathlib.Core.Option.{none}
@@ -9,17 +9,18 @@ use native.Mathlib.Omega.{arith}
 use lib.ListN.{length}
 use borrow.Author.Tests.{ne-eqb}
 use Rattle.geometry.specs.declared.Geometry.{Geometry}
-use Rattle.geometry.specs.Geometry.{keyLimitOf, isLegal, storeLength, sizeReason}
+use Rattle.geometry.specs.Geometry.{keyLimitOf, isLegal}
+use Rattle.layout.specs.Layouts.{old, sizeReason}
 use Rattle.geometry.proofs.Laws.{legal-valid}
 use Rattle.levels.specs.Map.{find}
 use Rattle.levels.specs.Count.{Counts, countsOf}
-use Rattle.words.specs.Layout.{geometryAt}
+use Rattle.words.specs.Stores.{geometryAt}
 use Rattle.words.specs.Form.{reasonOf}
 use Rattle.words.specs.Calls.{ChangeAnswer, mapAt, formatWords, formatOf, checkOf, changeOutcome, putOf, deleteOf}
-use Rattle.words.proofs.Reason.{size-none}
+use Rattle.words.proofs.Reason.{size-none, layout-geometry}
 use Rattle.words.proofs.Formatted.{format-turned-down, format-accepted}
 use Rattle.words.proofs.MapAfter.{put-full-outcome}
-use Rattle.entry.proofs.Laws.{size-short, size-broken, size-other}
+use Rattle.layout.proofs.Opening.{size-short, size-broken, size-other}
 -- Of a store that passes, every delete is accepted, and every put but that of a new key while the map holds N; of all words, 5 is answered there alone.
 pub use Rattle.words.proofs.MapAfter.{put-accepted, delete-accepted, put-full-only}
 
@@ -37,11 +38,11 @@ module _ (ws : List ℕ) (g : Geometry) where
   format-broken h l = format-refused 2 (omega arith) (size-broken (length ws) g h l)
 
   -- "3. The length differs from the layout's."
-  pub format-other : 12 ≤ length ws → isLegal g ≡ true → length ws ≢ storeLength g → formatOf ws g ≡ record { answer = record { reason = 3; limit = 0 }; words = ws }
+  pub format-other : 12 ≤ length ws → isLegal g ≡ true → length ws ≢ old g .length → formatOf ws g ≡ record { answer = record { reason = 3; limit = 0 }; words = ws }
   format-other h l k = format-refused 3 (omega arith) (size-other (length ws) g h l k)
 
   -- and no other reason
-  pub format-fits : isLegal g ≡ true → length ws ≡ storeLength g → formatOf ws g ≡ record { answer = record { reason = 0; limit = keyLimitOf g }; words = formatWords g (length ws) }
+  pub format-fits : isLegal g ≡ true → length ws ≡ old g .length → formatOf ws g ≡ record { answer = record { reason = 0; limit = keyLimitOf g }; words = formatWords (old g) }
   format-fits l k = format-accepted ws g (size-none (length ws) g (legal-valid g l) k)
 
 -- "the answer has only the number and zeros"
@@ -64,4 +65,4 @@ module _ (ws : List ℕ) (h : reasonOf ws ≢ 0) where
 -- "5. A put has a key not in the map while live = N.", of a store that passes
 pub put-turned-down-full : (ws : List ℕ) → reasonOf ws ≡ 0 → (k v : ℕ) → find k (mapAt ws) ≡ none → length (mapAt ws) ≡ keyLimitOf (geometryAt ws) → putOf ws k v ≡ record { answer = onlyNumber 5; words = ws }
 unfolding countsOf
-put-turned-down-full ws e k v h l = put-full-outcome ws e k v h l
+put-turned-down-full ws e k v h l = put-full-outcome ws e k v h (l ∙ ap keyLimitOf (sym (layout-geometry ws)))

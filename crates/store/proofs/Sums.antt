@@ -8,8 +8,6 @@ use lib.Dec.{eqb}
 use lib.ListN.{length}
 use borrow.Author.Tests.{eqb-true, ne-eqb}
 use native.Mathlib.Decide.{ℕ-discrete}
-use Rattle.geometry.specs.declared.Geometry.{Geometry}
-use Rattle.geometry.specs.Geometry.{Valid}
 use Rattle.levels.specs.Basics.{if_then_else_, total}
 use Rattle.levels.specs.Store.{Store}
 use Rattle.levels.specs.Call.{Compaction, Merge}
@@ -21,7 +19,7 @@ use Rattle.levels.proofs.CompactInside.{compaction-newly}
 use Rattle.levels.proofs.CallMerges.{call-merges}
 use Rattle.levels.proofs.CallCounts.{merge-short, merges-high, counts-high}
 use Rattle.levels.proofs.PutDelete.{PutSays, DeleteSays, put-says, delete-says}
-use Rattle.words.specs.Layout.{geometryAt, storeAt}
+use Rattle.words.specs.Stores.{storeAt, layoutAt}
 use Rattle.words.specs.Form.{reasonOf}
 use Rattle.words.specs.Calls.{Outcome, ChangeAnswer, changeAnswer, changeOutcome, putOf, deleteOf}
 use Rattle.words.specs.Passed.{Passed}
@@ -30,6 +28,8 @@ use Rattle.words.proofs.Steps.{put-of, delete-of}
 use Rattle.writer.specs.declared.Changed.{Changed}
 use Rattle.writer.specs.Answers.{changedAnswer}
 use Rattle.store.specs.Change.{SumsFit, PutDone, DeleteDone}
+use Rattle.layout.specs.Layouts.{Proper}
+use Rattle.layout.specs.declared.Layout.{Layout}
 
 -- a compaction is of one level
 one-level : (i x : ℕ) → (if eqb i 1 then x else 0) + (if eqb i 2 then x else 0) + (if eqb i 3 then x else 0) ≤ x
@@ -48,32 +48,32 @@ compacted-levels : (cs : List Compaction) → totalCompacted 1 cs + totalCompact
 compacted-levels [] = omega arith
 compacted-levels (c ∷ cs) = omega (arith, one-level (c .level) (blocksCompacted c), compacted-levels cs)
 
-compacted-most : (g : Geometry) (e : Store) (cs : List Compaction) → Valid g → Every (CompactionFacts g e) cs → total blocksCompacted cs ≤ 8191 * length cs
-compacted-most g e [] v f = omega arith
-compacted-most g e (c ∷ cs) v f = omega (arith, compaction-newly g e c (f .0), f .0 .room, v .places-high, compacted-most g e cs v (f .1))
+compacted-most : (z : Layout) (e : Store) (cs : List Compaction) → Proper z → Every (CompactionFacts (z .geo) e) cs → total blocksCompacted cs ≤ 8191 * length cs
+compacted-most z e [] v f = omega arith
+compacted-most z e (c ∷ cs) v f = omega (arith, compaction-newly (z .geo) e c (f .0), f .0 .room, v .valid .places-high, compacted-most z e cs v (f .1))
 
 abbrev compactedAt : ℕ → List Merge → ℕ
 compactedAt i ms = total (λ (m : Merge). totalCompacted i (m .compactions)) ms
 
-merges-compacted : (g : Geometry) (e : Store) (ms : List Merge) → Valid g → Every (MergeFacts g e) ms → compactedAt 1 ms + compactedAt 2 ms + compactedAt 3 ms ≤ 16382 * length ms
-merges-compacted g e [] v f = omega arith
-merges-compacted g e (m ∷ ms) v f =
-    omega (arith, compacted-levels (m .compactions), compacted-most g e (m .compactions) v (f .0 .five .facts), merge-short g e m (f .0), merges-compacted g e ms v (f .1))
+merges-compacted : (z : Layout) (e : Store) (ms : List Merge) → Proper z → Every (MergeFacts (z .geo) e) ms → compactedAt 1 ms + compactedAt 2 ms + compactedAt 3 ms ≤ 16382 * length ms
+merges-compacted z e [] v f = omega arith
+merges-compacted z e (m ∷ ms) v f =
+    omega (arith, compacted-levels (m .compactions), compacted-most z e (m .compactions) v (f .0 .five .facts), merge-short (z .geo) e m (f .0), merges-compacted z e ms v (f .1))
 
 -- the answer of a change that makes the merges of a call
-made-fit : (g : Geometry) (ws : List ℕ) (k : ℕ) (was : Bool) (ms : List Merge) → Passed g ws → ms ≡ mergesFor g (storeAt g ws) k → SumsFit (changeAnswer 0 was ms)
+made-fit : (z : Layout) (ws : List ℕ) (k : ℕ) (was : Bool) (ms : List Merge) → Passed z ws → ms ≡ mergesFor (z .geo) (storeAt z ws) k → SumsFit (changeAnswer 0 was ms)
 unfolding countsOf
-made-fit g ws k was ms p e =
-    let a = counts-high g (storeAt g ws) (p .valid) (p .fits) (p .sound) k 1 in
-    let b = counts-high g (storeAt g ws) (p .valid) (p .fits) (p .sound) k 2 in
-    let c = counts-high g (storeAt g ws) (p .valid) (p .fits) (p .sound) k 3 in
+made-fit z ws k was ms p e =
+    let a = counts-high (z .geo) (storeAt z ws) (p .proper .valid) (p .fits) (p .sound) k 1 in
+    let b = counts-high (z .geo) (storeAt z ws) (p .proper .valid) (p .fits) (p .sound) k 2 in
+    let c = counts-high (z .geo) (storeAt z ws) (p .proper .valid) (p .fits) (p .sound) k 3 in
     subst (λ (l : List Merge). SumsFit (changeAnswer 0 was l)) (sym e) (record {
       merges = omega (arith, a .0, b .0, c .0);
       merged = omega (arith, a .1, b .1, c .1);
       compacted = omega (
         arith,
-        merges-high g (storeAt g ws) (p .valid) (p .fits) (p .sound) k,
-        merges-compacted g (storeAt g ws) (mergesFor g (storeAt g ws) k) (p .valid) (call-merges g (storeAt g ws) (p .valid) (p .fits) (p .sound) k),
+        merges-high (z .geo) (storeAt z ws) (p .proper .valid) (p .fits) (p .sound) k,
+        merges-compacted z (storeAt z ws) (mergesFor (z .geo) (storeAt z ws) k) (p .proper) (call-merges (z .geo) (storeAt z ws) (p .proper .valid) (p .fits) (p .sound) k),
       );
     })
 
@@ -82,17 +82,17 @@ unfolding countsOf
 none-fit n = record { merges = omega arith; merged = omega arith; compacted = omega arith }
 
 module _ (ws : List ℕ) where
-  put-case : (k v : ℕ) → Passed (geometryAt ws) ws → (c : Change) → PutSays (geometryAt ws) (storeAt (geometryAt ws) ws) k v c → SumsFit (changeOutcome (geometryAt ws) ws c .answer)
+  put-case : (k v : ℕ) → Passed (layoutAt ws) ws → (c : Change) → PutSays (layoutAt ws .geo) (storeAt (layoutAt ws) ws) k v c → SumsFit (changeOutcome (layoutAt ws) ws c .answer)
   unfolding changeOutcome
   put-case k v p (refused n) h = none-fit n
   put-case k v p absent h = none-fit 0
-  put-case k v p (entered was ms t) h = made-fit (geometryAt ws) ws k was ms p (h .merges)
+  put-case k v p (entered was ms t) h = made-fit (layoutAt ws) ws k was ms p (h .merges)
 
-  delete-case : (k : ℕ) → Passed (geometryAt ws) ws → (c : Change) → DeleteSays (geometryAt ws) (storeAt (geometryAt ws) ws) k c → SumsFit (changeOutcome (geometryAt ws) ws c .answer)
+  delete-case : (k : ℕ) → Passed (layoutAt ws) ws → (c : Change) → DeleteSays (layoutAt ws .geo) (storeAt (layoutAt ws) ws) k c → SumsFit (changeOutcome (layoutAt ws) ws c .answer)
   unfolding changeOutcome
   delete-case k p (refused n) h = none-fit n
   delete-case k p absent h = none-fit 0
-  delete-case k p (entered was ms t) h = made-fit (geometryAt ws) ws k was ms p (h .1 .merges)
+  delete-case k p (entered was ms t) h = made-fit (layoutAt ws) ws k was ms p (h .1 .merges)
 
   put-sums : (k v : ℕ) → SumsFit (putOf ws k v .answer)
   unfolding putOf changeOutcome
@@ -102,7 +102,7 @@ module _ (ws : List ℕ) where
       go (yes e) =
           let p = reason-passed ws e in
           subst (λ (x : Outcome ChangeAnswer). SumsFit (x .answer)) (sym (put-of ws k v e))
-          (put-case k v p (put (geometryAt ws) (storeAt (geometryAt ws) ws) k v) (put-says (geometryAt ws) (storeAt (geometryAt ws) ws) (p .valid) (p .fits) (p .sound) k v))
+          (put-case k v p (put (layoutAt ws .geo) (storeAt (layoutAt ws) ws) k v) (put-says (layoutAt ws .geo) (storeAt (layoutAt ws) ws) (p .proper .valid) (p .fits) (p .sound) k v))
       go (no n) = rw (ne-eqb (reasonOf ws) 0 n, putOf) (none-fit (reasonOf ws))
 
   delete-sums : (k : ℕ) → SumsFit (deleteOf ws k .answer)
@@ -113,7 +113,7 @@ module _ (ws : List ℕ) where
       go (yes e) =
           let p = reason-passed ws e in
           subst (λ (x : Outcome ChangeAnswer). SumsFit (x .answer)) (sym (delete-of ws k e))
-          (delete-case k p (delete (geometryAt ws) (storeAt (geometryAt ws) ws) k) (delete-says (geometryAt ws) (storeAt (geometryAt ws) ws) (p .valid) (p .fits) (p .sound) k))
+          (delete-case k p (delete (layoutAt ws .geo) (storeAt (layoutAt ws) ws) k) (delete-says (layoutAt ws .geo) (storeAt (layoutAt ws) ws) (p .proper .valid) (p .fits) (p .sound) k))
       go (no n) = rw (ne-eqb (reasonOf ws) 0 n, deleteOf) (none-fit (reasonOf ws))
 
 -- the sums of what put and delete have answered

@@ -8,7 +8,7 @@ use lib.ListN.{length}
 use Rattle.geometry.specs.Geometry.{keyLimitOf}
 use Rattle.levels.specs.Map.{find}
 use Rattle.levels.specs.Put.{insert, put, delete, mergesOf, without, putRec}
-use Rattle.words.specs.Layout.{geometryAt, storeAt}
+use Rattle.words.specs.Stores.{geometryAt, storeAt, layoutAt}
 use Rattle.words.specs.Form.{reasonOf}
 use Rattle.words.specs.Calls.{Outcome, ChangeAnswer, mapAt, putOf, deleteOf, forecastIn, willPutMergeOf, willDeleteMergeOf}
 use Rattle.words.specs.Demand.{Demand, ownPut, ownDelete}
@@ -31,7 +31,7 @@ pub record PutDone (ws : List ℕ) (k v : ℕ) (r : Changed) (out : List ℕ) : 
   pub foretold : forecastIn (changedAnswer r) ≡ willPutMergeOf ws k
   -- demand 3 of the merges that it has made, where the store is not turned down
   pub demand : reasonOf ws ≡ 0
-      → let g = geometryAt ws in let s = storeAt g ws in Demand g ws (ownPut g s k v) (mergesOf (put g s k v)) (changedAnswer r) out
+      → let z = layoutAt ws in let s = storeAt z ws in Demand z ws (ownPut (z .geo) s k v) (mergesOf (put (z .geo) s k v)) (changedAnswer r) out
 
 -- and a delete of k
 pub record DeleteDone (ws : List ℕ) (k : ℕ) (r : Changed) (out : List ℕ) : Type 0 where
@@ -45,7 +45,7 @@ pub record DeleteDone (ws : List ℕ) (k : ℕ) (r : Changed) (out : List ℕ) :
   -- document 02, card 5: "For a delete the same holds if the key is live, and none if it is absent."
   pub foretold : forecastIn (changedAnswer r) ≡ willDeleteMergeOf ws k
   pub demand : reasonOf ws ≡ 0
-      → let g = geometryAt ws in let s = storeAt g ws in Demand g ws (ownDelete g s k) (mergesOf (delete g s k)) (changedAnswer r) out
+      → let z = layoutAt ws in let s = storeAt z ws in Demand z ws (ownDelete (z .geo) s k) (mergesOf (delete (z .geo) s k)) (changedAnswer r) out
 
 -- merges, blocks written by them and blocks written by compacting, each over all levels, are words
 pub record SumsFit (a : ChangeAnswer) : Type 0 where

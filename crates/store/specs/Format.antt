@@ -1,9 +1,10 @@
 -- What the parts of format write.
 use Prim.Native.Nat.{ℕ, _-_}
-use mathlib.Core.List.{List}
-use lib.ListN.{set}
-use Rattle.geometry.specs.declared.Geometry.{Geometry}
+use mathlib.Core.List.{List, [], _∷_}
+use lib.ListN.{getD}
+use Rattle.layout.specs.declared.Layout.{Layout}
+use Rattle.pieces.specs.Pieces.{piece, layAll}
 
--- "the six of the geometry and hand = P − 1", over other words
-unfoldable pub headed : List ℕ → Geometry → List ℕ
-headed ws g = set (set (set (set (set (set (set ws 0 (g .b)) 1 (g .w)) 2 (g .d)) 3 (g .g)) 4 (g .h)) 5 (g .p)) 7 (g .p - 1)
+-- "the six of the geometry and hand = P − 1", over other words: P is the sixth
+unfoldable pub headed : Layout → List ℕ → List ℕ → List ℕ
+headed z six ws = layAll (piece (z .six) six ∷ piece (z .hand) ((getD six 5 0 - 1) ∷ []) ∷ []) ws

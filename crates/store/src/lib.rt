@@ -2,9 +2,10 @@
 
 ghost use mathlib.Core.Path.{_≡_};
 ghost use Prim.Native.Nat.{_≤_};
-ghost use lib.ListN.{length};
+ghost use lib.ListN.{length, getD};
 ghost use Rattle.geometry.specs.Geometry.{Valid, keyLimitOf};
 ghost use Rattle.levels.specs.Tickets.{laid};
+ghost use Rattle.layout.specs.Layouts.{Fitted};
 ghost use Rattle.words.specs.Rows.{rowsOf};
 ghost use Rattle.words.specs.Calls.{Outcome, FormatAnswer, StretchAnswer, StretchOutcome, formatOf, checkOf, lookUpOf, nextOf, stretchOf, showOf, aboutOf, putTickets, deleteTickets, willPutMergeOf, willDeleteMergeOf};
 ghost use Rattle.tickets.specs.Gathering.{ticketsIn};
@@ -14,8 +15,9 @@ ghost use Rattle.store.specs.Answers.{formatAnswer};
 ghost use Rattle.store.specs.Change.{PutDone, DeleteDone};
 ghost use Rattle.store.specs.Format.{headed};
 ghost use Rattle.store.specs.Show.{showPart};
-use entry::Opened;
 use geometry::Geometry;
+use layout::Layout;
+use layout::Opened;
 use levels::Ticket;
 use reader::Looked;
 use reader::Nexted;
@@ -37,29 +39,26 @@ pub fn format(s: &mut [u32], b: u32, w: u32, d: u32, g: u32, h: u32, p: u32) -> 
     ensures { λ r. ⌜ _≡_ {A = Outcome FormatAnswer} (record { answer = formatAnswer r; words = now (s .exit) })
         (formatOf (now (s .entry)) (record { b = b; w = w; d = d; g = g; h = h; p = p })) ⌝ }
 {
-    match entry::fit(s.len(), b, w, d, g, h, p) {
+    match layout::fit(s.len(), b, w, d, g, h, p) {
         Opened::Refused(n) => Formatted::Refused(n),
-        Opened::Ready(t) => {
+        Opened::Ready(z) => {
             let n = s.len();
             slices::clear(s, 0, n);
-            put_header(s, b, w, d, g, h, p);
-            Formatted::Done(limit(t))
+            put_header(s, z, [b, w, d, g, h, p]);
+            Formatted::Done(limit(z.geo))
         }
     }
 }
 
 // The words of a fresh store that are not 0: hand stands before place 0, so that the first block goes there.
-fn put_header(s: &mut [u32], b: u32, w: u32, d: u32, g: u32, h: u32, p: u32)
-    requires { ⌜ (8 ≤ length (now s)) × (1 ≤ p) ⌝ }
-    ensures { λ _. ⌜ now (s .exit) ≡ headed (now (s .entry)) (record { b = b; w = w; d = d; g = g; h = h; p = p }) ⌝ }
+fn put_header(s: &mut [u32], z: Layout, six: [u32; 6])
+    requires { ⌜ Fitted z (now s) × ((length six ≡ 6) × (1 ≤ getD six 5 0)) ⌝ }
+    ensures { λ _. ⌜ now (s .exit) ≡ headed z six (now (s .entry)) ⌝ }
 {
-    s[0] = b;
-    s[1] = w;
-    s[2] = d;
-    s[3] = g;
-    s[4] = h;
-    s[5] = p;
-    s[7] = p - 1;
+    let at = z.six;
+    slices::copy(&six, 0, 6, s, at);
+    let hand = z.hand;
+    s[hand] = six[5] - 1;
 }
 
 // N as the word that a caller is given.
@@ -86,7 +85,7 @@ pub fn look_up(s: &[u32], k: u32) -> Looked
 {
     match form::check(s) {
         Opened::Refused(n) => Looked::Refused(n),
-        Opened::Ready(g) => reader::look_answer(reader::find_key(s, g, k as usize)),
+        Opened::Ready(z) => reader::look_answer(reader::find_key(s, z, k as usize)),
     }
 }
 
@@ -96,7 +95,7 @@ pub fn next(s: &[u32], k: u32) -> Nexted
 {
     match form::check(s) {
         Opened::Refused(n) => Nexted::Refused(n),
-        Opened::Ready(g) => reader::next_key(s, g, k as usize),
+        Opened::Ready(z) => reader::next_key(s, z, k as usize),
     }
 }
 
@@ -108,8 +107,8 @@ pub fn stretch(s: &[u32], first: u32, last: u32, keys: &mut [u32], pays: &mut [u
 {
     match form::check(s) {
         Opened::Refused(n) => Stretched::Refused(n),
-        Opened::Ready(g) => {
-            reader::list_stretch(s, g, first as usize, last as usize, keys, pays)
+        Opened::Ready(z) => {
+            reader::list_stretch(s, z, first as usize, last as usize, keys, pays)
         }
     }
 }
@@ -128,13 +127,13 @@ pub fn show(s: &[u32], level: u32, k: u32) -> &[u32]
 pub fn show_at(s: &[u32], level: u32, k: u32) -> Part
     ensures { λ r. ⌜ r ≡ showPart (now (s .entry)) level k ⌝ }
 {
-    let Opened::Ready(g) = form::check(s) else {
+    let Opened::Ready(z) = form::check(s) else {
         return Part {
             start: 0,
             length: 0,
         };
     };
-    reader::show_block(s, g, level as usize, k as usize)
+    reader::show_block(s, z, level as usize, k as usize)
 }
 
 // What the store says of itself: its geometry, live, N, and how full its levels are.
@@ -143,7 +142,7 @@ pub fn about(s: &[u32]) -> Told
 {
     match form::check(s) {
         Opened::Refused(n) => Told::Refused(n),
-        Opened::Ready(g) => Told::Known(reader::facts_of(s, g)),
+        Opened::Ready(z) => Told::Known(reader::facts_of(s, z)),
     }
 }
 
@@ -154,7 +153,7 @@ pub fn will_put_merge(s: &[u32], k: u32) -> Forecast
 {
     match form::check(s) {
         Opened::Refused(n) => Forecast::Refused(n),
-        Opened::Ready(g) => writer::foresee_put(s, g, k),
+        Opened::Ready(z) => writer::foresee_put(s, z, k),
     }
 }
 
@@ -164,7 +163,7 @@ pub fn will_delete_merge(s: &[u32], k: u32) -> Forecast
 {
     match form::check(s) {
         Opened::Refused(n) => Forecast::Refused(n),
-        Opened::Ready(g) => writer::foresee_delete(s, g, k),
+        Opened::Ready(z) => writer::foresee_delete(s, z, k),
     }
 }
 
@@ -191,7 +190,7 @@ pub fn put_rows(s: &mut [u32], k: u32, v: u32, rows: &mut [[u32; 4]]) -> Changed
 {
     match form::check(s) {
         Opened::Refused(n) => Changed::Refused(n),
-        Opened::Ready(g) => writer::put_ready(s, g, k, v, rows),
+        Opened::Ready(z) => writer::put_ready(s, z, k, v, rows),
     }
 }
 
@@ -202,7 +201,7 @@ pub fn delete_rows(s: &mut [u32], k: u32, rows: &mut [[u32; 4]]) -> Changed
 {
     match form::check(s) {
         Opened::Refused(n) => Changed::Refused(n),
-        Opened::Ready(g) => writer::delete_ready(s, g, k, rows),
+        Opened::Ready(z) => writer::delete_ready(s, z, k, rows),
     }
 }
 

@@ -10,7 +10,7 @@ use lib.Dec.{leb, eqb}
 use borrow.Author.Tests.{le-leb, leb-true, leb-false}
 use Rattle.levels.specs.Basics.{if_then_else_}
 use Rattle.levels.proofs.Basics.{and-left, and-right, if-either}
-use Rattle.blocks.specs.declared.Layout.{Layout}
+use Rattle.blocks.specs.declared.Offsets.{Offsets}
 use Rattle.blocks.specs.Blocks.{nextMark}
 use Rattle.sides.specs.declared.Head.{Head}
 use Rattle.sides.specs.Sides.{HeadOk, first}
@@ -20,11 +20,11 @@ use Rattle.stream.specs.declared.Move.{Move}
 use Rattle.stream.specs.declared.Inputs.{Inputs}
 use Rattle.stream.specs.Machine.{Memory, Movable, Ready, Turned, pointAfter, movedTo, chosen, flushed, writtenAt, turn, turns, idle}
 
-pub flushed-m : (z : Layout) (a : Memory) → flushed z a .st .m ≤ a .st .m + 1
+pub flushed-m : (z : Offsets) (a : Memory) → flushed z a .st .m ≤ a .st .m + 1
 unfolding flushed
 flushed-m z a = if-either (λ (b : Memory). b .st .m ≤ a .st .m + 1) (eqb (a .st .buf .n) 0) a (writtenAt z a (nextMark (z .p) (a .used) (a .st .cursor))) (omega arith) (omega arith)
 
-pub flushed-y : (z : Layout) (a : Memory) → flushed z a .st .y ≡ a .st .y
+pub flushed-y : (z : Offsets) (a : Memory) → flushed z a .st .y ≡ a .st .y
 unfolding flushed
 flushed-y z a = if-either (λ (b : Memory). b .st .y ≡ a .st .y) (eqb (a .st .buf .n) 0) a (writtenAt z a (nextMark (z .p) (a .used) (a .st .cursor))) refl refl
 
@@ -46,7 +46,7 @@ pub if-false : {A : Type 0} (t : Bool) (a b : A) → t ≡ false → (if t then 
 if-false true a b e = absurd (true≢false e)
 if-false false a b e = refl
 
-module _ (z : Layout) (t : Inputs) (xs ys : List ℕ) where
+module _ (z : Offsets) (t : Inputs) (xs ys : List ℕ) where
   -- idle is what stands at both ends
   pub idle-of : (a : Memory) → t .x ≤ a .st .x .i → t .y ≤ a .st .y .i → idle z t xs ys a ≡ true
   idle-of a h l = rw (le-leb (t .x) (a .st .x .i) h, le-leb (t .y) (a .st .y .i) l)
@@ -105,7 +105,7 @@ module _ (z : Layout) (t : Inputs) (xs ys : List ℕ) where
         (dite (decLt limit (f .count)) (λ l. absurd (true≢false (sym over ∙ (ap (idle z t xs ys) (sym (f .same ∙ turns-past limit (f .count) a over (omega arith))) ∙ e)))) (λ l. r (f .count) (omega arith)))
 
 -- the places, the buffer and the list are not touched by a move of the sides
-pub moved-movable : (z : Layout) (xs : List ℕ) (used : List Bool) (w : Progress) (x y : Point) → Movable z xs used w → Movable z xs used (movedTo w x y)
+pub moved-movable : (z : Offsets) (xs : List ℕ) (used : List Bool) (w : Progress) (x y : Point) → Movable z xs used w → Movable z xs used (movedTo w x y)
 moved-movable z xs used w x y k =
     let f = k .flushable in
     record {
@@ -114,6 +114,6 @@ moved-movable z xs used w x y k =
       room = k .room;
     }
 
-pub chosen-ok : (z : Layout) (bottom : Bool) (xs : List ℕ) (p q : Point) (x y : Head) (n e : ℕ) → HeadOk x → HeadOk y → HeadOk (chosen z bottom xs p q x y n e .head)
+pub chosen-ok : (z : Offsets) (bottom : Bool) (xs : List ℕ) (p q : Point) (x y : Head) (n e : ℕ) → HeadOk x → HeadOk y → HeadOk (chosen z bottom xs p q x y n e .head)
 unfolding chosen
 chosen-ok z bottom xs p q x y n e kx ky = if-either (λ (c : Move). HeadOk (c .head)) (first y x) _ _ ky (if-either (λ (c : Move). HeadOk (c .head)) (first x y) _ _ kx kx)

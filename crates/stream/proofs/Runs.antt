@@ -9,7 +9,7 @@ use lib.ListN.{length, getD}
 use borrow.Author.Tests.{lt-leb, le-ltb, ltb-true, leb-false, ne-eqb}
 use Rattle.levels.specs.Basics.{if_then_else_}
 use Rattle.levels.proofs.Basics.{and-left, if-either}
-use Rattle.blocks.specs.declared.Layout.{Layout}
+use Rattle.blocks.specs.declared.Offsets.{Offsets}
 use Rattle.blocks.specs.declared.Buffer.{Buffer}
 use Rattle.blocks.specs.Blocks.{pushed}
 use Rattle.sides.specs.declared.Chunk.{Chunk}
@@ -26,7 +26,7 @@ use Rattle.stream.proofs.Laws.{if-true, if-false, chosen-ok}
 use Rattle.stream.proofs.Taking.{taken-few, filled-not}
 
 -- a gathered record goes to the buffer, which is written if it is full then
-gather-fills : (z : Layout) (bottom : Bool) (a : Memory) (h : Head) → a .st .buf .n < z .b
+gather-fills : (z : Offsets) (bottom : Bool) (a : Memory) (h : Head) → a .st .buf .n < z .b
     → gathered z bottom a h ≡ filled z (withProgress a (withBuffer (a .st) (taken bottom (a .st .buf) (h .key) (h .tombstone) (h .pay))))
 unfolding gathered filled taken
 gather-fills z bottom a h l = go (bottom && eqb (h .tombstone) 1)
@@ -52,23 +52,23 @@ and-none true q e = e
 and-none false q e = refl
 
 -- the block of a record that is not its first does not follow as it stands
-follows-late : (z : Layout) (bottom : Bool) (ws : List ℕ) (c : Chunk) (j : ℕ) (o : Head) (n e : ℕ) → 1 ≤ j → follows z bottom ws (headAt ws c j) o n e ≡ false
+follows-late : (z : Offsets) (bottom : Bool) (ws : List ℕ) (c : Chunk) (j : ℕ) (o : Head) (n e : ℕ) → 1 ≤ j → follows z bottom ws (headAt ws c j) o n e ≡ false
 unfolding follows wholeBelow
 follows-late z bottom ws c j o n e l =
     let w : (c .listed && eqb j 0) ≡ false = and-none (c .listed) (eqb j 0) (ne-eqb j 0 (λ s. omega arith)) in
     if-either (λ (v : Bool). v ≡ false) (eqb n 0) _ _ (and-no _ _ (and-no _ _ w)) (and-no _ _ (and-no _ _ w))
 
 -- a side that is not used up stands at a record of its block
-head-is : (z : Layout) (pages : Bool) (ws list : List ℕ) (i j end : ℕ) → i < end → headOf z pages ws list i j end ≡ headAt ws (chunkOf z pages ws list i) j
+head-is : (z : Offsets) (pages : Bool) (ws list : List ℕ) (i j end : ℕ) → i < end → headOf z pages ws list i j end ≡ headAt ws (chunkOf z pages ws list i) j
 unfolding headOf
 head-is z pages ws list i j end l = if-false (leb end i) noHead (headAt ws (chunkOf z pages ws list i) j) (lt-leb _ _ l)
 
-chosen-lower : (z : Layout) (bottom : Bool) (ws : List ℕ) (p q : Point) (x y : Head) (n e : ℕ) → first y x ≡ true → follows z bottom ws y x n e ≡ false
+chosen-lower : (z : Offsets) (bottom : Bool) (ws : List ℕ) (p q : Point) (x y : Head) (n e : ℕ) → first y x ≡ true → follows z bottom ws y x n e ≡ false
     → chosen z bottom ws p q x y n e ≡ record { x = p; y = pointAfter q (y .n) false; head = y; whole = false }
 unfolding chosen
 chosen-lower z bottom ws p q x y n e f w = if-true (first y x) _ _ f ∙ ap (λ (v : Bool). record { x = p; y = pointAfter q (y .n) v; head = y; whole = v }) w
 
-chosen-upper : (z : Layout) (bottom : Bool) (ws : List ℕ) (p q : Point) (x y : Head) (n e : ℕ) → first y x ≡ false → first x y ≡ true → follows z bottom ws x y n e ≡ false
+chosen-upper : (z : Offsets) (bottom : Bool) (ws : List ℕ) (p q : Point) (x y : Head) (n e : ℕ) → first y x ≡ false → first x y ≡ true → follows z bottom ws x y n e ≡ false
     → chosen z bottom ws p q x y n e ≡ record { x = pointAfter p (x .n) false; y = q; head = x; whole = false }
 unfolding chosen
 chosen-upper z bottom ws p q x y n e l f w = if-false (first y x) _ _ l ∙ (if-true (first x y) _ _ f ∙ ap (λ (v : Bool). record { x = pointAfter p (x .n) v; y = q; head = x; whole = v }) w)
@@ -89,10 +89,10 @@ run-one ws bottom h c j b e =
     subst (λ (v : Head). takenRun ws bottom v j b 1 ≡ taken bottom b (v .key) (v .tombstone) (v .pay)) (sym e)
     (ap (λ (k : ℕ). taken bottom b (getD ws (c .keys + k) 0) (getD ws (c .marks) 0 / 2 ^ k % 2) (getD ws (c .pays + k) 0)) s)
 
-live : (z : Layout) (pages : Bool) (ws list : List ℕ) (i j end : ℕ) → headOf z pages ws list i j end .some ≡ true → i < end
+live : (z : Offsets) (pages : Bool) (ws list : List ℕ) (i j end : ℕ) → headOf z pages ws list i j end .some ≡ true → i < end
 live z pages ws list i j end s = leb-false end i (head-none z pages ws list i j end ∙ ap not s)
 
-runnable-at : (z : Layout) (ws : List ℕ) (w : Progress) (m : Move) (p : Point) (h : Head) (more : ℕ) → m .head ≡ h → Standing ws p h → p .j + more < h .n → w .buf .n + more < z .b → w .buf .marks < 2 ^ w .buf .n
+runnable-at : (z : Offsets) (ws : List ℕ) (w : Progress) (m : Move) (p : Point) (h : Head) (more : ℕ) → m .head ≡ h → Standing ws p h → p .j + more < h .n → w .buf .n + more < z .b → w .buf .marks < 2 ^ w .buf .n
     → Runnable z ws w (record { next = m; from = p .j; more = more })
 runnable-at z ws w m p h more e s l r b =
     record {
@@ -121,7 +121,7 @@ grown-cases P p q x y c more f g h i = go (c .whole) (first y x) (first x y) ref
     go false false false ew el eu = i ew el eu
 
 -- The side that moves may be X or Y: `X p` and `Y p` say where both stand when it stands at p.
-module _ (z : Layout) (t : Inputs) (xs ys : List ℕ) (a : Memory) (X Y : Point → Point) where
+module _ (z : Offsets) (t : Inputs) (xs ys : List ℕ) (a : Memory) (X Y : Point → Point) where
   abbrev pub at : Point → Buffer → Memory
   at p u = record { words = a .words; used = a .used; out = a .out; st = record { x = X p; y = Y p; m = a .st .m; writes = a .st .writes; cursor = a .st .cursor; buf = u } }
 
@@ -190,7 +190,7 @@ module _ (z : Layout) (t : Inputs) (xs ys : List ℕ) (a : Memory) (X Y : Point 
           let s : j + 0 ≡ j = omega arith in
           sym (run-turns more (one-goes room more g f w k) awake r (k .inside)) ∙ ap (λ (v : ℕ). turns z t xs ys (suc more) (at (record { i = i; j = v }) b)) s)
 
-module _ (z : Layout) (t : Inputs) (xs ys : List ℕ) (a : Memory) where
+module _ (z : Offsets) (t : Inputs) (xs ys : List ℕ) (a : Memory) where
   abbrev p : Point
   p = a .st .x
 
@@ -320,7 +320,7 @@ module _ (z : Layout) (t : Inputs) (xs ys : List ℕ) (a : Memory) where
         (λ w u f v. let s = sx (tie-live i u f) in runnable-at z (a .words) (a .st) _ p x 0 (tie-is u f) s (let h = s .inside in omega arith) (let l = gs .few in omega arith) (gs .bits))
 
 -- what step asks of a side that has a record
-pub standing : (z : Layout) (pages : Bool) (ws list : List ℕ) (p : Point) (end : ℕ) → Readable z pages ws list (p .i) (p .j) end → headOf z pages ws list (p .i) (p .j) end .some ≡ true → Standing ws p (headOf z pages ws list (p .i) (p .j) end)
+pub standing : (z : Offsets) (pages : Bool) (ws list : List ℕ) (p : Point) (end : ℕ) → Readable z pages ws list (p .i) (p .j) end → headOf z pages ws list (p .i) (p .j) end .some ≡ true → Standing ws p (headOf z pages ws list (p .i) (p .j) end)
 standing z pages ws list p end k s =
     let r = head-row z pages ws list (p .i) (p .j) end k s in
     record { low = head-some z pages ws list (p .i) (p .j) end k s .0; inside = head-inside z pages ws list (p .i) (p .j) end k s; count = head-ok z pages ws list (p .i) (p .j) end k .n; row = r }

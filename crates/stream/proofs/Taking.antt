@@ -11,7 +11,7 @@ use lib.Seq.{getD-take, getD-drop}
 use lib.Pow.{shl-exact, pow-mono}
 use borrow.Author.Tests.{le-leb, lt-leb, lt-ltb, not-true, not-false}
 use Rattle.levels.proofs.Basics.{if-either}
-use Rattle.blocks.specs.declared.Layout.{Layout}
+use Rattle.blocks.specs.declared.Offsets.{Offsets}
 use Rattle.blocks.specs.declared.Buffer.{Buffer}
 use Rattle.blocks.specs.Blocks.{pushed}
 use Rattle.sides.specs.declared.Head.{Head}
@@ -64,16 +64,16 @@ held-next xs bottom a j b k u w h e =
       bits = subst (λ (v : Buffer). v .marks < 2 ^ v .n) (sym e) (taken-bits bottom u key t pay (omega arith) (h .bits));
     }
 
-pub filled-not : (z : Layout) (a : Memory) → a .st .buf .n < z .b → filled z a ≡ a
+pub filled-not : (z : Offsets) (a : Memory) → a .st .buf .n < z .b → filled z a ≡ a
 unfolding filled
 filled-not z a l = if-false (leb (z .b) (a .st .buf .n)) (flushed z a) a (lt-leb _ _ l)
 
 -- the buffer is written at the end of a run, or not
-pub fill-full : (z : Layout) (a : Memory) (u v : Buffer) → u ≡ v → z .b ≤ u .n → flushed z (withProgress a (withBuffer (a .st) u)) ≡ filled z (withProgress a (withBuffer (a .st) v))
+pub fill-full : (z : Offsets) (a : Memory) (u v : Buffer) → u ≡ v → z .b ≤ u .n → flushed z (withProgress a (withBuffer (a .st) u)) ≡ filled z (withProgress a (withBuffer (a .st) v))
 unfolding filled
 fill-full z a u v e l = sym (if-true (leb (z .b) (u .n)) _ _ (le-leb _ _ l)) ∙ ap (λ (w : Buffer). filled z (withProgress a (withBuffer (a .st) w))) e
 
-pub fill-more : (z : Layout) (a : Memory) (u v : Buffer) → u ≡ v → u .n < z .b → withProgress a (withBuffer (a .st) u) ≡ filled z (withProgress a (withBuffer (a .st) v))
+pub fill-more : (z : Offsets) (a : Memory) (u v : Buffer) → u ≡ v → u .n < z .b → withProgress a (withBuffer (a .st) u) ≡ filled z (withProgress a (withBuffer (a .st) v))
 fill-more z a u v e l = sym (filled-not z (withProgress a (withBuffer (a .st) u)) l) ∙ ap (λ (w : Buffer). filled z (withProgress a (withBuffer (a .st) w))) e
 
 -- the code's record is the pushed one: the mark bit's shift loses nothing
@@ -124,7 +124,7 @@ ahead-some xs a other j room left t s l h r e =
     or-true false = refl
 
 -- the buffer is not touched by a move of the sides
-pub moved-runnable : (z : Layout) (xs : List ℕ) (w : Progress) (x y : Point) (r : Run) → Runnable z xs w r → Runnable z xs (movedTo w x y) r
+pub moved-runnable : (z : Offsets) (xs : List ℕ) (w : Progress) (x y : Point) (r : Run) → Runnable z xs w r → Runnable z xs (movedTo w x y) r
 moved-runnable z xs w x y r k = record { room = k .room; bits = k .bits; low = k .low; keys = k .keys; pays = k .pays }
 
 -- The four ways out of `run_on`: the block follows as it stands, both sides have the key, or one side comes first.

@@ -6,7 +6,7 @@ use mathlib.Core.List.{List}
 use lib.Dec.{leb, ltb, eqb}
 use lib.ListN.{length, getD, set}
 use Rattle.levels.specs.Basics.{if_then_else_}
-use Rattle.blocks.specs.declared.Layout.{Layout}
+use Rattle.blocks.specs.declared.Offsets.{Offsets}
 use Rattle.blocks.specs.declared.Buffer.{Buffer}
 use Rattle.blocks.specs.Blocks.{Sized, SomeFree, nextMark, pushed, emptyBuffer, written}
 use Rattle.blocks.specs.Room.{placesMost, listRoom}
@@ -26,7 +26,7 @@ pub record Memory : Type 0 where
   pub st : Progress
 
 -- a buffer can be written
-pub record Flushable (z : Layout) (xs : List ℕ) (used : List Bool) (w : Progress) : Type 0 where
+pub record Flushable (z : Offsets) (xs : List ℕ) (used : List Bool) (w : Progress) : Type 0 where
   pub sized : Sized z xs
   pub cursor : w .cursor < z .p
   pub full : w .buf .n ≤ 16
@@ -35,7 +35,7 @@ pub record Flushable (z : Layout) (xs : List ℕ) (used : List Bool) (w : Progre
   pub free : SomeFree used (z .p)
 
 -- a record can be put into the buffer
-pub record Gatherable (z : Layout) (w : Progress) : Type 0 where
+pub record Gatherable (z : Offsets) (w : Progress) : Type 0 where
   pub few : w .buf .n < z .b
   pub bits : w .buf .marks < 2 ^ w .buf .n
 
@@ -47,7 +47,7 @@ abbrev pub withProgress : Memory → Progress → Memory
 withProgress a w = record { words = a .words; used = a .used; out = a .out; st = w }
 
 -- the buffer is written at place q, which is listed
-abbrev pub writtenAt : Layout → Memory → ℕ → Memory
+abbrev pub writtenAt : Offsets → Memory → ℕ → Memory
 writtenAt z a q =
     record {
       words = written z (a .words) q (a .st .buf);
@@ -57,7 +57,7 @@ writtenAt z a q =
     }
 
 -- "A new block goes to the first free place after hand": a buffer that is not empty is written there
-unfoldable pub flushed : Layout → Memory → Memory
+unfoldable pub flushed : Offsets → Memory → Memory
 flushed z a = if eqb (a .st .buf .n) 0 then a else writtenAt z a (nextMark (z .p) (a .used) (a .st .cursor))
 
 -- place q is listed
@@ -71,11 +71,11 @@ append a q =
     }
 
 -- "A buffer that is not empty is written before b", and b follows at its place q
-unfoldable pub reused : Layout → Memory → ℕ → Memory
+unfoldable pub reused : Offsets → Memory → ℕ → Memory
 reused z a q = append (flushed z a) q
 
 -- "Records gather in a buffer, written when it has B." "Marks stay, except that level h drops them."
-unfoldable pub gathered : Layout → Bool → Memory → Head → Memory
+unfoldable pub gathered : Offsets → Bool → Memory → Head → Memory
 gathered z bottom a h =
     if bottom && eqb (h .tombstone) 1 then a
     else if leb (z .b) (a .st .buf .n + 1) then flushed z (withProgress a (withBuffer (a .st) (pushed (a .st .buf) (h .key) (h .tombstone) (h .pay))))
@@ -94,7 +94,7 @@ moved a x y = withProgress a (movedTo (a .st) x y)
 
 -- The side whose record comes first moves on; of equal keys the upper record comes, and the lower is passed over.
 -- The buffer has n records, the last block e.
-unfoldable pub chosen : Layout → Bool → List ℕ → Point → Point → Head → Head → ℕ → ℕ → Move
+unfoldable pub chosen : Offsets → Bool → List ℕ → Point → Point → Head → Head → ℕ → ℕ → Move
 chosen z bottom xs p q x y n e =
     let wholeX = follows z bottom xs x y n e in
     let wholeY = follows z bottom xs y x n e in
@@ -103,7 +103,7 @@ chosen z bottom xs p q x y n e =
     else record { x = pointAfter p (x .n) false; y = pointAfter q (y .n) false; head = x; whole = false }
 
 -- some side has a record, and stands at it
-pub record Choosable (z : Layout) (xs : List ℕ) (p q : Point) (x y : Head) (n e : ℕ) : Type 0 where
+pub record Choosable (z : Offsets) (xs : List ℕ) (p q : Point) (x y : Head) (n e : ℕ) : Type 0 where
   pub cap : z .b ≤ 16
   pub few : n ≤ 16
   pub last : e < 2 ^ 32
@@ -116,23 +116,23 @@ pub record Choosable (z : Layout) (xs : List ℕ) (p q : Point) (x y : Head) (n 
   pub either : (not (x .some) && not (y .some)) ≡ false
 
 -- the sides move on, and the block follows as it stands, or its next record is gathered
-unfoldable pub emitted : Layout → Bool → Memory → Move → Memory
+unfoldable pub emitted : Offsets → Bool → Memory → Move → Memory
 emitted z bottom a c = let b = moved a (c .x) (c .y) in if c .whole then reused z b (c .head .place) else gathered z bottom b (c .head)
 
 -- the merge can write and gather
-pub record Movable (z : Layout) (xs : List ℕ) (used : List Bool) (w : Progress) : Type 0 where
+pub record Movable (z : Offsets) (xs : List ℕ) (used : List Bool) (w : Progress) : Type 0 where
   pub flushable : Flushable z xs used w
   pub gatherable : Gatherable z w
   pub room : w .m + 2 ≤ listRoom
 
 -- a step can be made
-pub record Ready (z : Layout) (t : Inputs) (xs ys : List ℕ) (a : Memory) : Type 0 where
+pub record Ready (z : Offsets) (t : Inputs) (xs ys : List ℕ) (a : Memory) : Type 0 where
   pub upper : Readable z (t .pages) (a .words) xs (a .st .x .i) (a .st .x .j) (t .x)
   pub lower : Readable z false (a .words) ys (a .st .y .i) (a .st .y .j) (t .y)
   pub movable : Movable z (a .words) (a .used) (a .st)
   pub listed : (i : ℕ) → i < a .st .m → getD (a .out) i 0 < z .p
 
-module _ (z : Layout) (t : Inputs) (xs ys : List ℕ) where
+module _ (z : Offsets) (t : Inputs) (xs ys : List ℕ) where
   abbrev pub stepWith : Memory → Head → Head → ℕ → Memory
   stepWith a x y e = emitted z (t .bottom) a (chosen z (t .bottom) (a .words) (a .st .x) (a .st .y) x y (a .st .buf .n) e)
 
@@ -165,16 +165,16 @@ takenRun xs bottom a j b (suc n) =
     taken bottom (takenRun xs bottom a j b n) (getD xs (a .keys + (j + n)) 0) (a .marks / 2 ^ (j + n) % 2) (getD xs (a .pays + (j + n)) 0)
 
 -- a full buffer is written
-unfoldable pub filled : Layout → Memory → Memory
+unfoldable pub filled : Offsets → Memory → Memory
 filled z a = if leb (z .b) (a .st .buf .n) then flushed z a else a
 
 -- the records of a run, and the writing of a buffer that they fill
-abbrev pub gatheredRun : Layout → Bool → Memory → Run → Memory
+abbrev pub gatheredRun : Offsets → Bool → Memory → Run → Memory
 gatheredRun z bottom a r =
     filled z (withProgress a (withBuffer (a .st) (takenRun (a .words) bottom (r .next .head) (r .from) (a .st .buf) (suc (r .more)))))
 
 -- `emitted`, with the records that go along
-unfoldable pub emittedRun : Layout → Bool → Memory → Run → Memory
+unfoldable pub emittedRun : Offsets → Bool → Memory → Run → Memory
 emittedRun z bottom a r =
     let b = moved a (r .next .x) (r .next .y) in
     if r .next .whole then reused z b (r .next .head .place) else gatheredRun z bottom b r
@@ -218,7 +218,7 @@ pub record Standing (xs : List ℕ) (p : Point) (a : Head) : Type 0 where
   pub row : Searchable xs a
 
 -- the records of a run lie in the store, and the buffer has room for them
-pub record Runnable (z : Layout) (xs : List ℕ) (w : Progress) (r : Run) : Type 0 where
+pub record Runnable (z : Offsets) (xs : List ℕ) (w : Progress) (r : Run) : Type 0 where
   pub room : w .buf .n + r .more < z .b
   pub bits : w .buf .marks < 2 ^ w .buf .n
   pub low : r .from + r .more < 16
@@ -226,7 +226,7 @@ pub record Runnable (z : Layout) (xs : List ℕ) (w : Progress) (r : Run) : Type
   pub pays : r .next .head .pays + (r .from + r .more) < length xs
 
 -- turns lead from a to b, k of them at least
-pub record Turned (z : Layout) (t : Inputs) (xs ys : List ℕ) (k : ℕ) (a b : Memory) : Type 0 where
+pub record Turned (z : Offsets) (t : Inputs) (xs ys : List ℕ) (k : ℕ) (a b : Memory) : Type 0 where
   pub count : ℕ
   pub enough : k ≤ count
   pub same : b ≡ turns z t xs ys count a

@@ -3,12 +3,11 @@
 ghost use mathlib.Core.Path.{_≡_};
 ghost use mathlib.Core.Bool.{true, false};
 ghost use Prim.Native.Nat.{ℕ, _+_, _-_, _≤_, _<_};
-ghost use lib.ListN.{length};
 ghost use Rattle.blocks.specs.Room.{placesMost, listRoom};
 ghost use Rattle.sides.specs.Sides.{HeadOk, Searchable};
 ghost use Rattle.stream.specs.Machine.{Memory, Flushable, Gatherable, Movable, Choosable, Standing, Runnable, Ahead, Grows, Ready, Turned, flushed, reused, gathered, gatheredRun, pointAfter, movedTo, chosen, emittedRun, turns, idle};
 use blocks::Buffer;
-use blocks::Layout;
+use blocks::Offsets;
 use sides::Head;
 
 // Where a side stands: its next block, and the next record of that block.
@@ -58,7 +57,7 @@ pub fn flush(
     s: &mut [u32],
     used: &mut [bool; blocks::PLACES],
     out: &mut [u32; blocks::LIST_ROOM],
-    z: Layout,
+    z: Offsets,
     st: Progress,
 ) -> Progress
     requires { ⌜ Flushable z (now s) (now used) st ⌝ }
@@ -89,7 +88,7 @@ fn reuse(
     s: &mut [u32],
     used: &mut [bool; blocks::PLACES],
     out: &mut [u32; blocks::LIST_ROOM],
-    z: Layout,
+    z: Offsets,
     st: Progress,
     q: usize,
 ) -> Progress
@@ -108,7 +107,7 @@ pub fn gather(
     s: &mut [u32],
     used: &mut [bool; blocks::PLACES],
     out: &mut [u32; blocks::LIST_ROOM],
-    z: Layout,
+    z: Offsets,
     bottom: bool,
     st: Progress,
     head: Head,
@@ -174,7 +173,7 @@ impl Progress {
 
 // The side whose record comes first moves on; of equal keys the upper record comes, and the lower
 // is passed over. The last block has e records.
-fn choose(s: &[u32], z: Layout, bottom: bool, st: Progress, x: Head, y: Head, e: usize) -> Move
+fn choose(s: &[u32], z: Offsets, bottom: bool, st: Progress, x: Head, y: Head, e: usize) -> Move
     requires { ⌜ Choosable z (now s) (st .x) (st .y) x y (st .buf .n) e ⌝ }
     ensures { λ r. ⌜ r ≡ chosen z bottom (now (s .entry)) (st .x) (st .y) x y (st .buf .n) e ⌝ }
 {
@@ -233,7 +232,7 @@ fn ahead(s: &[u32], a: Head, j: usize, other: Head, room: usize) -> usize
 }
 
 // A record that is gathered takes those of its block with it that come next, as many as the buffer has room for.
-fn run_on(s: &[u32], z: Layout, st: Progress, next: Move, x: Head, y: Head) -> Run
+fn run_on(s: &[u32], z: Offsets, st: Progress, next: Move, x: Head, y: Head) -> Run
     requires { ⌜ (z .b ≤ 16) × (st .buf .n < z .b) × (x .some ≡ true → Standing (now s) (st .x) x) × (y .some ≡ true → Standing (now s) (st .y) y) ⌝ }
     ensures { λ r. ⌜ Grows (now (s .entry)) (st .x) (st .y) x y next (z .b - st .buf .n - 1) r ⌝ }
 {
@@ -271,7 +270,7 @@ fn gather_run(
     s: &mut [u32],
     used: &mut [bool; blocks::PLACES],
     out: &mut [u32; blocks::LIST_ROOM],
-    z: Layout,
+    z: Offsets,
     bottom: bool,
     st: Progress,
     run: Run,
@@ -310,7 +309,7 @@ fn emit(
     s: &mut [u32],
     used: &mut [bool; blocks::PLACES],
     out: &mut [u32; blocks::LIST_ROOM],
-    z: Layout,
+    z: Offsets,
     bottom: bool,
     st: Progress,
     run: Run,
@@ -337,7 +336,7 @@ pub fn step(
     out: &mut [u32; blocks::LIST_ROOM],
     xs: &[u32; blocks::LIST_ROOM],
     ys: &[u32; blocks::LIST_ROOM],
-    z: Layout,
+    z: Offsets,
     t: Inputs,
     st: Progress,
 ) -> Progress
@@ -367,7 +366,7 @@ pub fn stream(
     out: &mut [u32; blocks::LIST_ROOM],
     xs: &[u32; blocks::LIST_ROOM],
     ys: &[u32; blocks::LIST_ROOM],
-    z: Layout,
+    z: Offsets,
     t: Inputs,
     st: Progress,
     limit: usize,

@@ -1,22 +1,25 @@
 -- Pages leave level 0: the words of its three parts without theirs are the words of the records without theirs.
-use Prim.Native.Nat.{ℕ, zero, suc, _+_, _-_, _*_, _≤_, _<_}
+use Prim.Native.Nat.{ℕ, zero, suc, _+_, _-_, _*_, _≤_}
 use mathlib.Core.Path.{_≡_, refl, sym, ap, _∙_}
 use mathlib.Core.List.{List, [], _∷_, _++_, map, map-append, append-assoc}
+use mathlib.Core.Logic.{inr}
 use native.Mathlib.Nat.{mul-le-mul-right, add-mul, zero-add, suc-add, sub-zero}
 use native.Mathlib.Omega.{arith}
 use lib.ListN.{length, take, drop, set, replicate, length-append, length-drop, length-map, take-append-drop}
 use lib.Seq.{length-take-le, take-all, take-at, drop-at, take-append-le, drop-append-le}
 use Rattle.geometry.specs.declared.Geometry.{Geometry}
-use Rattle.geometry.specs.Geometry.{capacityOf, topCapacityOf, marksStart, keysStart, paysStart, listStart}
-use Rattle.geometry.proofs.Laws.{pays-end}
+use Rattle.geometry.specs.Geometry.{capacityOf, topCapacityOf}
+use Rattle.layout.specs.declared.Layout.{Layout}
 use Rattle.levels.specs.Record.{Rec}
 use Rattle.levels.proofs.Lists.{map-take, map-drop, map-replicate}
-use Rattle.words.specs.Layout.{topCountAt, topSlots, topRecs, keysOf, paysOf}
+use Rattle.pieces.specs.Pieces.{part, Piece, piece, layAll}
+use Rattle.pieces.proofs.Pieces.{lay-all-kept}
+use Rattle.words.specs.Stores.{topCountAt, topSlots, topRecs, keysOf, paysOf}
 use Rattle.words.proofs.Slots.{padRecs, blankRec}
 use Rattle.words.proofs.Top.{marksOf, marks-length, marks-pad, top-slots-length}
-use Rattle.top.specs.Top.{TopReady, withSlots, withTop, closed}
-use Rattle.top.proofs.Moves.{without, without-length, closed-mid}
-use Rattle.top.proofs.Words.{lay, slots-lay, top-is, padded-is, head-long, ready-inside, ready-is}
+use Rattle.top.specs.Top.{TopReady, withSlots, withTop, without, closed}
+use Rattle.top.proofs.Moves.{without-length, closed-part}
+use Rattle.top.proofs.Words.{slotPieces, full-pieces, top-is, padded-is, ready-inside, ready-parts}
 
 -- the mark words of pages in a row
 marks-append : (B n m : ℕ) (xs ys : List Rec) → length xs ≡ n * B → marksOf B (n + m) (xs ++ ys) ≡ marksOf B n xs ++ marksOf B m ys
@@ -54,91 +57,77 @@ map-without f at gap S e =
     map-append f (take at S) (drop (at + gap) S ++ replicate gap blankRec)
     ∙ rw (map-take f at S, map-append f (drop (at + gap) S) (replicate gap blankRec), map-drop f (at + gap) S, map-replicate f gap blankRec, e)
 
--- one part at a time
-module _ (g : Geometry) (h m k v r : List ℕ) (at gap : ℕ) (eh : length h ≡ 12) where
-  lay-marks : length m ≡ capacityOf g 0 → at + gap ≤ capacityOf g 0 → closed (lay h m k v r) (marksStart g) (capacityOf g 0) at gap ≡ lay h (without at gap 0 m) k v r
-  unfolding marksStart
-  lay-marks em l = closed-mid h m (k ++ (v ++ r)) 12 (capacityOf g 0) at gap eh em l
-
-  lay-keys : length m ≡ capacityOf g 0 → length k ≡ topCapacityOf g → at + gap ≤ topCapacityOf g → closed (lay h m k v r) (keysStart g) (topCapacityOf g) at gap ≡ lay h m (without at gap 0 k) v r
-  unfolding marksStart keysStart
-  lay-keys em ek l =
-      rw (← append-assoc h m (k ++ (v ++ r))) (closed-mid (h ++ m) k (v ++ r) (12 + capacityOf g 0) (topCapacityOf g) at gap (rw (length-append, eh, em)) ek l ∙ append-assoc h m (without at gap 0 k ++ (v ++ r)))
-
-  lay-pays : length m ≡ capacityOf g 0 → length k ≡ topCapacityOf g → length v ≡ topCapacityOf g → at + gap ≤ topCapacityOf g → closed (lay h m k v r) (paysStart g) (topCapacityOf g) at gap ≡ lay h m k (without at gap 0 v) r
-  unfolding marksStart keysStart paysStart
-  lay-pays em ek ev l =
-      rw (← append-assoc h m (k ++ (v ++ r)), ← append-assoc (h ++ m) k (v ++ r)) (closed-mid ((h ++ m) ++ k) v r (12 + capacityOf g 0 + topCapacityOf g) (topCapacityOf g) at gap (rw (length-append, length-append, eh, em, ek)) ev l ∙ append-assoc (h ++ m) k (without at gap 0 v ++ r) ∙ append-assoc h m (k ++ (without at gap 0 v ++ r)))
-
--- where the parts end, and what is left
+-- what is left
 pub closing-room : (g : Geometry) (first w : ℕ) → first + w ≤ capacityOf g 0 → first * g .b + w * g .b ≤ topCapacityOf g
 unfolding topCapacityOf
 closing-room g first w h = omega (arith, add-mul first w (g .b), mul-le-mul-right (g .b) h)
 
-pub closing-inside : (g : Geometry) (ws : List ℕ) → TopReady g ws → (marksStart g + capacityOf g 0 ≤ length ws) × ((keysStart g + topCapacityOf g ≤ length ws) × ((paysStart g + topCapacityOf g ≤ length ws) × (8 < length ws)))
-unfolding marksStart keysStart paysStart
-closing-inside g ws t =
-    let i = ready-inside g ws t .inside in
-    let e = pays-end g in
-    (omega arith, (omega arith, (omega arith, omega arith)))
-
-module _ (g : Geometry) (ws : List ℕ) (t : TopReady g ws) (first w : ℕ) (l : first + w ≤ capacityOf g 0) where
+module _ (z : Layout) (ws : List ℕ) (t : TopReady z ws) (first w : ℕ) (l : first + w ≤ capacityOf (z .geo) 0) where
   abbrev S : List Rec
-  S = topSlots g ws
+  S = topSlots z ws
 
   abbrev B : ℕ
-  B = g .b
+  B = z .geo .b
 
   abbrev K : ℕ
-  K = capacityOf g 0
+  K = capacityOf (z .geo) 0
 
   abbrev T : ℕ
-  T = topCapacityOf g
+  T = topCapacityOf (z .geo)
 
   abbrev left : List Rec
   left = without (first * B) (w * B) blankRec S
 
+  abbrev three : List ℕ → List ℕ
+  three us = closed (closed (closed us (z .marks) K first w) (z .keys) T (first * B) (w * B)) (z .pays) T (first * B) (w * B)
+
   long : length S ≡ T
-  long = top-slots-length g ws
+  long = top-slots-length z ws
 
   room : first * B + w * B ≤ T
-  room = closing-room g first w l
+  room = closing-room (z .geo) first w l
 
   left-long : length left ≡ T
   left-long = without-length (first * B) (w * B) blankRec S (rw long room) ∙ long
 
-  left-marks : marksOf B K left ≡ without first w 0 (marksOf B K S)
+  -- the pieces of what is left are those that were there, without the pages
+  left-pieces : slotPieces z left ≡ piece (z .marks) (without first w 0 (marksOf B K S)) ∷ piece (z .keys) (without (first * B) (w * B) 0 (keysOf S)) ∷ piece (z .pays) (without (first * B) (w * B) 0 (paysOf S)) ∷ []
   unfolding topCapacityOf
-  left-marks = marks-without B K first w S (let b = t .valid .ranged .b-low in omega arith) long l
+  left-pieces =
+      rw (marks-without B K first w S (let b = t .proper .valid .ranged .b-low in omega arith) long l, map-without (λ (r : Rec). r .key) (first * B) (w * B) S refl, map-without (λ (r : Rec). r .pay) (first * B) (w * B) S refl)
 
   -- three parts closed
-  pub closed-slots : closed (closed (closed ws (marksStart g) K first w) (keysStart g) T (first * B) (w * B)) (paysStart g) T (first * B) (w * B) ≡ withSlots g ws left
+  closed-slots : three ws ≡ withSlots z ws left
+  unfolding withSlots layAll
   closed-slots =
-      let k = ready-inside g ws t in
-      let H = take 12 ws in
-      let R = drop (listStart g 1) ws in
-      let M = marksOf B K S in
-      let eh = head-long g ws (k .ranged) (k .inside) in
-      let em = marks-length B K S in
-      let ew : length (without first w 0 M) ≡ K = without-length first w 0 M (rw em l) ∙ em in
-      let ek : length (keysOf S) ≡ T = length-map S _ ∙ long in
-      let ev : length (paysOf S) ≡ T = length-map S _ ∙ long in
-      let en : length (without (first * B) (w * B) 0 (keysOf S)) ≡ T = without-length (first * B) (w * B) 0 (keysOf S) (rw ek room) ∙ ek in
-      ap (λ (us : List ℕ). closed (closed (closed us (marksStart g) K first w) (keysStart g) T (first * B) (w * B)) (paysStart g) T (first * B) (w * B)) (sym (ready-is g ws t) ∙ slots-lay g ws (k .ranged) (k .inside) S long)
-      ∙ ap (λ (us : List ℕ). closed (closed us (keysStart g) T (first * B) (w * B)) (paysStart g) T (first * B) (w * B)) (lay-marks g H M (keysOf S) (paysOf S) R first w eh em l)
-      ∙ ap (λ (us : List ℕ). closed us (paysStart g) T (first * B) (w * B)) (lay-keys g H (without first w 0 M) (keysOf S) (paysOf S) R (first * B) (w * B) eh ew ek room)
-      ∙ lay-pays g H (without first w 0 M) (without (first * B) (w * B) 0 (keysOf S)) (paysOf S) R (first * B) (w * B) eh ew en ev room
-      ∙ rw (← left-marks, ← map-without (λ (r : Rec). r .key) (first * B) (w * B) S refl, ← map-without (λ (r : Rec). r .pay) (first * B) (w * B) S refl) (sym (slots-lay g ws (k .ranged) (k .inside) left left-long))
+      let k = t .proper in
+      let i = ready-inside z ws t in
+      let o = ready-parts z ws t in
+      let M = piece (z .marks) (without first w 0 (marksOf B K S)) in
+      let N = piece (z .keys) (without (first * B) (w * B) 0 (keysOf S)) in
+      let lm : length (M .words) ≡ K = without-length first w 0 (marksOf B K S) (rw marks-length l) ∙ marks-length B K S in
+      let lk : length (keysOf S) ≡ T = length-map S _ ∙ long in
+      let lv : length (paysOf S) ≡ T = length-map S _ ∙ long in
+      let ln : length (N .words) ≡ T = without-length (first * B) (w * B) 0 (keysOf S) (rw lk room) ∙ lk in
+      let em : part ws (z .marks) K ≡ marksOf B K S = rw marks-length at (o .0) in
+      let ek : part ws (z .keys) T ≡ keysOf S = rw lk at (o .1 .0) in
+      let ev : part ws (z .pays) T ≡ paysOf S = rw lv at (o .1 .1 .0) in
+      ap (λ (us : List ℕ). closed (closed us (z .keys) T (first * B) (w * B)) (z .pays) T (first * B) (w * B)) (closed-part ws (marksOf B K S) (z .marks) K first w em)
+      ∙ ap (λ (us : List ℕ). closed us (z .pays) T (first * B) (w * B))
+      (closed-part (layAll (M ∷ []) ws) (keysOf S) (z .keys) T (first * B) (w * B) (lay-all-kept (M ∷ []) ws (z .keys) T (i .keys) (inr (omega (arith, lm, k .marks-keys)), tt) ∙ ek))
+      ∙ closed-part (layAll (M ∷ N ∷ []) ws) (paysOf S) (z .pays) T (first * B) (w * B)
+      (lay-all-kept (M ∷ N ∷ []) ws (z .pays) T (i .pays) (inr (omega (arith, lm, k .marks-keys, k .keys-pays)), (inr (omega (arith, ln, k .keys-pays)), tt)) ∙ ev)
+      ∙ ap (λ (ps : List Piece). layAll ps ws) (sym (full-pieces z k left left-long ∙ left-pieces))
 
   abbrev kept : List Rec
-  kept = take (first * B) (topRecs g ws) ++ drop ((first + w) * B) (topRecs g ws)
+  kept = take (first * B) (topRecs z ws) ++ drop ((first + w) * B) (topRecs z ws)
 
-  module _ (full : topCountAt ws ≡ topCapacityOf g) where
-    top-all : topRecs g ws ≡ S
+  module _ (full : topCountAt z ws ≡ topCapacityOf (z .geo)) where
+    top-all : topRecs z ws ≡ S
     unfolding topRecs
-    top-all = take-all (topCountAt ws) S (omega (arith, long, full))
+    top-all = take-all (topCountAt z ws) S (omega (arith, long, full))
 
-    pub kept-count : length kept ≡ T - w * B
+    kept-count : length kept ≡ T - w * B
     kept-count =
         let x = add-mul first w B in
         rw (top-all, length-append, length-drop, long, length-take-le (first * B) S (omega (arith, long, room))) (omega (arith, room, x))
@@ -149,7 +138,7 @@ module _ (g : Geometry) (ws : List ℕ) (t : TopReady g ws) (first w : ℕ) (l :
         rw (kept-count, e, top-all, add-mul first w B) (append-assoc (take (first * B) S) (drop (first * B + w * B) S) (replicate (w * B) blankRec))
 
     -- and c set
-    pub closed-top : set (closed (closed (closed ws (marksStart g) K first w) (keysStart g) T (first * B) (w * B)) (paysStart g) T (first * B) (w * B)) 8 (T - w * B) ≡ withTop g ws kept
+    pub closed-top : set (three ws) (z .count) (T - w * B) ≡ withTop z ws kept
     closed-top =
-        let k = ready-inside g ws t in
-        rw (closed-slots, ← kept-slots, padded-is g ws (k .ranged) (k .inside) kept (rw kept-count (omega arith)), ← kept-count) (sym (top-is g ws (k .ranged) (k .inside) kept))
+        let n : length kept ≤ T = rw kept-count (omega arith) in
+        rw (closed-slots, ← kept-slots, padded-is z (t .proper) ws kept n, ← kept-count) (top-is z (t .proper) ws kept n)

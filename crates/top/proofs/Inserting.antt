@@ -12,7 +12,7 @@ use Rattle.levels.specs.Record.{Rec}
 use Rattle.levels.specs.Put.{insert}
 use Rattle.levels.specs.Rising.{Rising}
 use Rattle.levels.proofs.Overlay.{Way, less, same, more, way, find-below}
-use Rattle.words.specs.Layout.{keysOf}
+use Rattle.words.specs.Stores.{keysOf}
 use Rattle.words.proofs.Ranks.{rankIn, keys-rise, found-is}
 
 -- "a key found in level 0 is overwritten there; otherwise .. the record goes in"

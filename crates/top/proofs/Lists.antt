@@ -1,20 +1,14 @@
--- Lists: an element set or read in the second of two lists, and a list that another one replaces from its start on.
+-- Lists: a list that another one replaces from its start on, and a list with one element more.
 use Prim.Native.Nat.{ℕ, zero, suc, _+_, _≤_, _<_}
 use mathlib.Core.Path.{_≡_, refl, ap}
 use mathlib.Core.List.{List, [], _∷_, _++_}
-use native.Mathlib.Nat.{suc-add, zero-add, add-zero}
+use native.Mathlib.Nat.{add-zero}
 use native.Mathlib.Omega.{arith}
 use lib.ListN.{length, take, drop, getD, set, length-append, length-drop}
 use lib.Seq.{getD-append-add, length-take-le, drop-nil, take-at}
 
 module _ {A : Type 0} where
-  pub set-right : (p x : List A) (n j : ℕ) (v : A) → length p ≡ n → set (p ++ x) (n + j) v ≡ p ++ set x j v
-  set-right [] x zero j v e = rw zero-add
-  set-right [] x (suc n) j v e = absurd (omega arith)
-  set-right (y ∷ p) x zero j v e = absurd (omega arith)
-  set-right (y ∷ p) x (suc n) j v e = rw suc-add (ap (λ (l : List A). y ∷ l) (set-right p x n j v (omega arith)))
-
-  pub getD-right : (p x : List A) (n j : ℕ) (d : A) → length p ≡ n → getD (p ++ x) (n + j) d ≡ getD x j d
+  getD-right : (p x : List A) (n j : ℕ) (d : A) → length p ≡ n → getD (p ++ x) (n + j) d ≡ getD x j d
   getD-right p x n j d e = rw (← e) (getD-append-add p x j d)
 
   -- the first n of F, then ys from n on: one more, and what is next of ys

@@ -10,7 +10,7 @@ use lib.Pow.{pow-mono}
 use lib.ListN.{length, take, drop, getD, set, length-drop, length-take, List·getD-map}
 use lib.Seq.{take-set-lt, take-set-le, drop-set-lt, drop-set-add, drop-drop, length-take-le, getD-take, getD-drop}
 use Rattle.levels.specs.Record.{Rec}
-use Rattle.words.specs.Layout.{bit, markWord}
+use Rattle.words.specs.Stores.{bit, markWord}
 use Rattle.words.proofs.Slots.{shift-suc, bits-high, bit-of, mark-bit, mark-low, blankRec}
 use Rattle.words.proofs.Top.{marksOf}
 use Rattle.top.specs.Top.{setBit}

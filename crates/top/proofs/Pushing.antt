@@ -1,165 +1,161 @@
 -- A record goes in between others: the slots after n turns, and at the end.
 use Prim.Native.Nat.{ℕ, suc, _+_, _-_, _/_, _≤_, _<_}
-use mathlib.Core.Path.{_≡_, sym, ap, _∙_, subst}
+use mathlib.Core.Path.{_≡_, refl, sym, ap, _∙_, subst}
 use mathlib.Core.Bool.{Bool, true, false}
 use mathlib.Core.List.{List, _∷_, _++_, append-assoc}
 use native.Mathlib.Numerals.{add-one}
 use native.Mathlib.Omega.{arith}
 use lib.ListN.{length, take, drop, getD, set, replicate, take-append-drop, length-set}
-use lib.Seq.{take-at, take-append-le, drop-append-le, drop-append-add, set-append-left, set-getD}
+use lib.Seq.{take-at, take-append-le, drop-append-le, drop-append-add, set-append-left}
 use Rattle.slices.specs.declared.Rank.{Rank}
 use Rattle.slices.specs.Ranks.{rankOf}
-use Rattle.geometry.specs.declared.Geometry.{Geometry}
-use Rattle.geometry.specs.Geometry.{topCapacityOf, marksStart}
+use Rattle.geometry.specs.Geometry.{topCapacityOf}
+use Rattle.layout.specs.declared.Layout.{Layout}
+use Rattle.layout.specs.Layouts.{Proper}
 use Rattle.levels.specs.Record.{Rec}
 use Rattle.levels.specs.Put.{insert}
 use Rattle.levels.proofs.Rising.{test-rising}
-use Rattle.words.specs.Layout.{word, topCountAt, topSlots, topRecs, keysOf}
+use Rattle.pieces.specs.Pieces.{word}
+use Rattle.words.specs.Stores.{topCountAt, topSlots, topRecs, keysOf}
 use Rattle.words.proofs.Slots.{padRecs, blankRec}
 use Rattle.words.proofs.Top.{top-slots-length}
 use Rattle.top.specs.declared.Slot.{Slot}
-use Rattle.top.specs.Top.{TopInside, TopReady, Room, recOf, slotAt, withSlot, withSlots, withTop, pushed}
+use Rattle.top.specs.Top.{TopReady, Room, recOf, slotAt, withSlot, withSlots, withTop, pushed}
 use Rattle.top.proofs.Lists.{pushedIn, pushed-length, pushed-here, pushed-on, pushed-before, mixed-more, mixed-next, mixed-length}
-use Rattle.top.proofs.Words.{slot-low, slot-read, slot-set, slots-long, top-is, padded-is, header-word, ready-inside, ready-count, ready-slots, ready-is}
+use Rattle.top.proofs.Words.{slot-low, slot-read, slot-set, slots-long, same-count, top-is, padded-is, ready-count, ready-slots, ready-is}
 use Rattle.top.proofs.Inserting.{Entered, entered}
 
 -- the words once slots i to n - 1 are done
-unfoldable pub pushing : Geometry → List ℕ → ℕ → Rec → ℕ → List ℕ
-pushing g ws i r n = withSlots g ws (take n (pushedIn i r (topSlots g ws)) ++ drop n (topSlots g ws))
+unfoldable pub pushing : Layout → List ℕ → ℕ → Rec → ℕ → List ℕ
+pushing z ws i r n = withSlots z ws (take n (pushedIn i r (topSlots z ws)) ++ drop n (topSlots z ws))
 
-module _ (g : Geometry) (ws : List ℕ) (t : TopReady g ws) (i : ℕ) (r : Rec) (h : i ≤ topCapacityOf g) where
+pub push-long : (z : Layout) (ws : List ℕ) (i : ℕ) (r : Rec) (n : ℕ) → length (pushing z ws i r n) ≡ length ws
+unfolding pushing
+push-long z ws i r n = slots-long z ws (take n (pushedIn i r (topSlots z ws)) ++ drop n (topSlots z ws))
+
+module _ (z : Layout) (ws : List ℕ) (t : TopReady z ws) (i : ℕ) (r : Rec) (h : i ≤ topCapacityOf (z .geo)) where
   abbrev S : List Rec
-  S = topSlots g ws
+  S = topSlots z ws
 
-  long : length S ≡ topCapacityOf g
-  long = top-slots-length g ws
+  long : length S ≡ topCapacityOf (z .geo)
+  long = top-slots-length z ws
 
   low : i ≤ length S
   low = omega (arith, long)
 
-  front : length (pushedIn i r S) ≡ suc (topCapacityOf g)
+  front : length (pushedIn i r S) ≡ suc (topCapacityOf (z .geo))
   front = pushed-length i r S low ∙ ap suc long
 
-  state-long : (n : ℕ) → n ≤ topCapacityOf g → length (take n (pushedIn i r S) ++ drop n S) ≡ topCapacityOf g
-  state-long n l = mixed-length (pushedIn i r S) S n (omega (arith, front)) (omega (arith, long)) ∙ long
-
-  pub push-start : ws ≡ pushing g ws i r i
+  pub push-start : ws ≡ pushing z ws i r i
   unfolding pushing
-  push-start = rw (pushed-before i r S low, take-append-drop i S) (sym (ready-is g ws t))
+  push-start = rw (pushed-before i r S low, take-append-drop i S) (sym (ready-is z ws t))
 
   pub push-first : r ≡ getD (pushedIn i r S) i blankRec
   push-first = sym (pushed-here i r S blankRec low)
 
-  pub push-inside : (n : ℕ) → n ≤ topCapacityOf g → TopInside g (pushing g ws i r n)
-  unfolding pushing
-  push-inside n l =
-      let k = ready-inside g ws t in
-      let e = slots-long g ws (k .ranged) (k .inside) (take n (pushedIn i r S) ++ drop n S) (state-long n l) in
-      record { ranged = k .ranged; inside = rw e (k .inside); short = rw e (k .short) }
+  module _ (n : ℕ) (l : n < topCapacityOf (z .geo)) where
+    abbrev slots : List Rec
+    slots = take n (pushedIn i r S) ++ drop n S
 
-  pub push-long : (n : ℕ) → n ≤ topCapacityOf g → length (pushing g ws i r n) ≡ length ws
-  unfolding pushing
-  push-long n l =
-      let k = ready-inside g ws t in
-      slots-long g ws (k .ranged) (k .inside) (take n (pushedIn i r S) ++ drop n S) (state-long n l)
+    slots-full : length slots ≡ topCapacityOf (z .geo)
+    slots-full = mixed-length (pushedIn i r S) S n (omega (arith, front)) (omega (arith, long)) ∙ long
 
-  pub push-low : (n : ℕ) → n < topCapacityOf g → word (pushing g ws i r n) (marksStart g + n / g .b) < 65536
-  unfolding pushing
-  push-low n l =
-      let k = ready-inside g ws t in
-      slot-low g ws (k .ranged) (k .inside) (take n (pushedIn i r S) ++ drop n S) (state-long n (omega arith)) n l
+    pub push-low : word (pushing z ws i r n) (z .marks + n / z .geo .b) < 65536
+    unfolding pushing
+    push-low = slot-low z (t .proper) ws (t .words) slots slots-full n l
 
-  -- the record that is taken up is the next to be put down
-  pub push-next : (n : ℕ) → i ≤ n → n < topCapacityOf g → recOf (slotAt g (pushing g ws i r n) n) ≡ getD (pushedIn i r S) (n + 1) blankRec
-  unfolding pushing
-  push-next n a l =
-      let k = ready-inside g ws t in
-      slot-read g ws (k .ranged) (k .inside) (take n (pushedIn i r S) ++ drop n S) (state-long n (omega arith)) n l
-      ∙ mixed-next (pushedIn i r S) S n blankRec (omega (arith, front))
-      ∙ rw (add-one n) (sym (pushed-on i r S n blankRec a low))
+    -- the record that is taken up is the next to be put down
+    pub push-next : i ≤ n → recOf (slotAt z (pushing z ws i r n) n) ≡ getD (pushedIn i r S) (n + 1) blankRec
+    unfolding pushing
+    push-next a =
+        slot-read z (t .proper) ws (t .words) slots slots-full n l ∙ mixed-next (pushedIn i r S) S n blankRec (omega (arith, front))
+        ∙ rw (add-one n) (sym (pushed-on i r S n blankRec a low))
 
-  pub push-more : (n : ℕ) (slot : Slot) → n < topCapacityOf g → recOf slot ≡ getD (pushedIn i r S) n blankRec → withSlot g (pushing g ws i r n) n slot ≡ pushing g ws i r (n + 1)
-  unfolding pushing
-  push-more n slot l e =
-      let k = ready-inside g ws t in
-      slot-set g ws (k .ranged) (k .inside) (take n (pushedIn i r S) ++ drop n S) (state-long n (omega arith)) n l slot
-      ∙ rw (e, mixed-more (pushedIn i r S) S n blankRec (omega (arith, front)) (omega (arith, long)), add-one n)
-
--- Level 0 after the call.
-module _ (g : Geometry) (ws : List ℕ) (t : TopReady g ws) (r : Rec) where
-  abbrev top : List Rec
-  top = topRecs g ws
-
-  abbrev room : ℕ
-  room = topCapacityOf g
-
-  pub count-low : length top ≤ room
-  count-low = rw (ready-count g ws t) (t .fits)
-
-  -- a record is overwritten
-  pub found-slots : (i : ℕ) → i < length top → set (topSlots g ws) i r ≡ padRecs room (set top i r)
-  found-slots i h =
-      rw (ready-slots g ws t, length-set top i r) (set-append-left top (replicate (room - length top) blankRec) i r h)
-
-  -- a record goes in
-  pub pushed-slots : (i : ℕ) → i ≤ length top → suc (length top) ≤ room → pushed i (length top) r (topSlots g ws) ≡ padRecs room (pushedIn i r top)
-  unfolding pushed
-  pushed-slots i h l =
-      let blanks = replicate (room - length top) blankRec in
-      let n : length (pushedIn i r top) ≡ suc (length top) = pushed-length i r top h in
-      let e : room - length top ≡ suc (room - suc (length top)) = omega arith in
-      let d : drop (suc (length top)) (top ++ blanks) ≡ replicate (room - suc (length top)) blankRec = ap (λ (x : ℕ). drop x (top ++ blanks)) (sym (add-one (length top))) ∙ drop-append-add top blanks 1 ∙ ap (λ (x : ℕ). drop 1 (replicate x blankRec)) e in
-      rw (ready-slots g ws t, take-append-le i top blanks h, drop-append-le i top blanks h, ← append-assoc (take i top) (r ∷ drop i top) blanks, take-at (pushedIn i r top) blanks (suc (length top)) n, d, n)
+    pub push-more : (slot : Slot) → recOf slot ≡ getD (pushedIn i r S) n blankRec → withSlot z (pushing z ws i r n) n slot ≡ pushing z ws i r (n + 1)
+    unfolding pushing
+    push-more slot e =
+        slot-set z (t .proper) ws (t .words) slots slots-full n l slot
+        ∙ rw (e, mixed-more (pushedIn i r S) S n blankRec (omega (arith, front)) (omega (arith, long)), add-one n)
 
 -- A slot where its key stands.
-module _ (g : Geometry) (ws : List ℕ) (t : TopReady g ws) (slot : Slot) (at : Rank) (s : at ≡ rankOf (slot .key) (keysOf (topRecs g ws))) where
+module _ (z : Layout) (ws : List ℕ) (t : TopReady z ws) (slot : Slot) (at : Rank) (s : at ≡ rankOf (slot .key) (keysOf (topRecs z ws))) where
   abbrev rs : List Rec
-  rs = topRecs g ws
+  rs = topRecs z ws
+
+  abbrev r : Rec
+  r = recOf slot
 
   abbrev i : ℕ
   i = at .below
 
-  entered-at : (x : Bool) → at .found ≡ x → Entered (recOf slot) rs x i
+  abbrev room : ℕ
+  room = topCapacityOf (z .geo)
+
+  abbrev blanks : List Rec
+  blanks = replicate (room - length rs) blankRec
+
+  count-low : length rs ≤ room
+  count-low = rw (ready-count z ws t) (t .fits)
+
+  entered-at : (x : Bool) → at .found ≡ x → Entered r rs x i
   entered-at x e =
-      subst (λ (b : Bool). Entered (recOf slot) rs b i) e
-      (subst (λ (k : Rank). Entered (recOf slot) rs (k .found) (k .below)) (sym s) (entered 0 (recOf slot) rs (test-rising 0 rs (t .rises))))
+      subst (λ (b : Bool). Entered r rs b i) e
+      (subst (λ (k : Rank). Entered r rs (k .found) (k .below)) (sym s) (entered 0 r rs (test-rising 0 rs (t .rises))))
 
   module _ (e : at .found ≡ true) where
     found-inside : i < length rs
     found-inside = entered-at true e .0
 
-    found-room : i < topCapacityOf g
-    found-room = omega (arith, found-inside, count-low g ws t (recOf slot))
+    found-room : i < room
+    found-room = omega (arith, found-inside, count-low)
 
     -- the slot may be written
-    pub found-ready : TopInside g ws × ((i < topCapacityOf g) × (word ws (marksStart g + i / g .b) < 65536))
-    found-ready =
-        let k = ready-inside g ws t in
-        (k, (found-room, rw (ready-is g ws t) at (slot-low g ws (k .ranged) (k .inside) (topSlots g ws) (top-slots-length g ws) i found-room)))
+    pub found-ready : Proper z × ((length ws ≡ z .length) × ((i < room) × (word ws (z .marks + i / z .geo .b) < 65536)))
+    found-ready = (t .proper, (t .words, (found-room, rw (ready-is z ws t) at (slot-low z (t .proper) ws (t .words) (topSlots z ws) (top-slots-length z ws) i found-room))))
 
-    pub found-entered : withSlot g ws i slot ≡ withTop g ws (insert (recOf slot) rs)
+    -- a record is overwritten
+    found-slots : set (topSlots z ws) i r ≡ padRecs room (set rs i r)
+    found-slots = rw (ready-slots z ws t, length-set rs i r) (set-append-left rs blanks i r found-inside)
+
+    pub found-entered : withSlot z ws i slot ≡ withTop z ws (insert r rs)
     found-entered =
-        let k = ready-inside g ws t in
-        let r = recOf slot in
-        let l : length (set rs i r) ≡ topCountAt ws = length-set rs i r ∙ ready-count g ws t in
-        let a : withSlot g ws i slot ≡ withSlots g ws (set rs i r) = ap (λ (us : List ℕ). withSlot g us i slot) (sym (ready-is g ws t)) ∙ slot-set g ws (k .ranged) (k .inside) (topSlots g ws) (top-slots-length g ws) i found-room slot ∙ ap (withSlots g ws) (found-slots g ws t r i found-inside) ∙ padded-is g ws (k .ranged) (k .inside) (set rs i r) (rw l (t .fits)) in
-        a
-        ∙ sym (set-getD (withSlots g ws (set rs i r)) 8 0)
-        ∙ rw (header-word g ws (k .ranged) (k .inside) (set rs i r) 8 (omega arith), ← l, entered-at true e .1)
-        (sym (top-is g ws (k .ranged) (k .inside) (set rs i r)))
+        let l : length (set rs i r) ≡ topCountAt z ws = length-set rs i r ∙ ready-count z ws t in
+        ap (λ (us : List ℕ). withSlot z us i slot) (sym (ready-is z ws t))
+        ∙ slot-set z (t .proper) ws (t .words) (topSlots z ws) (top-slots-length z ws) i found-room slot
+        ∙ ap (withSlots z ws) found-slots ∙ padded-is z (t .proper) ws (set rs i r) (rw l (t .fits))
+        ∙ sym (same-count z ws (set rs i r) l) ∙ ap (withTop z ws) (sym (entered-at true e .1))
 
-  module _ (e : at .found ≡ false) (h : Room g ws at) where
+  module _ (e : at .found ≡ false) (h : Room z ws at) where
+    gap-inside : i ≤ length rs
+    gap-inside = entered-at false e .0
+
     -- there is a slot for it
-    pub gap-ready : (i ≤ topCountAt ws) × (suc (topCountAt ws) ≤ topCapacityOf g)
-    gap-ready = (omega (arith, entered-at false e .0, ready-count g ws t), h e)
+    pub gap-ready : (i ≤ topCountAt z ws) × (suc (topCountAt z ws) ≤ room)
+    gap-ready = (omega (arith, gap-inside, ready-count z ws t), h e)
 
-    pub gap-entered : set (withSlots g ws (pushed i (topCountAt ws) (recOf slot) (topSlots g ws))) 8 (topCountAt ws + 1) ≡ withTop g ws (insert (recOf slot) rs)
+    gap-long : length (pushedIn i r rs) ≡ topCountAt z ws + 1
+    gap-long = pushed-length i r rs gap-inside ∙ rw (ready-count z ws t, add-one (topCountAt z ws))
+
+    -- a record goes in
+    gap-slots : pushed i (topCountAt z ws) r (topSlots z ws) ≡ padRecs room (pushedIn i r rs)
+    unfolding pushed
+    gap-slots =
+        let c = length rs in
+        let l : suc c ≤ room = rw (ready-count z ws t) (h e) in
+        let n : length (pushedIn i r rs) ≡ suc c = pushed-length i r rs gap-inside in
+        let x : room - c ≡ suc (room - suc c) = omega arith in
+        let d : drop (suc c) (rs ++ blanks) ≡ replicate (room - suc c) blankRec = ap (λ (x : ℕ). drop x (rs ++ blanks)) (sym (add-one c)) ∙ drop-append-add rs blanks 1 ∙ ap (λ (x : ℕ). drop 1 (replicate x blankRec)) x in
+        rw (← ready-count z ws t, ready-slots z ws t, take-append-le i rs blanks gap-inside, drop-append-le i rs blanks gap-inside, ← append-assoc (take i rs) (r ∷ drop i rs) blanks, take-at (pushedIn i r rs) blanks (suc c) n, d, n)
+
+    pub gap-entered : set (withSlots z ws (pushed i (topCountAt z ws) r (topSlots z ws))) (z .count) (topCountAt z ws + 1) ≡ withTop z ws (insert r rs)
     gap-entered =
-        let k = ready-inside g ws t in
-        let r = recOf slot in
-        let n = ready-count g ws t in
-        let x = entered-at false e in
-        let l : length (pushedIn i r rs) ≡ topCountAt ws + 1 = pushed-length i r rs (x .0) ∙ rw (n, add-one (topCountAt ws)) in
-        let p : pushed i (topCountAt ws) r (topSlots g ws) ≡ padRecs (topCapacityOf g) (pushedIn i r rs) = rw n at (pushed-slots g ws t r i (x .0) (rw n (h e))) in
-        rw (p, padded-is g ws (k .ranged) (k .inside) (pushedIn i r rs) (rw l (omega (arith, h e))), ← l, x .1)
-        (sym (top-is g ws (k .ranged) (k .inside) (pushedIn i r rs)))
+        let l : length (pushedIn i r rs) ≤ room = rw gap-long (omega (arith, h e)) in
+        rw (gap-slots, padded-is z (t .proper) ws (pushedIn i r rs) l, ← gap-long, entered-at false e .1) (top-is z (t .proper) ws (pushedIn i r rs) l)
+
+  -- what is entered has room in level 0
+  pub entered-fits : Room z ws at → length (insert r rs) ≤ room
+  entered-fits h = go (at .found) refl
+    where
+      go : (x : Bool) → at .found ≡ x → length (insert r rs) ≤ room
+      go true e = rw (entered-at true e .1, length-set rs i r) count-low
+      go false e = rw (entered-at false e .1, gap-long e h) (omega (arith, h e))

@@ -1,16 +1,18 @@
 // Level 0 in the lent words: where a key stands, and the edits that put and delete and a merge out of
-// level 0 make there. Nothing here knows more than level 0's words and its count c, word 8.
+// level 0 make there. Nothing here knows more than level 0's words and its count c.
 
 ghost use mathlib.Core.Path.{_≡_};
 ghost use mathlib.Core.List.{_++_};
 ghost use Prim.Native.Nat.{suc, _+_, _*_, _/_, _≤_, _<_};
 ghost use lib.ListN.{length, take, drop};
 ghost use Rattle.slices.specs.Ranks.{rankOf};
-ghost use Rattle.geometry.specs.Geometry.{capacityOf, topCapacityOf, marksStart};
+ghost use Rattle.geometry.specs.Geometry.{capacityOf, topCapacityOf};
+ghost use Rattle.layout.specs.Layouts.{Proper};
 ghost use Rattle.levels.specs.Put.{insert};
-ghost use Rattle.words.specs.Layout.{word, topCountAt, topSlots, topRecs, keysOf};
-ghost use Rattle.top.specs.Top.{TopInside, TopReady, Room, recOf, slotAt, setBit, withSlot, withSlots, withTop, pushed, closed};
-use geometry::Geometry;
+ghost use Rattle.pieces.specs.Pieces.{word};
+ghost use Rattle.words.specs.Stores.{topCountAt, topSlots, topRecs, keysOf};
+ghost use Rattle.top.specs.Top.{TopReady, Room, recOf, slotAt, setBit, withSlot, withSlots, withTop, pushed, closed};
+use layout::Layout;
 use slices::Rank;
 
 // What a slot of level 0 holds: mark is true for a tombstone.
@@ -21,11 +23,12 @@ pub struct Slot {
 }
 
 // Where k stands in level 0.
-pub fn locate(s: &[u32], g: Geometry, k: u32) -> Rank
-    requires { ⌜ TopReady g (now s) ⌝ }
-    ensures { λ r. ⌜ r ≡ rankOf k (keysOf (topRecs g (now (s .entry)))) ⌝ }
+pub fn locate(s: &[u32], z: Layout, k: u32) -> Rank
+    requires { ⌜ TopReady z (now s) ⌝ }
+    ensures { λ r. ⌜ r ≡ rankOf k (keysOf (topRecs z (now (s .entry)))) ⌝ }
 {
-    slices::rank_of(s, g.keys_start(), s[8] as usize, k as usize)
+    let count = z.count;
+    slices::rank_of(s, z.keys, s[count] as usize, k as usize)
 }
 
 // m with `on` for bit j, all other bits kept. A mark word has a bit for each record of a page, which has 16 at most.
@@ -48,18 +51,16 @@ fn with_bit(m: u32, j: u32, on: bool) -> u32
 }
 
 // What slot j holds.
-pub fn read_slot(s: &[u32], g: Geometry, j: usize) -> Slot
-    requires { ⌜ TopInside g (now s) × (j < topCapacityOf g) ⌝ }
-    ensures { λ r. ⌜ r ≡ slotAt g (now (s .entry)) j ⌝ }
+pub fn read_slot(s: &[u32], z: Layout, j: usize) -> Slot
+    requires { ⌜ Proper z × ((length (now s) ≡ z .length) × (j < topCapacityOf (z .geo))) ⌝ }
+    ensures { λ r. ⌜ r ≡ slotAt z (now (s .entry)) j ⌝ }
 {
+    let g = z.geo;
     let b = g.block_records();
-    let marks = g.marks_start();
-    let keys = g.keys_start();
-    let pays = g.pays_start();
-    let m = s[marks + j / b];
+    let m = s[z.marks + j / b];
     let shift = (j % b) as u32;
-    let key = s[keys + j];
-    let pay = s[pays + j];
+    let key = s[z.keys + j];
+    let pay = s[z.pays + j];
     Slot {
         key: key,
         mark: (m >> shift) % 2 == 1,
@@ -68,41 +69,39 @@ pub fn read_slot(s: &[u32], g: Geometry, j: usize) -> Slot
 }
 
 // A record into slot j: its key word, its payload word and its bit of the page's mark word.
-pub fn write_slot(s: &mut [u32], g: Geometry, j: usize, slot: Slot)
-    requires { ⌜ TopInside g (now s) × ((j < topCapacityOf g) × (word (now s) (marksStart g + j / g .b) < 65536)) ⌝ }
-    ensures { λ _. ⌜ now (s .exit) ≡ withSlot g (now (s .entry)) j slot ⌝ }
+pub fn write_slot(s: &mut [u32], z: Layout, j: usize, slot: Slot)
+    requires { ⌜ Proper z × ((length (now s) ≡ z .length) × ((j < topCapacityOf (z .geo)) × (word (now s) (z .marks + j / z .geo .b) < 65536))) ⌝ }
+    ensures { λ _. ⌜ now (s .exit) ≡ withSlot z (now (s .entry)) j slot ⌝ }
 {
+    let g = z.geo;
     let b = g.block_records();
-    let marks = g.marks_start();
-    let keys = g.keys_start();
-    let pays = g.pays_start();
-    let page = marks + j / b;
+    let page = z.marks + j / b;
     let shift = (j % b) as u32;
     let m = with_bit(s[page], shift, slot.mark);
-    s[keys + j] = slot.key;
-    s[pays + j] = slot.pay;
+    s[z.keys + j] = slot.key;
+    s[z.pays + j] = slot.pay;
     s[page] = m;
 }
 
 // A record into slot i, and the records from slot i to slot c - 1 one slot on. Each turn puts down the
 // record that the turn before it took up.
-fn push_in(s: &mut [u32], g: Geometry, i: usize, c: usize, slot: Slot)
-    requires { ⌜ TopReady g (now s) × ((i ≤ c) × (suc c ≤ topCapacityOf g)) ⌝ }
-    ensures { λ _. ⌜ now (s .exit) ≡ withSlots g (now (s .entry)) (pushed i c (recOf slot) (topSlots g (now (s .entry)))) ⌝ }
+fn push_in(s: &mut [u32], z: Layout, i: usize, c: usize, slot: Slot)
+    requires { ⌜ TopReady z (now s) × ((i ≤ c) × (suc c ≤ topCapacityOf (z .geo))) ⌝ }
+    ensures { λ _. ⌜ now (s .exit) ≡ withSlots z (now (s .entry)) (pushed i c (recOf slot) (topSlots z (now (s .entry)))) ⌝ }
 {
     let mut carried = slot;
     let end = c + 1;
     for n in i..end {
-        let next = read_slot(s, g, n);
-        write_slot(s, g, n, carried);
+        let next = read_slot(s, z, n);
+        write_slot(s, z, n, carried);
         carried = next;
     }
 }
 
 // A record into level 0: over the one that has its key, or between its neighbours.
-pub fn enter(s: &mut [u32], g: Geometry, at: Rank, k: u32, mark: bool, v: u32)
-    requires { ⌜ TopReady g (now s) × ((at ≡ rankOf k (keysOf (topRecs g (now s)))) × Room g (now s) at) ⌝ }
-    ensures { λ _. ⌜ now (s .exit) ≡ withTop g (now (s .entry)) (insert (record { key = k; tombstone = mark; pay = v }) (topRecs g (now (s .entry)))) ⌝ }
+pub fn enter(s: &mut [u32], z: Layout, at: Rank, k: u32, mark: bool, v: u32)
+    requires { ⌜ TopReady z (now s) × ((at ≡ rankOf k (keysOf (topRecs z (now s)))) × Room z (now s) at) ⌝ }
+    ensures { λ _. ⌜ now (s .exit) ≡ withTop z (now (s .entry)) (insert (record { key = k; tombstone = mark; pay = v }) (topRecs z (now (s .entry)))) ⌝ }
 {
     let slot = Slot {
         key: k,
@@ -110,11 +109,12 @@ pub fn enter(s: &mut [u32], g: Geometry, at: Rank, k: u32, mark: bool, v: u32)
         pay: v,
     };
     if at.found {
-        write_slot(s, g, at.below, slot);
+        write_slot(s, z, at.below, slot);
     } else {
-        let c = s[8];
-        push_in(s, g, at.below, c as usize, slot);
-        s[8] = c + 1;
+        let count = z.count;
+        let c = s[count];
+        push_in(s, z, at.below, c as usize, slot);
+        s[count] = c + 1;
     }
 }
 
@@ -124,26 +124,26 @@ fn close_part(s: &mut [u32], start: usize, n: usize, at: usize, gap: usize)
     ensures { λ _. ⌜ now (s .exit) ≡ closed (now (s .entry)) start n at gap ⌝ }
 {
     let left = n - (at + gap);
-    slices::copy_down(s, start + at + gap, left, start + at);
-    slices::clear(s, start + at + left, gap);
+    let to = start + at;
+    slices::copy_down(s, to + gap, left, to);
+    slices::clear(s, to + left, gap);
 }
 
 // Pages `first` to `first + w - 1` leave a full level 0. Whole pages move, so that mark words, keys and
 // payloads move as words.
-pub fn close_gap(s: &mut [u32], g: Geometry, first: usize, w: usize)
-    requires { ⌜ TopReady g (now s) × ((topCountAt (now s) ≡ topCapacityOf g) × (first + w ≤ capacityOf g 0)) ⌝ }
-    ensures { λ _. ⌜ now (s .exit) ≡ withTop g (now (s .entry)) (take (first * g .b) (topRecs g (now (s .entry))) ++ drop ((first + w) * g .b) (topRecs g (now (s .entry)))) ⌝ }
+pub fn close_gap(s: &mut [u32], z: Layout, first: usize, w: usize)
+    requires { ⌜ TopReady z (now s) × ((topCountAt z (now s) ≡ topCapacityOf (z .geo)) × (first + w ≤ capacityOf (z .geo) 0)) ⌝ }
+    ensures { λ _. ⌜ now (s .exit) ≡ withTop z (now (s .entry)) (take (first * z .geo .b) (topRecs z (now (s .entry))) ++ drop ((first + w) * z .geo .b) (topRecs z (now (s .entry)))) ⌝ }
 {
+    let g = z.geo;
     let b = g.block_records();
     let pages = g.capacity(0);
     let room = g.top_capacity();
-    let marks = g.marks_start();
-    let keys = g.keys_start();
-    let pays = g.pays_start();
+    let count = z.count;
     let at = first * b;
     let gap = w * b;
-    close_part(s, marks, pages, first, w);
-    close_part(s, keys, room, at, gap);
-    close_part(s, pays, room, at, gap);
-    s[8] = (room - gap) as u32;
+    close_part(s, z.marks, pages, first, w);
+    close_part(s, z.keys, room, at, gap);
+    close_part(s, z.pays, room, at, gap);
+    s[count] = (room - gap) as u32;
 }

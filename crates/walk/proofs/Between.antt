@@ -12,7 +12,7 @@ use Rattle.levels.proofs.Rising.{below-append}
 use Rattle.levels.specs.Rising.{Below}
 use Rattle.levels.proofs.Overlay.{into-below, overlay-nil}
 use Rattle.levels.proofs.View.{unmarked-drop, unmarked-keep}
-use Rattle.words.specs.Layout.{word}
+use Rattle.words.specs.Stores.{word}
 use Rattle.chunks.specs.Peel.{liveBit}
 use Rattle.chunks.proofs.Overlay.{Least, live-cons}
 use Rattle.directory.specs.declared.Directory.{Directory}
@@ -139,7 +139,7 @@ module _ (ws : List ℕ) (d : Directory) (after : Cursor) (g : Good ws d after) 
 
 -- while a key is below the bound, its record can be read
 pub copies-in : (ws : List ℕ) (d : Directory) (c : Cursor) (bound n : ℕ) (keys pays : List ℕ) (after : Cursor) (total : ℕ) (keys′ pays′ : List ℕ) → Copies ws d c bound n keys pays after total keys′ pays′ → after .key < bound → bound ≤ 4294967296
-    → (after .key < 4294967296) × ((after .chunk .pays < length ws) × (length ws ≤ 288524))
+    → (after .key < 4294967296) × ((after .chunk .pays < length ws) × (length ws ≤ 400000))
 copies-in ws d c bound n keys pays after total keys′ pays′ k h b =
     let g = k .skims .good in
     let a = alive-of ws d after g {k = after .key} refl (omega arith) in

@@ -13,7 +13,7 @@ use lib.ListN.{length, length-append}
 use Rattle.levels.specs.Record.{Rec}
 use Rattle.levels.specs.Map.{overlay}
 use Rattle.levels.proofs.Laid.{overlay-length, kept-length}
-use Rattle.words.specs.Layout.{word}
+use Rattle.words.specs.Stores.{word}
 use Rattle.chunks.specs.declared.Chunk.{Chunk}
 use Rattle.chunks.specs.Chunks.{chunkRecs}
 use Rattle.chunks.specs.Peel.{past}
@@ -131,7 +131,7 @@ level-length : (ws : List ℕ) (d : Directory) → Formed d ws → length (recor
 level-length ws d f = le-trans (chunks-length ws d f 0 (d .chunks) (omega arith)) (mul-le-mul (f .within .chunks-high) (f .within .width-high))
 
 -- so is what lies between two cursors of a level
-pub skims-few : (ws : List ℕ) (d : Directory) (c : Cursor) (bound : ℕ) (after : Cursor) (live : ℕ) → Good ws d c → Skims ws d c bound after live → live ≤ 304908
+pub skims-few : (ws : List ℕ) (d : Directory) (c : Cursor) (bound : ℕ) (after : Cursor) (live : ℕ) → Good ws d c → Skims ws d c bound after live → live ≤ 416384
 unfolding rest
 skims-few ws d c bound after live g k =
     let a = ap (λ (rs : List Rec). length rs) (k .joined) ∙ length-append (k .between) (rest ws d after) in

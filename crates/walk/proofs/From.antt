@@ -14,7 +14,7 @@ use Rattle.levels.proofs.Rising.{rising-from, rising-right}
 use Rattle.levels.proofs.Overlay.{into-below, into-same, into-above, overlay-rising, Way, way}
 use Rattle.levels.proofs.Overlay.Way.{less, same, more}
 use Rattle.levels.specs.Rising.{Rising, Below}
-use Rattle.words.specs.Layout.{word}
+use Rattle.words.specs.Stores.{word}
 use Rattle.words.proofs.Slots.{slots-drop}
 use Rattle.chunks.specs.declared.Chunk.{Chunk}
 use Rattle.chunks.specs.Chunks.{chunkRecs}
@@ -106,7 +106,7 @@ pub record SlotRoom (ws : List ℕ) (c : Chunk) (at : ℕ) : Type 0 where
   pub key-in : c .keys + at < length ws
   pub pay-in : c .pays + at < length ws
   pub low : at < 16
-  pub short : length ws ≤ 288524
+  pub short : length ws ≤ 400000
 
 -- a level at the rank of q in the chunk that was sought
 module _ (ws : List ℕ) (d : Directory) (f : Formed d ws) (q r : ℕ) (s : Sought ws d q r) (c : Chunk) (e : c ≡ chunkAt ws d r) (t : Rank) (y : t ≡ rankOf q (chunkKeys ws c)) where

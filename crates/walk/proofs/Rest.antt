@@ -9,7 +9,7 @@ use native.Mathlib.Numerals.{add-one}
 use lib.Dec.{eqb}
 use lib.ListN.{length}
 use Rattle.levels.specs.Record.{Rec}
-use Rattle.words.specs.Layout.{word, slotsAt}
+use Rattle.words.specs.Stores.{word, slotsAt}
 use Rattle.chunks.specs.declared.Chunk.{Chunk}
 use Rattle.chunks.specs.Peel.{past}
 use Rattle.chunks.proofs.Slots.{slots-first}

@@ -12,7 +12,7 @@ use Rattle.levels.specs.Rising.{Rising, Below}
 use Rattle.levels.proofs.Rising.{rising-from, rising-right, below-append, below-more}
 use Rattle.levels.proofs.Laid.{kept-length}
 use Rattle.levels.proofs.View.{unmarked-drop, unmarked-keep, unmarked-rising}
-use Rattle.words.specs.Layout.{word}
+use Rattle.words.specs.Stores.{word}
 use Rattle.chunks.specs.declared.Chunk.{Chunk}
 use Rattle.chunks.specs.Peel.{past, liveBit}
 use Rattle.walk.specs.declared.Cursor.{Cursor}

@@ -10,7 +10,7 @@ use Rattle.levels.specs.Basics.{if_then_else_}
 use Rattle.levels.specs.Record.{Rec}
 use Rattle.levels.specs.Map.{overlay, unmarked}
 use Rattle.levels.specs.Rising.{Rising, Below}
-use Rattle.words.specs.Layout.{word, keysOf, paysOf}
+use Rattle.words.specs.Stores.{word, keysOf, paysOf}
 use Rattle.words.specs.Calls.{over}
 use Rattle.chunks.specs.declared.Chunk.{Chunk}
 use Rattle.chunks.specs.Chunks.{chunkRecs}

@@ -3,12 +3,11 @@
 // slot of the first key, so that no key below it is looked at.
 
 ghost use mathlib.Core.Path.{_≡_};
-ghost use mathlib.Core.Bool.{Bool};
 ghost use Prim.Native.Nat.{_+_, _-_, _%_, _≤_, _<_, min};
 ghost use lib.ListN.{length};
 ghost use lib.Dec.{eqb};
 ghost use Rattle.levels.specs.Map.{unmarked, firstFrom, stretch};
-ghost use Rattle.words.specs.Layout.{word};
+ghost use Rattle.words.specs.Stores.{word};
 ghost use Rattle.words.specs.Calls.{StretchAnswer, StretchOutcome, filled};
 ghost use Rattle.chunks.specs.Peel.{past, liveBit};
 ghost use Rattle.directory.specs.Directory.{Formed, recordsFrom};
@@ -215,7 +214,7 @@ fn list_one(
     pays: &mut [u32],
     n: usize,
 ) -> usize
-    requires { ⌜ (key < 4294967296) × ((pay < length (now s)) × ((length (now s) ≤ 288524) × (n < 4294967296))) ⌝ }
+    requires { ⌜ (key < 4294967296) × ((pay < length (now s)) × ((length (now s) ≤ 400000) × (n < 4294967296))) ⌝ }
     ensures { λ r. ⌜ (r ≡ n + liveBit (eqb (marks % 2) 1))
         × ((now (keys .exit) ≡ entered (eqb (marks % 2) 1) (min (length (now (keys .entry))) (length (now (pays .entry)))) n key (now (keys .entry)))
         × (now (pays .exit) ≡ entered (eqb (marks % 2) 1) (min (length (now (keys .entry))) (length (now (pays .entry)))) n (word (now (s .entry)) pay) (now (pays .entry)))) ⌝ }

@@ -12,15 +12,15 @@ use Rattle.geometry.specs.Geometry.{keyLimitOf}
 use Rattle.levels.specs.Record.{Level}
 use Rattle.levels.specs.Map.{mapOf, liveCount}
 use Rattle.levels.specs.Store.{emptyStore, rows}
-use Rattle.levels.proofs.Empty.{empty-map, empty-at, empty-fits}
-use Rattle.words.specs.Layout.{geometryAt, liveAt, topCountAt, countAt, storeAt, storeWords}
+use Rattle.levels.proofs.Empty.{empty-map, empty-at}
+use Rattle.words.specs.Stores.{liveAt, topCountAt, countAt, storeAt, layoutAt}
 use Rattle.words.specs.Form.{reasonOf}
 use Rattle.words.specs.Calls.{AboutAnswer, mapAt, checkOf, formatOf, aboutIn, aboutRefused, aboutOf}
 use Rattle.words.specs.Passed.{Passed}
-use Rattle.words.proofs.State.{Holds, geometry-back, read-back, live-held, top-count-held, count-held}
-use Rattle.words.proofs.Form.{formed-clauses, clauses-hold}
-use Rattle.words.proofs.Reason.{size-legal, reason-formed, reason-passed}
-use Rattle.words.proofs.Formatted.{clearArea, empty-laid, format-sizes, format-leaves, format-passes}
+use Rattle.words.proofs.State.{live-held, top-count-held, count-held}
+use Rattle.words.proofs.Reason.{passed-held, size-legal, reason-passed}
+use Rattle.words.proofs.Formatted.{format-own, format-holds-empty, format-sizes, format-leaves, format-passes}
+use Rattle.layout.specs.declared.Layout.{Layout}
 
 -- the answer for a store of this geometry with so many keys in its map, records in level 0 and blocks in levels 1, 2 and 3
 abbrev pub answerWith : Geometry → ℕ → ℕ → ℕ → ℕ → ℕ → AboutAnswer
@@ -41,7 +41,7 @@ answerWith g live top n1 n2 n3 = record {
 }
 
 -- a store that is not turned down
-about-passed : (ws : List ℕ) → reasonOf ws ≡ 0 → aboutOf ws ≡ aboutIn (geometryAt ws) (storeAt (geometryAt ws) ws)
+about-passed : (ws : List ℕ) → reasonOf ws ≡ 0 → aboutOf ws ≡ aboutIn (layoutAt ws .geo) (storeAt (layoutAt ws) ws)
 unfolding aboutOf
 about-passed ws e = rw (eq-eqb (reasonOf ws) 0 e, aboutOf)
 
@@ -59,28 +59,26 @@ about-reason ws = go (eqb (reasonOf ws) 0) refl
     go true q = rw (q, aboutOf) (sym (eqb-true (reasonOf ws) 0 q))
     go false q = rw (q, aboutOf)
 
+-- of words that pass, the map, the records and the blocks counted are the size words
+pub about-read : (z : Layout) (ws : List ℕ) → Passed z ws → aboutIn (z .geo) (storeAt z ws) ≡ answerWith (z .geo) (liveAt z ws) (topCountAt z ws) (countAt z ws 1) (countAt z ws 2) (countAt z ws 3)
+unfolding aboutIn
+about-read z ws p =
+    let s = storeAt z ws in
+    let held = passed-held z ws p in
+    let live = p .sound .live-exact ∙ sym (live-held z ws s (p .proper) (p .fits) (p .long) held) in
+    let top = sym (top-count-held z ws s (p .proper) (p .fits) (p .long) held) in
+    let n1 = sym (count-held z ws s (p .proper) (p .fits) (p .long) held 0 (omega arith)) in
+    let n2 = sym (count-held z ws s (p .proper) (p .fits) (p .long) held 1 (omega arith)) in
+    let n3 = sym (count-held z ws s (p .proper) (p .fits) (p .long) held 2 (omega arith)) in
+    λ i. answerWith (z .geo) (live i) (top i) (n1 i) (n2 i) (n3 i)
+
 module _ (ws : List ℕ) (e : reasonOf ws ≡ 0) where
-  passed : Passed (geometryAt ws) ws
+  passed : Passed (layoutAt ws) ws
   passed = reason-passed ws e
 
-  held : Holds (geometryAt ws) ws (storeAt (geometryAt ws) ws)
-  held = let k = reason-formed ws e in clauses-hold (geometryAt ws) ws (k .0) (k .1) (formed-clauses (geometryAt ws) ws (k .2)) refl
-
-  -- the map, the records and the blocks counted are the size words
-  pub about-read : aboutIn (geometryAt ws) (storeAt (geometryAt ws) ws) ≡ answerWith (geometryAt ws) (liveAt ws) (topCountAt ws) (countAt ws 1) (countAt ws 2) (countAt ws 3)
-  unfolding aboutIn
-  about-read =
-      let s = storeAt (geometryAt ws) ws in
-      let live = passed .sound .live-exact ∙ sym (live-held (geometryAt ws) ws s (passed .valid) (passed .fits) held) in
-      let top = sym (top-count-held (geometryAt ws) ws s (passed .valid) (passed .fits) held) in
-      let n1 = sym (count-held (geometryAt ws) ws s (passed .valid) (passed .fits) held 0 (omega arith)) in
-      let n2 = sym (count-held (geometryAt ws) ws s (passed .valid) (passed .fits) held 1 (omega arith)) in
-      let n3 = sym (count-held (geometryAt ws) ws s (passed .valid) (passed .fits) held 2 (omega arith)) in
-      λ i. answerWith (geometryAt ws) (live i) (top i) (n1 i) (n2 i) (n3 i)
-
   -- About answers the size words and N.
-  pub about-words : aboutOf ws ≡ answerWith (geometryAt ws) (liveAt ws) (topCountAt ws) (countAt ws 1) (countAt ws 2) (countAt ws 3)
-  about-words = about-passed ws e ∙ about-read
+  pub about-words : let z = layoutAt ws in aboutOf ws ≡ answerWith (z .geo) (liveAt z ws) (topCountAt z ws) (countAt z ws 1) (countAt z ws 2) (countAt z ws 3)
+  about-words = about-passed ws e ∙ about-read (layoutAt ws) ws passed
 
   -- "live (number of keys in the map)"
   pub about-live : aboutOf ws .live ≡ length (mapAt ws)
@@ -89,26 +87,25 @@ module _ (ws : List ℕ) (e : reasonOf ws ≡ 0) where
 
   -- "live is the number of keys of the map and at most N"
   pub about-full : aboutOf ws .live ≤ aboutOf ws .limit
-  about-full = rw about-words (rw (live-held (geometryAt ws) ws (storeAt (geometryAt ws) ws) (passed .valid) (passed .fits) held) (passed .sound .live-fits))
+  about-full = rw about-words (rw (live-held (layoutAt ws) ws (storeAt (layoutAt ws) ws) (passed .proper) (passed .fits) (passed .long) (passed-held (layoutAt ws) ws passed)) (passed .sound .live-fits))
 
   -- "(zero above h)"
-  pub about-above : (geometryAt ws .h ≤ 1 → aboutOf ws .blocks2 ≡ 0) × (geometryAt ws .h ≤ 2 → aboutOf ws .blocks3 ≡ 0)
+  pub about-above : (layoutAt ws .geo .h ≤ 1 → aboutOf ws .blocks2 ≡ 0) × (layoutAt ws .geo .h ≤ 2 → aboutOf ws .blocks3 ≡ 0)
   unfolding aboutIn
   about-above = (λ h. ap (λ (a : AboutAnswer). a .blocks2) (about-passed ws e) ∙ above 1 h, λ h. ap (λ (a : AboutAnswer). a .blocks3) (about-passed ws e) ∙ above 2 h)
     where
-      above : (i : ℕ) → geometryAt ws .h ≤ i → length (getD (storeAt (geometryAt ws) ws .levels) i []) ≡ 0
-      above i h = ap (λ (l : Level). length l) (List·getD-eq-default (storeAt (geometryAt ws) ws .levels) [] {n = i} (omega (arith, passed .fits .level-count)))
+      above : (i : ℕ) → layoutAt ws .geo .h ≤ i → length (getD (storeAt (layoutAt ws) ws .levels) i []) ≡ 0
+      above i h = ap (λ (l : Level). length l) (List·getD-eq-default (storeAt (layoutAt ws) ws .levels) [] {n = i} (omega (arith, passed .fits .level-count)))
 
 -- After format: the geometry as it was given, no key, N, no record and no block.
 pub about-format : (ws : List ℕ) (g : Geometry) → formatOf ws g .answer .reason ≡ 0 → aboutOf (formatOf ws g .words) ≡ answerWith g 0 0 0 0 0
 unfolding aboutIn liveCount emptyStore
 about-format ws g e =
-    let z = format-sizes ws g e in
-    let out = storeWords g (emptyStore g) (clearArea g) in
+    let y = format-sizes ws g e in
+    let v = size-legal (length ws) g y .0 in
     let none : length (mapOf (rows (emptyStore g))) ≡ 0 = rw (empty-map g) in
     let blocks : (i : ℕ) → length (getD (emptyStore g .levels) i []) ≡ 0 = λ i. ap (λ (l : Level). length l) (empty-at (g .h) i) in
-    about-passed (formatOf ws g .words) (format-passes ws g z)
-    ∙ ap (λ (xs : List ℕ). aboutIn (geometryAt xs) (storeAt (geometryAt xs) xs)) (format-leaves ws g z)
-    ∙ ap (λ (t : Geometry). aboutIn t (storeAt t out)) (geometry-back g (emptyStore g) (clearArea g))
-    ∙ ap (aboutIn g) (read-back g (emptyStore g) (clearArea g) (size-legal (length ws) g z .0) (empty-fits g) (empty-laid g))
+    about-passed (formatOf ws g .words) (format-passes ws g y)
+    ∙ ap (λ (xs : List ℕ). aboutIn (layoutAt xs .geo) (storeAt (layoutAt xs) xs)) (format-leaves ws g y)
+    ∙ (λ i. aboutIn (format-own g v i) (format-holds-empty g v i))
     ∙ (λ i. answerWith g (none i) 0 (blocks 0 i) (blocks 1 i) (blocks 2 i))

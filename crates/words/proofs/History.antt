@@ -7,52 +7,24 @@ use lib.Dec.{eqb}
 use lib.ListN.{length, take}
 use borrow.Author.Tests.{eqb-true, eqb-false}
 use Rattle.geometry.specs.declared.Geometry.{Geometry}
-use Rattle.geometry.specs.Geometry.{keyLimitOf, sizeReason}
+use Rattle.geometry.specs.Geometry.{keyLimitOf}
 use Rattle.levels.specs.Basics.{if_then_else_, isSome}
 use Rattle.levels.specs.Record.{Rec}
 use Rattle.levels.specs.Map.{find}
 use Rattle.levels.specs.Put.{insert, without, putRec}
-use Rattle.words.specs.Layout.{geometryAt}
+use Rattle.words.specs.Stores.{layoutAt}
 use Rattle.words.specs.Form.{reasonOf}
 use Rattle.words.specs.Calls.{Outcome, ChangeAnswer, FormatAnswer, AboutAnswer, mapAt, formatOf, checkOf, putOf, deleteOf, aboutOf, isFull, willPutMergeOf}
-use Rattle.words.specs.History.{
-  Call,
-  formatAs,
-  check,
-  lookUpKey,
-  nextKey,
-  stretchKeys,
-  showKey,
-  putKey,
-  delKey,
-  about,
-  willPut,
-  willDelete,
-  perform,
-  formats,
-  checks,
-  looks,
-  nexts,
-  stretches,
-  changes,
-  tells,
-  forecasts,
-  replyOf,
-  mapReply,
-  mapAfter,
-  replies,
-  afterAll,
-  StoreForm,
-  AnswersAsMap,
-  heldIn,
-  wordsForm,
-}
+use Rattle.words.specs.History.{Call, formatAs, check, lookUpKey, nextKey, stretchKeys, showKey, putKey, delKey, about, willPut, willDelete, perform, formats, checks, looks, nexts, stretches, changes, tells, forecasts, replyOf, mapReply, mapAfter, replies, afterAll, StoreForm, AnswersAsMap, heldIn, wordsForm}
 use Rattle.words.proofs.Formatted.{format-sizes, format-turned-down, format-accepted, format-length, format-geometry, format-passes}
 use Rattle.words.proofs.Steps.{put-passes, delete-passes}
 use Rattle.words.proofs.About.{about-reason, about-live, about-words}
 use Rattle.words.proofs.Stretch.{stretch-map}
 use Rattle.words.proofs.Forecast.{full-is, full-not, put-reason-passed, will-put-reason, will-delete-reason}
 use Rattle.words.proofs.MapAfter.{format-map, look-up-map, next-map, put-geometry, delete-geometry, put-enters, delete-takes-out, put-full-outcome, put-accepted, delete-accepted, put-length, delete-length}
+use Rattle.layout.specs.Layouts.{sizeReason}
+use Rattle.layout.specs.declared.Layout.{Layout}
+use Rattle.words.proofs.Reason.{layout-geometry, layout-same}
 
 -- What a form of the store has to show of each call alone, from any state that passes.
 pub record OneStep {State Call Reply Map : Type 0} (f : StoreForm State Call Reply Map) : Type 0 where
@@ -85,9 +57,9 @@ module _ {State Call Reply Map : Type 0} (f : StoreForm State Call Reply Map) (o
   }
 
 -- the map that words hold, part by part
-held-is : (ws : List ℕ) (n : ℕ) (g : Geometry) (rs : List Rec) → length ws ≡ n → geometryAt ws ≡ g → mapAt ws ≡ rs → heldIn ws ≡ record { size = n; limit = keyLimitOf g; records = rs }
+held-is : (ws : List ℕ) (n : ℕ) (g : Geometry) (rs : List Rec) → length ws ≡ n → layoutAt ws .geo ≡ g → mapAt ws ≡ rs → heldIn ws ≡ record { size = n; limit = keyLimitOf g; records = rs }
 held-is ws n g rs a b c =
-    ap (λ (x : ℕ). record { size = x; limit = keyLimitOf (geometryAt ws); records = mapAt ws }) a
+    ap (λ (x : ℕ). record { size = x; limit = keyLimitOf (layoutAt ws .geo); records = mapAt ws }) a
     ∙ ap (λ (x : Geometry). record { size = n; limit = keyLimitOf x; records = mapAt ws }) b ∙ ap (λ (x : List Rec). record { size = n; limit = keyLimitOf g; records = x }) c
 
 -- Format, of any words: what it answers, and the empty map.
@@ -101,7 +73,7 @@ format-reply ws g = go (eqb (sizeReason (length ws) g) 0) refl
 
 pub format-held : (ws : List ℕ) (g : Geometry) → sizeReason (length ws) g ≡ 0 → heldIn (formatOf ws g .words) ≡ record { size = length ws; limit = keyLimitOf g; records = [] }
 format-held ws g e =
-    held-is (formatOf ws g .words) (length ws) g [] (format-length ws g e) (format-geometry ws g e) (format-map ws g (ap (λ (o : Outcome FormatAnswer). o .answer .reason) (format-accepted ws g e)))
+    held-is (formatOf ws g .words) (length ws) g [] (format-length ws g e) (layout-geometry (formatOf ws g .words) ∙ format-geometry ws g e) (format-map ws g (ap (λ (o : Outcome FormatAnswer). o .answer .reason) (format-accepted ws g e)))
 
 -- Words that pass the form check: each call.
 module _ (ws : List ℕ) (e : reasonOf ws ≡ 0) where
@@ -110,34 +82,34 @@ module _ (ws : List ℕ) (e : reasonOf ws ≡ 0) where
     where
       go : (t : Bool) → eqb (sizeReason (length ws) g) 0 ≡ t
           → (reasonOf (formatOf ws g .words) ≡ 0) × (heldIn (formatOf ws g .words) ≡ (if t then record { size = length ws; limit = keyLimitOf g; records = [] } else heldIn ws))
-      go true q = let z = eqb-true (sizeReason (length ws) g) 0 q in (format-passes ws g z, format-held ws g z)
+      go true q = let y = eqb-true (sizeReason (length ws) g) 0 q in (format-passes ws g y, format-held ws g y)
       go false q =
           let w : formatOf ws g .words ≡ ws = ap (λ (o : Outcome FormatAnswer). o .words) (format-turned-down ws g (eqb-false (sizeReason (length ws) g) 0 q)) in
           (ap reasonOf w ∙ e, ap heldIn w)
 
   -- a put that is refused as full, and every other
   put-reply : (k v : ℕ) → changes (putOf ws k v .answer .reason) (putOf ws k v .answer .live) ≡ mapReply (heldIn ws) (putKey k v)
-  put-reply k v = go (isFull (keyLimitOf (geometryAt ws)) (mapAt ws) k) refl
+  put-reply k v = go (isFull (keyLimitOf (layoutAt ws .geo)) (mapAt ws) k) refl
     where
-      go : (t : Bool) → isFull (keyLimitOf (geometryAt ws)) (mapAt ws) k ≡ t → changes (putOf ws k v .answer .reason) (putOf ws k v .answer .live) ≡ (if t then changes 5 false else changes 0 (isSome (find k (mapAt ws))))
-      go true q = let z = full-is (keyLimitOf (geometryAt ws)) (mapAt ws) k q in ap (λ (o : Outcome ChangeAnswer). changes (o .answer .reason) (o .answer .live)) (put-full-outcome ws e k v (z .0) (z .1))
-      go false q = let z = put-accepted ws e k v (full-not (keyLimitOf (geometryAt ws)) (mapAt ws) k q) in ap (λ (n : ℕ). changes n (putOf ws k v .answer .live)) (z .0) ∙ ap (changes 0) (z .1)
+      go : (t : Bool) → isFull (keyLimitOf (layoutAt ws .geo)) (mapAt ws) k ≡ t → changes (putOf ws k v .answer .reason) (putOf ws k v .answer .live) ≡ (if t then changes 5 false else changes 0 (isSome (find k (mapAt ws))))
+      go true q = let y = full-is (keyLimitOf (layoutAt ws .geo)) (mapAt ws) k q in ap (λ (o : Outcome ChangeAnswer). changes (o .answer .reason) (o .answer .live)) (put-full-outcome ws e k v (y .0) (y .1))
+      go false q = let y = put-accepted ws e k v (full-not (keyLimitOf (layoutAt ws .geo)) (mapAt ws) k q) in ap (λ (n : ℕ). changes n (putOf ws k v .answer .live)) (y .0) ∙ ap (changes 0) (y .1)
 
   put-held : (k v : ℕ) → heldIn (putOf ws k v .words) ≡ mapAfter (heldIn ws) (putKey k v)
-  put-held k v = go (isFull (keyLimitOf (geometryAt ws)) (mapAt ws) k) refl
+  put-held k v = go (isFull (keyLimitOf (layoutAt ws .geo)) (mapAt ws) k) refl
     where
-      go : (t : Bool) → isFull (keyLimitOf (geometryAt ws)) (mapAt ws) k ≡ t → heldIn (putOf ws k v .words) ≡ (if t then heldIn ws else record { size = length ws; limit = keyLimitOf (geometryAt ws); records = insert (putRec k v) (mapAt ws) })
-      go true q = let z = full-is (keyLimitOf (geometryAt ws)) (mapAt ws) k q in ap (λ (o : Outcome ChangeAnswer). heldIn (o .words)) (put-full-outcome ws e k v (z .0) (z .1))
+      go : (t : Bool) → isFull (keyLimitOf (layoutAt ws .geo)) (mapAt ws) k ≡ t → heldIn (putOf ws k v .words) ≡ (if t then heldIn ws else record { size = length ws; limit = keyLimitOf (layoutAt ws .geo); records = insert (putRec k v) (mapAt ws) })
+      go true q = let y = full-is (keyLimitOf (layoutAt ws .geo)) (mapAt ws) k q in ap (λ (o : Outcome ChangeAnswer). heldIn (o .words)) (put-full-outcome ws e k v (y .0) (y .1))
       go false q =
-          held-is (putOf ws k v .words) (length ws) (geometryAt ws) (insert (putRec k v) (mapAt ws)) (put-length ws e k v) (put-geometry ws k v)
-          (put-enters ws e k v (put-accepted ws e k v (full-not (keyLimitOf (geometryAt ws)) (mapAt ws) k q) .0))
+          held-is (putOf ws k v .words) (length ws) (layoutAt ws .geo) (insert (putRec k v) (mapAt ws)) (put-length ws e k v) (ap (λ (y : Layout). y .geo) (layout-same (putOf ws k v .words) ws (put-geometry ws e k v)))
+          (put-enters ws e k v (put-accepted ws e k v (full-not (keyLimitOf (layoutAt ws .geo)) (mapAt ws) k q) .0))
 
   delete-reply : (k : ℕ) → changes (deleteOf ws k .answer .reason) (deleteOf ws k .answer .live) ≡ mapReply (heldIn ws) (delKey k)
-  delete-reply k = let z = delete-accepted ws e k in ap (λ (n : ℕ). changes n (deleteOf ws k .answer .live)) (z .0) ∙ ap (changes 0) (z .1)
+  delete-reply k = let y = delete-accepted ws e k in ap (λ (n : ℕ). changes n (deleteOf ws k .answer .live)) (y .0) ∙ ap (changes 0) (y .1)
 
   delete-held : (k : ℕ) → heldIn (deleteOf ws k .words) ≡ mapAfter (heldIn ws) (delKey k)
   delete-held k =
-      held-is (deleteOf ws k .words) (length ws) (geometryAt ws) (without k (mapAt ws)) (delete-length ws e k) (delete-geometry ws k) (delete-takes-out ws e k (delete-accepted ws e k .0))
+      held-is (deleteOf ws k .words) (length ws) (layoutAt ws .geo) (without k (mapAt ws)) (delete-length ws e k) (ap (λ (y : Layout). y .geo) (layout-same (deleteOf ws k .words) ws (delete-geometry ws e k))) (delete-takes-out ws e k (delete-accepted ws e k .0))
 
   about-reply : tells (aboutOf ws .reason) (aboutOf ws .live) (aboutOf ws .limit) ≡ mapReply (heldIn ws) about
   unfolding checkOf
@@ -146,7 +118,7 @@ module _ (ws : List ℕ) (e : reasonOf ws ≡ 0) where
       ∙ ap (λ (n : ℕ). tells 0 n (aboutOf ws .limit)) (about-live ws e) ∙ ap (tells 0 (length (mapAt ws))) (ap (λ (a : AboutAnswer). a .limit) (about-words ws e))
 
   will-put-reply : (k : ℕ) → forecasts (willPutMergeOf ws k .reason) ≡ mapReply (heldIn ws) (willPut k)
-  will-put-reply k = ap forecasts (will-put-reason ws k ∙ put-reason-passed ws k e) ∙ go (isFull (keyLimitOf (geometryAt ws)) (mapAt ws) k)
+  will-put-reply k = ap forecasts (will-put-reason ws k ∙ put-reason-passed ws k e) ∙ go (isFull (keyLimitOf (layoutAt ws .geo)) (mapAt ws) k)
     where
       go : (t : Bool) → forecasts (if t then 5 else 0) ≡ (if t then forecasts 5 else forecasts 0)
       go true = refl
@@ -206,5 +178,5 @@ history ws e cs = calls-as-map wordsForm words-step ws (heldIn ws) e refl cs
 pub history-from-format : (ws : List ℕ) (g : Geometry) → formatOf ws g .answer .reason ≡ 0 → (cs : List Call)
     → AnswersAsMap wordsForm (formatOf ws g .words) (record { size = length ws; limit = keyLimitOf g; records = [] }) cs
 history-from-format ws g e cs =
-    let z = format-sizes ws g e in
-    calls-as-map wordsForm words-step (formatOf ws g .words) (record { size = length ws; limit = keyLimitOf g; records = [] }) (format-passes ws g z) (format-held ws g z) cs
+    let y = format-sizes ws g e in
+    calls-as-map wordsForm words-step (formatOf ws g .words) (record { size = length ws; limit = keyLimitOf g; records = [] }) (format-passes ws g y) (format-held ws g y) cs

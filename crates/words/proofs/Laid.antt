@@ -5,24 +5,23 @@ use mathlib.Core.Bool.{true, false, not, or-true, true≢false, and-eq-true-iff}
 use mathlib.Core.List.{List, [], _∷_, _++_, map, List·Memᴰ, List·Memᴰ·head, List·Memᴰ·tail, List·Memᴰ·not-nil}
 use mathlib.Core.Logic.{_≢_, _⊎_, inl, inr}
 use lib.Dec.{eqb}
+use lib.ListN.{length}
 use borrow.Author.Tests.{eq-eqb, eqb-false, not-true}
 use Rattle.geometry.specs.declared.Geometry.{Geometry}
+use Rattle.geometry.specs.Geometry.{blockWidth}
+use Rattle.layout.specs.declared.Layout.{Layout}
+use Rattle.layout.specs.Layouts.{placeStart, Proper}
 use Rattle.levels.specs.Basics.{member}
 use Rattle.levels.specs.Record.{Block, Level}
 use Rattle.levels.specs.Place.{placesOf, inUse, distinct}
-use Rattle.levels.specs.Store.{Store}
 use Rattle.levels.specs.Every.{Every, allBlocks}
 use Rattle.levels.specs.Sound.{BlockFits}
 use Rattle.levels.proofs.Basics.{or-false}
 use Rattle.levels.proofs.Every.{every-at, every-turn}
 use Rattle.levels.proofs.Places.{places-append}
-use Rattle.words.specs.Layout.{placeOf, blockWords, writeBlocks, placeWords}
-use Rattle.words.specs.Passed.{Laid}
-use Rattle.words.proofs.Blocks.{Apart, writes-length, writes-other, writes-here}
-
--- level 0, live and the cursor have no part in it
-pub laid-levels : (g : Geometry) (area : List ℕ) (s t : Store) → t .levels ≡ s .levels → Laid g area s → Laid g area t
-laid-levels g area s t e l = record { full = l .full; standing = rw e (l .standing) }
+use Rattle.words.specs.Stores.{part, placeOf, blockWords, withBlocks}
+use Rattle.words.specs.Passed.{Standing}
+use Rattle.words.proofs.Blocks.{PlacesApart, place-below, blocks-other, blocks-here}
 
 -- the places of blocks that fit, one for each block
 pub places-are : (g : Geometry) (bs : Level) → Every (BlockFits g) bs → placesOf bs ≡ map placeOf bs
@@ -48,7 +47,7 @@ every-unmap f P [] h = tt
 every-unmap f P (x ∷ xs) h = (h .0, every-unmap f P xs (h .1))
 
 -- places that are all different keep their blocks apart
-pub distinct-apart : (bs : Level) → distinct (map placeOf bs) ≡ true → Apart bs
+pub distinct-apart : (bs : Level) → distinct (map placeOf bs) ≡ true → PlacesApart bs
 distinct-apart [] e = tt
 distinct-apart (b ∷ bs) e =
     let k = (and-eq-true-iff (not (member (placeOf b) (map placeOf bs))) (distinct (map placeOf bs))) .0 e in
@@ -64,21 +63,17 @@ fresh-apart g ls written f w n b m =
     (λ c e d. true≢false (sym (member-map placeOf (allBlocks ls) b m) ∙ rw (← u, d) e))
     (every-unmap placeOf (λ p. member p (inUse ls) ≡ false) written n2)
 
--- Writing blocks at places that are free lays every store whose blocks are those of the old store or among the new ones.
-pub laid-step : (g : Geometry) (area : List ℕ) (s t : Store) (written : Level) → Every (BlockFits g) (allBlocks (s .levels)) → Laid g area s → Every (BlockFits g) written
-    → distinct (placesOf written) ≡ true → Every (λ p. member p (inUse (s .levels)) ≡ false) (placesOf written)
-    → Every (λ b. List·Memᴰ b (allBlocks (s .levels)) ⊎ List·Memᴰ b written) (allBlocks (t .levels))
-    → Laid g (writeBlocks g area written) t
-laid-step g area s t written f l w d n o =
-    record {
-      full = writes-length g written area (l .full) w;
-      standing = every-turn (λ b. List·Memᴰ b (allBlocks (s .levels)) ⊎ List·Memᴰ b written) (λ b. placeWords g (writeBlocks g area written) (placeOf b) ≡ blockWords g (b .recs)) (allBlocks (t .levels)) (λ b m. go b m) o;
-    }
+-- After blocks have been written at places that are free, every block of the old store and every new one stands in its place.
+pub standing-step : (z : Layout) (ws : List ℕ) (ls ms : List Level) (written : Level) → Proper z → length ws ≡ z .length → Every (BlockFits (z .geo)) (allBlocks ls) → Standing z ws ls → Every (BlockFits (z .geo)) written
+    → distinct (placesOf written) ≡ true → Every (λ p. member p (inUse ls) ≡ false) (placesOf written)
+    → Every (λ b. List·Memᴰ b (allBlocks ls) ⊎ List·Memᴰ b written) (allBlocks ms)
+    → Standing z (withBlocks z written ws) ms
+standing-step z ws ls ms written k long f l w d n o = every-turn (λ b. List·Memᴰ b (allBlocks ls) ⊎ List·Memᴰ b written) (λ b. part (withBlocks z written ws) (placeStart z (placeOf b)) (blockWidth (z .geo)) ≡ blockWords (z .geo) (b .recs)) (allBlocks ms) (λ b m. go b m) o
   where
-    go : (b : Block) → List·Memᴰ b (allBlocks (s .levels)) ⊎ List·Memᴰ b written → placeWords g (writeBlocks g area written) (placeOf b) ≡ blockWords g (b .recs)
+    go : (b : Block) → List·Memᴰ b (allBlocks ls) ⊎ List·Memᴰ b written → part (withBlocks z written ws) (placeStart z (placeOf b)) (blockWidth (z .geo)) ≡ blockWords (z .geo) (b .recs)
     go b (inl m) =
-        writes-other g written area (l .full) w (placeOf b) (fresh-apart g (s .levels) written f w n b m)
-        ∙ every-at (λ c. placeWords g area (placeOf c) ≡ blockWords g (c .recs)) (allBlocks (s .levels)) (l .standing) b m
+        blocks-other z k (placeOf b) written ws long (place-below b (every-at (BlockFits (z .geo)) (allBlocks ls) f b m)) w (fresh-apart (z .geo) ls written f w n b m)
+        ∙ every-at (λ c. part ws (placeStart z (placeOf c)) (blockWidth (z .geo)) ≡ blockWords (z .geo) (c .recs)) (allBlocks ls) l b m
     go b (inr m) =
-        every-at (λ c. placeWords g (writeBlocks g area written) (placeOf c) ≡ blockWords g (c .recs)) written
-        (writes-here g written area (l .full) w (distinct-apart written (rw (places-are g written w) at d))) b m
+        every-at (λ c. part (withBlocks z written ws) (placeStart z (placeOf c)) (blockWidth (z .geo)) ≡ blockWords (z .geo) (c .recs)) written
+        (blocks-here z k written ws long w (distinct-apart written (rw (places-are (z .geo) written w) at d))) b m

@@ -18,7 +18,7 @@ use Rattle.levels.specs.Record.{Rec}
 use Rattle.levels.specs.Map.{find}
 use Rattle.levels.specs.Rising.{Rising, Below}
 use Rattle.levels.proofs.Overlay.{find-here, find-past, find-below}
-use Rattle.words.specs.Layout.{slotsAt, keysOf, part}
+use Rattle.words.specs.Stores.{slotsAt, keysOf, part}
 use Rattle.words.proofs.Parts.{part-cons}
 use Rattle.words.proofs.Slots.{blankRec}
 

@@ -16,10 +16,11 @@ use Rattle.levels.specs.Map.{stretch}
 use Rattle.levels.specs.Rising.{Rising}
 use Rattle.levels.proofs.Lists.{getD-map-in, map-take, map-drop}
 use Rattle.levels.proofs.Stretch.{stretch-resumed, stretch-room}
-use Rattle.words.specs.Layout.{keysOf, paysOf}
+use Rattle.words.specs.Stores.{keysOf, paysOf}
 use Rattle.words.specs.Form.{reasonOf}
 use Rattle.words.specs.Calls.{StretchAnswer, StretchOutcome, over, filled, mapAt, stretchOf}
 use Rattle.words.proofs.MapAfter.{map-rises}
+use Rattle.layout.specs.Layouts.{old}
 
 -- Of words that pass, "The list is the map's stretch cut at that length"; others are turned down, and no entry of an array changes.
 pub stretch-map : (ws : List ℕ) (first last : ℕ) (keys pays : List ℕ) → reasonOf ws ≡ 0 → stretchOf ws first last keys pays ≡ filled (stretch first last (mapAt ws)) keys pays

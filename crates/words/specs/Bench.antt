@@ -16,16 +16,9 @@ use Rattle.geometry.specs.Geometry.{
   inSizes,
   isLegal,
   topCapacityOf,
-  marksStart,
-  keysStart,
-  paysStart,
-  listStart,
   blockWidth,
-  placesStart,
-  placeStart,
-  storeLength,
-  sizeReason,
 }
+use Rattle.layout.specs.Layouts.{old, listStart, placeStart, sizeReason}
 use Rattle.levels.specs.Basics.{if_then_else_}
 use Rattle.levels.specs.Map.{find, into, overlay, view, unmarked, mapOf, liveCount, decides, lookUp, isLive, firstFrom, next, stretch}
 use Rattle.levels.specs.Choose.{cutAt}
@@ -34,7 +27,8 @@ use Rattle.levels.specs.Call.{mergeCut, compactLevel, compactIfNeeded, stepFive
 use Rattle.levels.specs.Put.{insert, mergesFor, enter, put, delete}
 use Rattle.levels.specs.Count.{Counts, blocksMerged, blocksCompacted, countsOf}
 use Rattle.levels.specs.Bench.{sameNumbers}
-use Rattle.words.specs.Layout.{
+use Rattle.pieces.specs.Pieces.{lay, layAll}
+use Rattle.words.specs.Stores.{
   slotsAt,
   pageSlots,
   topSlots,
@@ -47,13 +41,14 @@ use Rattle.words.specs.Layout.{
   storeAt,
   bit,
   markWord,
-  headerWords,
-  topWords,
-  listWords,
+  listPieces,
+  pieces,
+  withStore,
   blockWords,
-  writeBlock,
-  writeBlocks,
-  storeWords,
+  blockPiece,
+  withBlocks,
+  part,
+  layoutAt,
 }
 use Rattle.words.specs.Form.{listedPlaces, liveExact, liveFits, cursorInside, topFits, roomOf, countsFit, placesInside, placesOnce, blocksFilled, keysRise, bottomUnmarked, topUnusedZero, listsUnusedZero, blocksUnusedZero, tombstonesClean, pairsKept, levelsKept, clauses, formed, reasonOf}
 use Rattle.words.specs.Calls.{
@@ -106,11 +101,11 @@ numbersOf (forecast a) = a .reason ∷ a .merges ∷ []
 -- one call, computed
 unfoldable pub computed : List ℕ → Call → Outcome (List ℕ)
 unfolding
-    capacityOf windowOf capacitySum flashCapacityOf keyLimitOf inRanges inSizes isLegal topCapacityOf marksStart keysStart paysStart listStart blockWidth
-    placesStart placeStart storeLength sizeReason find into overlay view unmarked mapOf liveCount decides lookUp isLive firstFrom next stretch cutAt freeAfter
+    capacityOf windowOf capacitySum flashCapacityOf keyLimitOf inRanges inSizes isLegal topCapacityOf blockWidth
+    old listStart placeStart sizeReason part lay layAll layoutAt find into overlay view unmarked mapOf liveCount decides lookUp isLive firstFrom next stretch cutAt freeAfter
     firstFree settle newlyUsed mergeCut compactLevel compactIfNeeded stepFive mergeRun mergeLevel deepestOver mergesBelow mergesFrom insert mergesFor enter
     put delete blocksMerged blocksCompacted countsOf slotsAt pageSlots topSlots topRecs listAt listedAt blockSlots blockAt levelAt storeAt markWord
-    headerWords topWords listWords blockWords writeBlock writeBlocks storeWords listedPlaces liveExact liveFits cursorInside topFits roomOf countsFit placesInside placesOnce
+    listPieces pieces withStore blockWords blockPiece withBlocks listedPlaces liveExact liveFits cursorInside topFits roomOf countsFit placesInside placesOnce
     blocksFilled keysRise bottomUnmarked topUnusedZero listsUnusedZero blocksUnusedZero tombstonesClean pairsKept levelsKept clauses formed reasonOf formatWords formatOf
     checkOf lookUpOf nextOf filled stretchOf enclosing showIn showOf leftWords changeOutcome putOf deleteOf aboutIn aboutOf topMerges putReason willPutMergeOf willDeleteMergeOf perform
 computed ws c = let o = perform ws c in record { answer = numbersOf (o .answer); words = o .words }
@@ -161,7 +156,7 @@ untrue n (t ∷ ts) = if t then untrue (suc n) ts else (n ∷ untrue (suc n) ts)
 unfoldable pub misjudged : List Breach → List String
 unfolding computed
 misjudged [] = []
-misjudged (b ∷ bs) = if sameNumbers (untrue 1 (clauses (b .geometry) (b .words))) (b .broken) then misjudged bs else (b .text ∷ misjudged bs)
+misjudged (b ∷ bs) = if sameNumbers (untrue 1 (clauses (old (b .geometry)) (b .words))) (b .broken) then misjudged bs else (b .text ∷ misjudged bs)
 
 -- words written as counts and values
 abbrev pub expand : List ℕ → List ℕ

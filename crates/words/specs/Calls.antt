@@ -6,7 +6,9 @@ use mathlib.Core.Option.{Option, none, some}
 use lib.Dec.{ltb, eqb}
 use lib.ListN.{length, take, drop, replicate}
 use Rattle.geometry.specs.declared.Geometry.{Geometry}
-use Rattle.geometry.specs.Geometry.{keyLimitOf, topCapacityOf, placeStart, blockWidth, sizeReason, within}
+use Rattle.geometry.specs.Geometry.{keyLimitOf, topCapacityOf, blockWidth, within}
+use Rattle.layout.specs.declared.Layout.{Layout}
+use Rattle.layout.specs.Layouts.{old, placeStart, sizeReason}
 use Rattle.levels.specs.Basics.{if_then_else_, isSome}
 use Rattle.levels.specs.Record.{Rec, Block, Level, firstKey, lastKey}
 use Rattle.levels.specs.Map.{find, mapOf, liveCount, lookUp, next, stretch}
@@ -16,7 +18,8 @@ use Rattle.levels.specs.Put.{Change, refused, absent, entered, put, delete, mer
 use Rattle.levels.specs.Count.{Counts, countsOf}
 use Rattle.levels.specs.declared.Ticket.{Ticket}
 use Rattle.levels.specs.Tickets.{ticketsOf}
-use Rattle.words.specs.Layout.{geometryAt, topCountAt, topRecs, storeAt, storeWords, areaOf, writeBlocks, levelAt, placeOf, keysOf, paysOf}
+use Rattle.pieces.specs.Pieces.{piece, layAll}
+use Rattle.words.specs.Stores.{layoutAt, topCountAt, topRecs, storeAt, withStore, withBlocks, levelAt, placeOf, keysOf, paysOf, part}
 use Rattle.words.specs.Form.{reasonOf}
 
 -- What a call gives: its answer and the words afterwards.
@@ -69,22 +72,26 @@ pub record ChangeAnswer : Type 0 where
   pub level2 : Counts
   pub level3 : Counts
 
+-- the six numbers of a geometry, in the order of their words
+abbrev pub sixOf : Geometry → List ℕ
+sixOf g = g .b ∷ g .w ∷ g .d ∷ g .g ∷ g .h ∷ g .p ∷ []
+
 -- "Format: every word 0 but the six of the geometry and hand = P − 1; answers N."
-unfoldable pub formatWords : Geometry → ℕ → List ℕ
-formatWords g n = g .b ∷ g .w ∷ g .d ∷ g .g ∷ g .h ∷ g .p ∷ 0 ∷ (g .p - 1) ∷ replicate (n - 8) 0
+unfoldable pub formatWords : Layout → List ℕ
+formatWords z = layAll (piece (z .six) (sixOf (z .geo)) ∷ piece (z .hand) ((z .geo .p - 1) ∷ []) ∷ []) (replicate (z .length) 0)
 
 unfoldable pub formatOf : List ℕ → Geometry → Outcome FormatAnswer
 formatOf ws g =
     let r = sizeReason (length ws) g in
     elim (eqb r 0) [
-      | true ↦ record { answer = record { reason = 0; limit = keyLimitOf g }; words = formatWords g (length ws) }
+      | true ↦ record { answer = record { reason = 0; limit = keyLimitOf g }; words = formatWords (old g) }
       | false ↦ record { answer = record { reason = r; limit = 0 }; words = ws }
     ]
 
 -- The finite map of a lent store (demand 2): "Every lookup and every next-key reading answers as a finite map fed with the same accepted puts and deletes."
 -- Its records, in key order.
 abbrev pub mapAt : List ℕ → List Rec
-mapAt ws = mapOf (rows (storeAt (geometryAt ws) ws))
+mapAt ws = mapOf (rows (storeAt (layoutAt ws) ws))
 
 -- "Check: the reason 1 to 4 that a store is turned down for, or 0."
 unfoldable pub checkOf : List ℕ → ℕ
@@ -97,7 +104,7 @@ lookAnswer (some r) = record { reason = 0; found = true; pay = r .pay }
 
 unfoldable pub lookUpOf : List ℕ → ℕ → LookAnswer
 lookUpOf ws k = elim (eqb (reasonOf ws) 0) [
-  | true ↦ lookAnswer (lookUp k (rows (storeAt (geometryAt ws) ws)))
+  | true ↦ lookAnswer (lookUp k (rows (storeAt (layoutAt ws) ws)))
   | false ↦ record { reason = reasonOf ws; found = false; pay = 0 }
 ]
 
@@ -108,7 +115,7 @@ nextAnswer (some r) = record { reason = 0; found = true; key = r .key; pay = r .
 
 unfoldable pub nextOf : List ℕ → ℕ → NextAnswer
 nextOf ws k = elim (eqb (reasonOf ws) 0) [
-  | true ↦ nextAnswer (next k (rows (storeAt (geometryAt ws) ws)))
+  | true ↦ nextAnswer (next k (rows (storeAt (layoutAt ws) ws)))
   | false ↦ record { reason = reasonOf ws; found = false; key = 0; pay = 0 }
 ]
 
@@ -146,15 +153,15 @@ unfoldable pub enclosing : ℕ → Level → Option Block
 enclosing k [] = none
 enclosing k (b ∷ bs) = elim (within (firstKey (b .recs)) (lastKey (b .recs)) k) [ true ↦ some b | false ↦ enclosing k bs ]
 
-abbrev pub partOf : Geometry → List ℕ → Option Block → List ℕ
-partOf g ws none = []
-partOf g ws (some b) = take (blockWidth g) (drop (placeStart g (placeOf b)) ws)
+abbrev pub partOf : Layout → List ℕ → Option Block → List ℕ
+partOf z ws none = []
+partOf z ws (some b) = part ws (placeStart z (placeOf b)) (blockWidth (z .geo))
 
-unfoldable pub showIn : Geometry → List ℕ → ℕ → ℕ → List ℕ
-showIn g ws i k = elim (within 1 (g .h) i) [ true ↦ partOf g ws (enclosing k (levelAt g ws i)) | false ↦ [] ]
+unfoldable pub showIn : Layout → List ℕ → ℕ → ℕ → List ℕ
+showIn z ws i k = elim (within 1 (z .geo .h) i) [ true ↦ partOf z ws (enclosing k (levelAt z ws i)) | false ↦ [] ]
 
 unfoldable pub showOf : List ℕ → ℕ → ℕ → List ℕ
-showOf ws i k = elim (eqb (reasonOf ws) 0) [ true ↦ showIn (geometryAt ws) ws i k | false ↦ [] ]
+showOf ws i k = elim (eqb (reasonOf ws) 0) [ true ↦ showIn (layoutAt ws) ws i k | false ↦ [] ]
 
 -- About, which document 01 has not ("ask the store", issue 11): "the reason, or the six numbers, live, N, the records in level 0 and the
 -- blocks of each level". Each is said by what it counts, and not by its size word: live the keys of the map; there is no block above level h.
@@ -181,7 +188,7 @@ aboutRefused n = record { reason = n; b = 0; w = 0; d = 0; g = 0; h = 0; p = 0; 
 
 unfoldable pub aboutOf : List ℕ → AboutAnswer
 aboutOf ws = elim (eqb (reasonOf ws) 0) [
-  | true ↦ aboutIn (geometryAt ws) (storeAt (geometryAt ws) ws)
+  | true ↦ aboutIn (layoutAt ws .geo) (storeAt (layoutAt ws) ws)
   | false ↦ aboutRefused (reasonOf ws)
 ]
 
@@ -194,37 +201,37 @@ abbrev pub writtenBlocks : List Merge → List Block
 writtenBlocks [] = []
 writtenBlocks (m ∷ ms) = m .written ++ (compactedBlocks (m .compactions) ++ writtenBlocks ms)
 
--- "the lent store is, word for word, what this list with its compactings leaves": a store over the places with the blocks written
-unfoldable pub leftWords : Geometry → List ℕ → List Merge → Store → List ℕ
-leftWords g ws ms s = storeWords g s (writeBlocks g (areaOf g ws) (writtenBlocks ms))
+-- "the lent store is, word for word, what this list with its compactings leaves": the blocks written in their places, and the store over them
+unfoldable pub leftWords : Layout → List ℕ → List Merge → Store → List ℕ
+leftWords z ws ms s = withStore z s (withBlocks z (writtenBlocks ms) ws)
 
 -- "for each level 1 to 3: merges into it, blocks written by them, blocks written compacting it"
 abbrev pub changeAnswer : ℕ → Bool → List Merge → ChangeAnswer
 changeAnswer reason was ms = record { reason = reason; live = was; level1 = countsOf 1 ms; level2 = countsOf 2 ms; level3 = countsOf 3 ms }
 
 -- the answer and the words of a change; "no lent word changes" where there is none
-unfoldable pub changeOutcome : Geometry → List ℕ → Change → Outcome ChangeAnswer
-changeOutcome g ws (refused n) = record { answer = changeAnswer n false []; words = ws }
-changeOutcome g ws absent = record { answer = changeAnswer 0 false []; words = ws }
-changeOutcome g ws (entered was ms s) = record { answer = changeAnswer 0 was ms; words = leftWords g ws ms s }
+unfoldable pub changeOutcome : Layout → List ℕ → Change → Outcome ChangeAnswer
+changeOutcome z ws (refused n) = record { answer = changeAnswer n false []; words = ws }
+changeOutcome z ws absent = record { answer = changeAnswer 0 false []; words = ws }
+changeOutcome z ws (entered was ms s) = record { answer = changeAnswer 0 was ms; words = leftWords z ws ms s }
 
 -- "Put k, v" and "Delete k", with all refusals in their order
 unfoldable pub putOf : List ℕ → ℕ → ℕ → Outcome ChangeAnswer
 putOf ws k v =
-    let g = geometryAt ws in
-    changeOutcome g ws (elim (eqb (reasonOf ws) 0) [ true ↦ put g (storeAt g ws) k v | false ↦ refused (reasonOf ws) ])
+    let z = layoutAt ws in
+    changeOutcome z ws (elim (eqb (reasonOf ws) 0) [ true ↦ put (z .geo) (storeAt z ws) k v | false ↦ refused (reasonOf ws) ])
 
 unfoldable pub deleteOf : List ℕ → ℕ → Outcome ChangeAnswer
 deleteOf ws k =
-    let g = geometryAt ws in
-    changeOutcome g ws (elim (eqb (reasonOf ws) 0) [ true ↦ delete g (storeAt g ws) k | false ↦ refused (reasonOf ws) ])
+    let z = layoutAt ws in
+    changeOutcome z ws (elim (eqb (reasonOf ws) 0) [ true ↦ delete (z .geo) (storeAt z ws) k | false ↦ refused (reasonOf ws) ])
 
 -- Document 02, card 3: the tickets of the merges that a put and a delete make; there are none where the store is turned down
 unfoldable pub putTickets : List ℕ → ℕ → ℕ → List Ticket
-putTickets ws k v = let g = geometryAt ws in elim (eqb (reasonOf ws) 0) [ true ↦ ticketsOf g (mergesOf (put g (storeAt g ws) k v)) | false ↦ [] ]
+putTickets ws k v = let z = layoutAt ws in elim (eqb (reasonOf ws) 0) [ true ↦ ticketsOf (z .geo) (mergesOf (put (z .geo) (storeAt z ws) k v)) | false ↦ [] ]
 
 unfoldable pub deleteTickets : List ℕ → ℕ → List Ticket
-deleteTickets ws k = let g = geometryAt ws in elim (eqb (reasonOf ws) 0) [ true ↦ ticketsOf g (mergesOf (delete g (storeAt g ws) k)) | false ↦ [] ]
+deleteTickets ws k = let z = layoutAt ws in elim (eqb (reasonOf ws) 0) [ true ↦ ticketsOf (z .geo) (mergesOf (delete (z .geo) (storeAt z ws) k)) | false ↦ [] ]
 
 -- the merges into levels 1 to 3 that an answer counts
 abbrev pub mergesCounted : ChangeAnswer → ℕ
@@ -239,9 +246,9 @@ pub record ForecastAnswer : Type 0 where
 abbrev pub forecastIn : ChangeAnswer → ForecastAnswer
 forecastIn a = record { reason = a .reason; merges = a .level1 .merges }
 
--- "exactly one if level 0 holds K(0) × B records and the key isn't among them, and none otherwise": by c and level 0's records, marks with them
-unfoldable pub topMerges : List ℕ → ℕ → ℕ
-topMerges ws k = let g = geometryAt ws in if eqb (topCountAt ws) (topCapacityOf g) && not (isSome (find k (topRecs g ws))) then 1 else 0
+-- Card 5: "exactly one if level 0 holds K(0) × B records and the key isn't among them, and none otherwise": by c and level 0's records, marks with them
+unfoldable pub topMerges : Layout → List ℕ → ℕ → ℕ
+topMerges z ws k = if eqb (topCountAt z ws) (topCapacityOf (z .geo)) && not (isSome (find k (topRecs z ws))) then 1 else 0
 
 -- "5. A put has a key not in the map while live = N.", of a map's limit and records
 abbrev pub isFull : ℕ → List Rec → ℕ → Bool
@@ -249,16 +256,16 @@ isFull limit rs k = not (isSome (find k rs)) && eqb (length rs) limit
 
 -- the reason that a put of k is turned down for, or 0
 unfoldable pub putReason : List ℕ → ℕ → ℕ
-putReason ws k = elim (eqb (reasonOf ws) 0) [ true ↦ if isFull (keyLimitOf (geometryAt ws)) (mapAt ws) k then 5 else 0 | false ↦ reasonOf ws ]
+putReason ws k = elim (eqb (reasonOf ws) 0) [ true ↦ if isFull (keyLimitOf (layoutAt ws .geo)) (mapAt ws) k then 5 else 0 | false ↦ reasonOf ws ]
 
--- "A refused call makes none."
+-- Card 5: "A refused call makes none."
 abbrev pub foretold : ℕ → ℕ → ForecastAnswer
 foretold zero merges = record { reason = 0; merges = merges }
 foretold (suc n) merges = record { reason = suc n; merges = 0 }
 
--- Of a put, and of a delete: "For a delete the same holds if the key is live, and none if it is absent."
+-- Card 5, of a put, and of a delete: "For a delete the same holds if the key is live, and none if it is absent."
 unfoldable pub willPutMergeOf : List ℕ → ℕ → ForecastAnswer
-willPutMergeOf ws k = foretold (putReason ws k) (topMerges ws k)
+willPutMergeOf ws k = foretold (putReason ws k) (topMerges (layoutAt ws) ws k)
 
 unfoldable pub willDeleteMergeOf : List ℕ → ℕ → ForecastAnswer
-willDeleteMergeOf ws k = foretold (reasonOf ws) (if isSome (find k (mapAt ws)) then topMerges ws k else 0)
+willDeleteMergeOf ws k = foretold (reasonOf ws) (if isSome (find k (mapAt ws)) then topMerges (layoutAt ws) ws k else 0)

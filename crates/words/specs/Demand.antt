@@ -8,6 +8,7 @@ use lib.Dec.{eqb}
 use lib.ListN.{length, take, drop}
 use Rattle.geometry.specs.declared.Geometry.{Geometry}
 use Rattle.geometry.specs.Geometry.{capacityOf, windowOf, keyLimitOf}
+use Rattle.layout.specs.declared.Layout.{Layout}
 use Rattle.levels.specs.Basics.{total}
 use Rattle.levels.specs.Record.{Rec}
 use Rattle.levels.specs.Map.{isLive}
@@ -20,7 +21,7 @@ use Rattle.levels.specs.Count.{aboveOf, underOf, aboveCount, underCount, overla
 use Rattle.levels.specs.Every.{Every, First, Later}
 use Rattle.levels.specs.Taking.{FoundFree}
 use Rattle.levels.specs.InCall.{Deepest}
-use Rattle.words.specs.Layout.{storeAt}
+use Rattle.words.specs.Stores.{storeAt}
 use Rattle.words.specs.Calls.{ChangeAnswer, leftWords}
 
 -- What holds of one compacting of a merge's step 5.
@@ -94,21 +95,21 @@ countsAt a (suc (suc (suc zero))) = a .level3
 countsAt a (suc (suc (suc (suc n)))) = record { merges = 0; written = 0; compacted = 0 }
 
 -- Demand 3: of the merges `ms` that a call makes on the words ws, its answer and the words `out` that it leaves; `own` is what it enters.
-pub record Demand (g : Geometry) (ws : List ℕ) (own : Option Own) (ms : List Merge) (answer : ChangeAnswer) (out : List ℕ) : Type 0 where
+pub record Demand (z : Layout) (ws : List ℕ) (own : Option Own) (ms : List Merge) (answer : ChangeAnswer) (out : List ℕ) : Type 0 where
   -- "The merges of a call": "They are the list that these rules give"
-  pub list : ms ≡ mergesOwn g (storeAt g ws) own
+  pub list : ms ≡ mergesOwn (z .geo) (storeAt z ws) own
   -- "this holds of the whole list of merges that the call makes"
-  pub each : Every (MergeDemand g) ms
+  pub each : Every (MergeDemand (z .geo)) ms
   -- "in their order": each finds the store as the one before it and its step 5 left it
-  pub in-order : Chained (storeAt g ws) ms
+  pub in-order : Chained (storeAt z ws) ms
   -- "The first, if there is one, is out of level 0."
   pub first-out : First (λ m. m .level ≡ 0) ms
   -- "While a level holds more than K blocks, the deepest such merges next": so each later one is out of the deepest such level of the store that it finds,
-  pub later-deepest : Later (Deepest g) ms
+  pub later-deepest : Later (Deepest (z .geo)) ms
   -- and the list is whole: in the end no level holds more than K
-  pub ended : (i : ℕ) → i ≤ g .h → length (blocksOf g i (afterMerges (storeAt g ws) ms)) ≤ capacityOf g i
+  pub ended : (i : ℕ) → i ≤ z .geo .h → length (blocksOf (z .geo) i (afterMerges (storeAt z ws) ms)) ≤ capacityOf (z .geo) i
   -- "Afterwards the lent store is, word for word, what this list with its compactings leaves, with the call's own record and live then entered"
-  pub words : out ≡ leftWords g ws ms (withOwn own (afterMerges (storeAt g ws) ms))
+  pub words : out ≡ leftWords z ws ms (withOwn own (afterMerges (storeAt z ws) ms))
   -- "the number of merges into it in that list"
   pub merges-counted : (i : ℕ) → 1 ≤ i → i ≤ 3 → countsAt answer i .merges ≡ totalInto i (λ m. 1) ms
   -- "the sum, over them, of the block places in use after the merge that were not in use before it"

@@ -1,16 +1,20 @@
 -- Computed cases of the calls on words: geometry A of document 01's "Bench figures", every refusal, and each clause of the form check broken.
 -- A refusal of a theorem prints the cases that fail if that takes at most 200,000 steps: else look at a part of the list alone.
-use Prim.Native.Nat.{ℕ, _+_, _-_, _*_}
+use Prim.Native.Nat.{ℕ, _+_, _-_}
 use Prim.Native.String.{String}
 use mathlib.Core.Path.{_≡_, refl}
 use mathlib.Core.Bool.{true}
 use mathlib.Core.List.{List, [], _∷_, _++_, map}
 use lib.ListN.{set, take, replicate}
 use Rattle.geometry.specs.declared.Geometry.{Geometry}
-use Rattle.geometry.specs.Geometry.{capacityOf, topCapacityOf, blockWidth}
+use Rattle.geometry.specs.Geometry.{capacityOf, capacitySum, flashCapacityOf, topCapacityOf, blockWidth}
+use Rattle.layout.specs.Layouts.{old, listStart, placeStart}
 use Rattle.levels.specs.Record.{Rec, Level}
+use Rattle.levels.specs.Every.{allBlocks}
 use Rattle.levels.specs.Bench.{geo, puts, dels, at, sameNumbers}
-use Rattle.words.specs.Layout.{markWord, headerWords, topWords, listWords, blockWords, writeBlock, writeBlocks, storeWords}
+use Rattle.pieces.specs.Pieces.{lay, layAll}
+use Rattle.words.specs.Calls.{sixOf}
+use Rattle.words.specs.Stores.{markWord, listPieces, pieces, withStore, blockWords, blockPiece, withBlocks}
 use Rattle.words.specs.Bench.{Call, formatAs, check, lookUpKey, nextKey, showKey, putKey, delKey, about, willPut, willDelete, wordsAfter, Case, holds, failing, Breach, misjudged}
 
 abbrev pub A : Geometry
@@ -35,13 +39,11 @@ pub nine-words : sameNumbers (wordsAfter (formatAs A ∷ putAll (10 ∷ 20 ∷ 3
 unfolding wordsAfter
 nine-words = refl
 
--- the words of a store over places that held 7 in each word, for stores that no call list reaches
-abbrev pub written : Geometry → List ℕ → List Level → List ℕ
-written g area [] = area
-written g area (l ∷ ls) = written g (writeBlocks g area l) ls
-
+-- the words of a store over words that held 7 each, for stores that no call list reaches
 abbrev pub laid : Geometry → ℕ → List Rec → List Level → List ℕ
-laid g live top ls = storeWords g (record { live = live; cursor = g .p - 1; top = top; levels = ls }) (written g (replicate (g .p * blockWidth g) 7) ls)
+laid g live top ls =
+    let z = old g in
+    withStore z (record { live = live; cursor = g .p - 1; top = top; levels = ls }) (withBlocks z (allBlocks ls) (sixOf g ++ replicate (z .length - 6) 7))
 
 -- a store of 17 keys, the N of A
 abbrev pub full : List ℕ
@@ -110,7 +112,7 @@ call-cases-hold = refl
 
 -- "Why a call is turned down", for each call
 unfoldable pub reasonCases : List Case
-unfolding storeWords headerWords topWords listWords blockWords writeBlock writeBlocks markWord capacityOf topCapacityOf blockWidth
+unfolding old listStart placeStart listPieces pieces withStore lay layAll blockWords blockPiece withBlocks markWord capacityOf capacitySum flashCapacityOf topCapacityOf blockWidth
 reasonCases =
     checked "no words" [] 1
     ∷ checked "P = 39" (set nine 5 39) 2
@@ -141,7 +143,7 @@ foreseen t ws c reason merges = record { text = t; words = ws; calls = []; last 
 
 -- Document 02, card 5: "One merge, or none."
 unfoldable pub forecastCases : List Case
-unfolding storeWords headerWords topWords listWords blockWords writeBlock writeBlocks markWord capacityOf topCapacityOf blockWidth
+unfolding old listStart placeStart listPieces pieces withStore lay layAll blockWords blockPiece withBlocks markWord capacityOf capacitySum flashCapacityOf topCapacityOf blockWidth
 forecastCases =
     foreseen "level 0 has room: a put" nine (willPut 95) 0 0
     ∷ foreseen "level 0 has room: a delete" nine (willDelete 20) 0 0
@@ -164,7 +166,7 @@ forecast-cases-hold = refl
 
 -- the clauses of the form check about the sizes
 unfoldable pub sizeCases : List Breach
-unfolding storeWords headerWords topWords listWords blockWords writeBlock writeBlocks markWord capacityOf topCapacityOf blockWidth
+unfolding old listStart placeStart listPieces pieces withStore lay layAll blockWords blockPiece withBlocks markWord capacityOf capacitySum flashCapacityOf topCapacityOf blockWidth
 sizeCases =
     breaks "A after puts 10, 20 .. 90" A nine []
     ∷ breaks "1: live is not the number of keys" A (set nine 6 8) (1 ∷ [])
@@ -182,7 +184,7 @@ size-cases-hold = refl
 
 -- about listed places, blocks and keys
 unfoldable pub blockCases : List Breach
-unfolding storeWords headerWords topWords listWords blockWords writeBlock writeBlocks markWord capacityOf topCapacityOf blockWidth
+unfolding old listStart placeStart listPieces pieces withStore lay layAll blockWords blockPiece withBlocks markWord capacityOf capacitySum flashCapacityOf topCapacityOf blockWidth
 blockCases =
     breaks "6: a listed place is P" A (set nine 30 40) (1 ∷ 6 ∷ 8 ∷ 16 ∷ [])
     ∷ breaks "7: a place is listed twice" T (laid T 4 [] ((at 3 (puts 1 (1 ∷ 2 ∷ 3 ∷ 4 ∷ [])) ∷ []) ∷ (at 3 (puts 1 (1 ∷ 2 ∷ 3 ∷ 4 ∷ [])) ∷ []) ∷ [])) (7 ∷ [])
@@ -200,7 +202,7 @@ block-cases-hold = refl
 
 -- about unused parts, marks and waste
 unfoldable pub unusedCases : List Breach
-unfolding storeWords headerWords topWords listWords blockWords writeBlock writeBlocks markWord capacityOf topCapacityOf blockWidth
+unfolding old listStart placeStart listPieces pieces withStore lay layAll blockWords blockPiece withBlocks markWord capacityOf capacitySum flashCapacityOf topCapacityOf blockWidth
 unusedCases =
     breaks "11: an unused key of level 0" A (set nine 19 95) (11 ∷ [])
     ∷ breaks "11: an unused payload of level 0" A (set nine 27 1) (11 ∷ [])

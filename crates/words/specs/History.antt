@@ -8,12 +8,13 @@ use mathlib.Core.List.{List, [], _∷_, foldl}
 use lib.Dec.{eqb}
 use lib.ListN.{length, take}
 use Rattle.geometry.specs.declared.Geometry.{Geometry}
-use Rattle.geometry.specs.Geometry.{keyLimitOf, sizeReason}
+use Rattle.geometry.specs.Geometry.{keyLimitOf}
+use Rattle.layout.specs.Layouts.{sizeReason}
 use Rattle.levels.specs.Basics.{if_then_else_, isSome}
 use Rattle.levels.specs.Record.{Rec}
 use Rattle.levels.specs.Map.{find, firstFrom, stretch}
 use Rattle.levels.specs.Put.{insert, without, putRec}
-use Rattle.words.specs.Layout.{geometryAt}
+use Rattle.words.specs.Stores.{layoutAt}
 use Rattle.words.specs.Form.{reasonOf}
 use Rattle.words.specs.Calls.{
   Outcome,
@@ -178,7 +179,7 @@ pub record AnswersAsMap {State Call Reply Map : Type 0} (f : StoreForm State Cal
 
 -- The map that lent words hold.
 abbrev pub heldIn : List ℕ → Held
-heldIn ws = record { size = length ws; limit = keyLimitOf (geometryAt ws); records = mapAt ws }
+heldIn ws = record { size = length ws; limit = keyLimitOf (layoutAt ws .geo); records = mapAt ws }
 
 -- Document 01's form: lent words.
 abbrev pub wordsForm : StoreForm (List ℕ) Call Reply Held

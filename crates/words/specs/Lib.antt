@@ -1,4 +1,5 @@
-pub mod Layout
+pub mod Stores
+pub mod Halves
 pub mod Form
 pub mod Calls
 pub mod Rows

@@ -7,7 +7,6 @@ use mathlib.Core.Option.{Option, none, some}
 use mathlib.Core.Logic.{_≢_}
 use native.Mathlib.Omega.{arith}
 use borrow.Author.Tests.{eq-eqb, ne-eqb}
-use Rattle.geometry.specs.declared.Geometry.{Geometry}
 use Rattle.geometry.specs.Geometry.{keyLimitOf}
 use Rattle.levels.specs.Basics.{if_then_else_, isSome}
 use Rattle.levels.specs.Record.{Rec}
@@ -17,7 +16,7 @@ use Rattle.levels.specs.Put.{Change, refused, absent, enter, put, delete, putRe
 use Rattle.levels.specs.Tickets.{ticketsOf}
 use Rattle.levels.specs.Count.{Counts, countsOf}
 use Rattle.levels.proofs.PutDelete.{enter-is, put-live, put-full, put-new, delete-live, delete-absent}
-use Rattle.words.specs.Layout.{liveAt, storeAt}
+use Rattle.words.specs.Stores.{liveAt, storeAt}
 use Rattle.words.proofs.Rows.{Filed, filed-none, filed-by}
 use Rattle.words.specs.Calls.{Outcome, ChangeAnswer, changeOutcome, mergesCounted}
 use Rattle.search.specs.declared.Found.{Found}
@@ -28,6 +27,7 @@ use Rattle.writer.specs.declared.Changed.the-variants as changed
 use Rattle.writer.specs.declared.Change as writer
 use Rattle.writer.specs.Answers.{changedAnswer}
 use Rattle.writer.specs.Change.{liveFound, Counted, Entered}
+use Rattle.layout.specs.declared.Layout.{Layout}
 
 -- a key is live if the record that decides for it is there and no tombstone
 pub live-found : (k : ℕ) (ls : List (List Rec)) → isLive k ls ≡ liveFound (foundOf (decides k ls))
@@ -51,67 +51,67 @@ same-outcome : (was : Bool) (a b c x y z : Counts) (o w : List ℕ) → a ≡ x 
 same-outcome was a b c x y z o w p q r s = rw (p, q, r, s)
 
 -- a record entered is the change of the definition
-pub enter-outcome : (g : Geometry) (ws : List ℕ) (r : Rec) (was : Bool) (live : ℕ) (t : Tally) (out : List ℕ) → Entered g ws r live t out
-    → _≡_ {A = Outcome ChangeAnswer} (record { answer = changedAnswer (changed.Done (record { live = was; tally = t })); words = out }) (changeOutcome g ws (enter g (storeAt g ws) r was live))
+pub enter-outcome : (z : Layout) (ws : List ℕ) (r : Rec) (was : Bool) (live : ℕ) (t : Tally) (out : List ℕ) → Entered z ws r live t out
+    → _≡_ {A = Outcome ChangeAnswer} (record { answer = changedAnswer (changed.Done (record { live = was; tally = t })); words = out }) (changeOutcome z ws (enter (z .geo) (storeAt z ws) r was live))
 unfolding changeOutcome
-enter-outcome g ws r was live t out e =
+enter-outcome z ws r was live t out e =
     same-outcome was _ _ _ _ _ _ _ _ (e .counts .one) (e .counts .two) (e .counts .three) (e .words)
-    ∙ ap (changeOutcome g ws) (sym (enter-is g (storeAt g ws) r was live))
+    ∙ ap (changeOutcome z ws) (sym (enter-is (z .geo) (storeAt z ws) r was live))
 
 -- a call that changes nothing
-pub refused-outcome : (g : Geometry) (ws : List ℕ) (n : ℕ) → _≡_ {A = Outcome ChangeAnswer} (record { answer = changedAnswer (changed.Refused n); words = ws }) (changeOutcome g ws (refused n))
+pub refused-outcome : (z : Layout) (ws : List ℕ) (n : ℕ) → _≡_ {A = Outcome ChangeAnswer} (record { answer = changedAnswer (changed.Refused n); words = ws }) (changeOutcome z ws (refused n))
 unfolding changeOutcome countsOf
-refused-outcome g ws n = refl
+refused-outcome z ws n = refl
 
-pub absent-outcome : (g : Geometry) (ws : List ℕ) (t : Tally) → Counted t [] → _≡_ {A = Outcome ChangeAnswer} (record { answer = changedAnswer (changed.Done (record { live = false; tally = t })); words = ws }) (changeOutcome g ws absent)
+pub absent-outcome : (z : Layout) (ws : List ℕ) (t : Tally) → Counted t [] → _≡_ {A = Outcome ChangeAnswer} (record { answer = changedAnswer (changed.Done (record { live = false; tally = t })); words = ws }) (changeOutcome z ws absent)
 unfolding changeOutcome
-absent-outcome g ws t n = same-outcome false _ _ _ _ _ _ ws ws (n .one) (n .two) (n .three) refl
+absent-outcome z ws t n = same-outcome false _ _ _ _ _ _ ws ws (n .one) (n .two) (n .three) refl
 
 -- a record entered, as the change of the definition, with its tickets
-enter-filed : (g : Geometry) (s : Store) (r : Rec) (was : Bool) (live : ℕ) (c : Change) (rows rows' : List (List ℕ)) → c ≡ enter g s r was live → Filed (ticketsOf g (mergesFor g s (r .key))) rows rows' → Filed (ticketsOf g (mergesOf c)) rows rows'
+enter-filed : (z : Layout) (s : Store) (r : Rec) (was : Bool) (live : ℕ) (c : Change) (rows rows' : List (List ℕ)) → c ≡ enter (z .geo) s r was live → Filed (ticketsOf (z .geo) (mergesFor (z .geo) s (r .key))) rows rows' → Filed (ticketsOf (z .geo) (mergesOf c)) rows rows'
 unfolding mergesOf
-enter-filed g s r was live c rows rows' e f = filed-by _ _ rows rows' (ap (λ (d : Change). ticketsOf g (mergesOf d)) (e ∙ enter-is g s r was live)) f
+enter-filed z s r was live c rows rows' e f = filed-by _ _ rows rows' (ap (λ (d : Change). ticketsOf (z .geo) (mergesOf d)) (e ∙ enter-is (z .geo) s r was live)) f
 
 -- The cases of put and delete, of a store that passes.
-module _ (g : Geometry) (ws : List ℕ) (k : ℕ) (rows0 : List (List ℕ)) where
-  pub put-turned : (v : ℕ) → isLive k (rows (storeAt g ws)) ≡ false → liveAt ws ≡ keyLimitOf g
-      → _≡_ {A = Outcome ChangeAnswer} (record { answer = changedAnswer (changed.Refused 5); words = ws }) (changeOutcome g ws (put g (storeAt g ws) k v)) × Filed (ticketsOf g (mergesOf (put g (storeAt g ws) k v))) rows0 rows0
+module _ (z : Layout) (ws : List ℕ) (k : ℕ) (rows0 : List (List ℕ)) where
+  pub put-turned : (v : ℕ) → isLive k (rows (storeAt z ws)) ≡ false → liveAt z ws ≡ keyLimitOf (z .geo)
+      → _≡_ {A = Outcome ChangeAnswer} (record { answer = changedAnswer (changed.Refused 5); words = ws }) (changeOutcome z ws (put (z .geo) (storeAt z ws) k v)) × Filed (ticketsOf (z .geo) (mergesOf (put (z .geo) (storeAt z ws) k v))) rows0 rows0
   unfolding storeAt mergesOf
   put-turned v h l =
-      let q = put-full g (storeAt g ws) k v h (eq-eqb (liveAt ws) (keyLimitOf g) l) in
-      (refused-outcome g ws 5 ∙ ap (changeOutcome g ws) (sym q), filed-none _ rows0 (ap (λ (c : Change). ticketsOf g (mergesOf c)) q))
+      let q = put-full (z .geo) (storeAt z ws) k v h (eq-eqb (liveAt z ws) (keyLimitOf (z .geo)) l) in
+      (refused-outcome z ws 5 ∙ ap (changeOutcome z ws) (sym q), filed-none _ rows0 (ap (λ (c : Change). ticketsOf (z .geo) (mergesOf c)) q))
 
-  pub delete-none : (t : Tally) → isLive k (rows (storeAt g ws)) ≡ false → Counted t []
-      → _≡_ {A = Outcome ChangeAnswer} (record { answer = changedAnswer (changed.Done (record { live = false; tally = t })); words = ws }) (changeOutcome g ws (delete g (storeAt g ws) k)) × Filed (ticketsOf g (mergesOf (delete g (storeAt g ws) k))) rows0 rows0
+  pub delete-none : (t : Tally) → isLive k (rows (storeAt z ws)) ≡ false → Counted t []
+      → _≡_ {A = Outcome ChangeAnswer} (record { answer = changedAnswer (changed.Done (record { live = false; tally = t })); words = ws }) (changeOutcome z ws (delete (z .geo) (storeAt z ws) k)) × Filed (ticketsOf (z .geo) (mergesOf (delete (z .geo) (storeAt z ws) k))) rows0 rows0
   unfolding mergesOf
   delete-none t h n =
-      let q = delete-absent g (storeAt g ws) k h in
-      (absent-outcome g ws t n ∙ ap (changeOutcome g ws) (sym q), filed-none _ rows0 (ap (λ (c : Change). ticketsOf g (mergesOf c)) q))
+      let q = delete-absent (z .geo) (storeAt z ws) k h in
+      (absent-outcome z ws t n ∙ ap (changeOutcome z ws) (sym q), filed-none _ rows0 (ap (λ (c : Change). ticketsOf (z .geo) (mergesOf c)) q))
 
   module _ (rows1 : List (List ℕ)) where
-    pub put-over : (v : ℕ) (t : Tally) (out : List ℕ) → isLive k (rows (storeAt g ws)) ≡ true → Entered g ws (putRec k v) (liveAt ws) t out × Filed (ticketsOf g (mergesFor g (storeAt g ws) k)) rows0 rows1
-        → _≡_ {A = Outcome ChangeAnswer} (record { answer = changedAnswer (changed.Done (record { live = true; tally = t })); words = out }) (changeOutcome g ws (put g (storeAt g ws) k v)) × Filed (ticketsOf g (mergesOf (put g (storeAt g ws) k v))) rows0 rows1
+    pub put-over : (v : ℕ) (t : Tally) (out : List ℕ) → isLive k (rows (storeAt z ws)) ≡ true → Entered z ws (putRec k v) (liveAt z ws) t out × Filed (ticketsOf (z .geo) (mergesFor (z .geo) (storeAt z ws) k)) rows0 rows1
+        → _≡_ {A = Outcome ChangeAnswer} (record { answer = changedAnswer (changed.Done (record { live = true; tally = t })); words = out }) (changeOutcome z ws (put (z .geo) (storeAt z ws) k v)) × Filed (ticketsOf (z .geo) (mergesOf (put (z .geo) (storeAt z ws) k v))) rows0 rows1
     unfolding storeAt
     put-over v t out h e =
-        let q = put-live g (storeAt g ws) k v h in
-        (enter-outcome g ws (putRec k v) true (liveAt ws) t out (e .0) ∙ ap (changeOutcome g ws) (sym q), enter-filed g (storeAt g ws) (putRec k v) true (liveAt ws) _ rows0 rows1 q (e .1))
+        let q = put-live (z .geo) (storeAt z ws) k v h in
+        (enter-outcome z ws (putRec k v) true (liveAt z ws) t out (e .0) ∙ ap (changeOutcome z ws) (sym q), enter-filed z (storeAt z ws) (putRec k v) true (liveAt z ws) _ rows0 rows1 q (e .1))
 
-    pub put-added : (v : ℕ) (t : Tally) (out : List ℕ) → isLive k (rows (storeAt g ws)) ≡ false → liveAt ws ≢ keyLimitOf g → Entered g ws (putRec k v) (liveAt ws + 1) t out × Filed (ticketsOf g (mergesFor g (storeAt g ws) k)) rows0 rows1
-        → _≡_ {A = Outcome ChangeAnswer} (record { answer = changedAnswer (changed.Done (record { live = false; tally = t })); words = out }) (changeOutcome g ws (put g (storeAt g ws) k v)) × Filed (ticketsOf g (mergesOf (put g (storeAt g ws) k v))) rows0 rows1
+    pub put-added : (v : ℕ) (t : Tally) (out : List ℕ) → isLive k (rows (storeAt z ws)) ≡ false → liveAt z ws ≢ keyLimitOf (z .geo) → Entered z ws (putRec k v) (liveAt z ws + 1) t out × Filed (ticketsOf (z .geo) (mergesFor (z .geo) (storeAt z ws) k)) rows0 rows1
+        → _≡_ {A = Outcome ChangeAnswer} (record { answer = changedAnswer (changed.Done (record { live = false; tally = t })); words = out }) (changeOutcome z ws (put (z .geo) (storeAt z ws) k v)) × Filed (ticketsOf (z .geo) (mergesOf (put (z .geo) (storeAt z ws) k v))) rows0 rows1
     unfolding storeAt
     put-added v t out h l e =
-        let n : liveAt ws + 1 ≡ suc (liveAt ws) = omega arith in
-        let q = put-new g (storeAt g ws) k v h (ne-eqb (liveAt ws) (keyLimitOf g) l) in (
-          enter-outcome g ws (putRec k v) false (suc (liveAt ws)) t out (subst (λ (n : ℕ). Entered g ws (putRec k v) n t out) n (e .0)) ∙ ap (changeOutcome g ws) (sym q),
-          enter-filed g (storeAt g ws) (putRec k v) false (suc (liveAt ws)) _ rows0 rows1 q (e .1),
+        let n : liveAt z ws + 1 ≡ suc (liveAt z ws) = omega arith in
+        let q = put-new (z .geo) (storeAt z ws) k v h (ne-eqb (liveAt z ws) (keyLimitOf (z .geo)) l) in (
+          enter-outcome z ws (putRec k v) false (suc (liveAt z ws)) t out (subst (λ (n : ℕ). Entered z ws (putRec k v) n t out) n (e .0)) ∙ ap (changeOutcome z ws) (sym q),
+          enter-filed z (storeAt z ws) (putRec k v) false (suc (liveAt z ws)) _ rows0 rows1 q (e .1),
         )
 
-    pub delete-over : (t : Tally) (out : List ℕ) → isLive k (rows (storeAt g ws)) ≡ true → Entered g ws (deleteRec k) (liveAt ws - 1) t out × Filed (ticketsOf g (mergesFor g (storeAt g ws) k)) rows0 rows1
-        → _≡_ {A = Outcome ChangeAnswer} (record { answer = changedAnswer (changed.Done (record { live = true; tally = t })); words = out }) (changeOutcome g ws (delete g (storeAt g ws) k)) × Filed (ticketsOf g (mergesOf (delete g (storeAt g ws) k))) rows0 rows1
+    pub delete-over : (t : Tally) (out : List ℕ) → isLive k (rows (storeAt z ws)) ≡ true → Entered z ws (deleteRec k) (liveAt z ws - 1) t out × Filed (ticketsOf (z .geo) (mergesFor (z .geo) (storeAt z ws) k)) rows0 rows1
+        → _≡_ {A = Outcome ChangeAnswer} (record { answer = changedAnswer (changed.Done (record { live = true; tally = t })); words = out }) (changeOutcome z ws (delete (z .geo) (storeAt z ws) k)) × Filed (ticketsOf (z .geo) (mergesOf (delete (z .geo) (storeAt z ws) k))) rows0 rows1
     unfolding storeAt
     delete-over t out h e =
-        let q = delete-live g (storeAt g ws) k h in
-        (enter-outcome g ws (deleteRec k) true (liveAt ws - 1) t out (e .0) ∙ ap (changeOutcome g ws) (sym q), enter-filed g (storeAt g ws) (deleteRec k) true (liveAt ws - 1) _ rows0 rows1 q (e .1))
+        let q = delete-live (z .geo) (storeAt z ws) k h in
+        (enter-outcome z ws (deleteRec k) true (liveAt z ws - 1) t out (e .0) ∙ ap (changeOutcome z ws) (sym q), enter-filed z (storeAt z ws) (deleteRec k) true (liveAt z ws - 1) _ rows0 rows1 q (e .1))
 
 -- the merges that an answer counts are few
 pub done-few : (c : Changed) (d : writer.Change) → c ≡ changed.Done d → mergesCounted (changedAnswer c) ≤ 512 → d .tally .one .merges + d .tally .two .merges + d .tally .three .merges ≤ 512

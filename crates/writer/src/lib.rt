@@ -6,18 +6,20 @@ ghost use mathlib.Core.List.{[]};
 ghost use Prim.Native.Nat.{_≤_};
 ghost use Rattle.slices.specs.Ranks.{rankOf};
 ghost use Rattle.geometry.specs.Geometry.{keyLimitOf};
+ghost use Rattle.levels.specs.Basics.{if_then_else_, isSome};
+ghost use Rattle.levels.specs.Map.{find, mapOf};
+ghost use Rattle.levels.specs.Store.{rows};
 ghost use Rattle.levels.specs.Put.{put, delete, mergesFor, mergesOf};
 ghost use Rattle.levels.specs.Inside.{mergesMost};
 ghost use Rattle.levels.specs.Tickets.{ticketsOf, laid};
-ghost use Rattle.words.specs.Layout.{topRecs, keysOf, storeAt};
-ghost use Rattle.words.specs.Calls.{Outcome, ChangeAnswer, changeOutcome, mapAt, mergesCounted, isFull, topMerges, willPutMergeOf, willDeleteMergeOf};
+ghost use Rattle.words.specs.Stores.{topRecs, keysOf, storeAt};
+ghost use Rattle.words.specs.Calls.{Outcome, ChangeAnswer, changeOutcome, mergesCounted, isFull, topMerges, foretold};
 ghost use Rattle.words.specs.Rows.{rowsOf};
-ghost use Rattle.entry.specs.declared.Opened.the-variants.{Ready};
-ghost use Rattle.form.specs.Checked.{checkedOf};
+ghost use Rattle.words.specs.Passed.{Passed};
 ghost use Rattle.top.specs.Top.{TopReady};
 ghost use Rattle.writer.specs.Answers.{changedAnswer, forecastAnswer};
 ghost use Rattle.writer.specs.Change.{liveFound, roomAt, withEntered, Counted, Entered};
-use geometry::Geometry;
+use layout::Layout;
 use search::Found;
 use slices::Rank;
 use steps::Counts;
@@ -42,25 +44,27 @@ pub enum Forecast {
 }
 
 // v for k, over what k had, in a store that passes; the tickets of its merges, as many as there are rows.
-pub fn put_ready(s: &mut [u32], g: Geometry, k: u32, v: u32, rows: &mut [[u32; 4]]) -> Changed
-    requires { ⌜ checkedOf (now s) ≡ Ready g ⌝ }
+pub fn put_ready(s: &mut [u32], z: Layout, k: u32, v: u32, rows: &mut [[u32; 4]]) -> Changed
+    requires { ⌜ Passed z (now s) ⌝ }
     ensures { λ r. ⌜ _≡_ {A = Outcome ChangeAnswer} (record { answer = changedAnswer r; words = now (s .exit) })
-        (changeOutcome g (now (s .entry)) (put g (storeAt g (now (s .entry))) k v))
-        × (now (rows .exit) ≡ laid (rowsOf (ticketsOf g (mergesOf (put g (storeAt g (now (s .entry))) k v)))) (now (rows .entry))) ⌝ }
+        (changeOutcome z (now (s .entry)) (put (z .geo) (storeAt z (now (s .entry))) k v))
+        × (now (rows .exit) ≡ laid (rowsOf (ticketsOf (z .geo) (mergesOf (put (z .geo) (storeAt z (now (s .entry))) k v)))) (now (rows .entry))) ⌝ }
 {
-    let was = is_live(reader::find_key(s, g, k as usize));
-    let live = s[6];
+    let was = is_live(reader::find_key(s, z, k as usize));
+    let at = z.live;
+    let live = s[at];
     if was {
-        let t = enter_record(s, g, k, false, v, live, rows);
+        let t = enter_record(s, z, k, false, v, live, rows);
         return Changed::Done(Change {
             live: true,
             tally: t,
         });
     }
+    let g = z.geo;
     if live as usize == g.key_limit() {
         return Changed::Refused(5);
     }
-    let t = enter_record(s, g, k, false, v, live + 1, rows);
+    let t = enter_record(s, z, k, false, v, live + 1, rows);
     Changed::Done(Change {
         live: false,
         tally: t,
@@ -68,16 +72,17 @@ pub fn put_ready(s: &mut [u32], g: Geometry, k: u32, v: u32, rows: &mut [[u32; 4
 }
 
 // k out of the map, of a store that passes; the tickets of its merges, as many as there are rows.
-pub fn delete_ready(s: &mut [u32], g: Geometry, k: u32, rows: &mut [[u32; 4]]) -> Changed
-    requires { ⌜ checkedOf (now s) ≡ Ready g ⌝ }
+pub fn delete_ready(s: &mut [u32], z: Layout, k: u32, rows: &mut [[u32; 4]]) -> Changed
+    requires { ⌜ Passed z (now s) ⌝ }
     ensures { λ r. ⌜ _≡_ {A = Outcome ChangeAnswer} (record { answer = changedAnswer r; words = now (s .exit) })
-        (changeOutcome g (now (s .entry)) (delete g (storeAt g (now (s .entry))) k))
-        × (now (rows .exit) ≡ laid (rowsOf (ticketsOf g (mergesOf (delete g (storeAt g (now (s .entry))) k)))) (now (rows .entry))) ⌝ }
+        (changeOutcome z (now (s .entry)) (delete (z .geo) (storeAt z (now (s .entry))) k))
+        × (now (rows .exit) ≡ laid (rowsOf (ticketsOf (z .geo) (mergesOf (delete (z .geo) (storeAt z (now (s .entry))) k)))) (now (rows .entry))) ⌝ }
 {
-    let was = is_live(reader::find_key(s, g, k as usize));
+    let was = is_live(reader::find_key(s, z, k as usize));
     if was {
-        let live = s[6];
-        let t = enter_record(s, g, k, true, 0, live - 1, rows);
+        let at = z.live;
+        let live = s[at];
+        let t = enter_record(s, z, k, true, 0, live - 1, rows);
         return Changed::Done(Change {
             live: true,
             tally: t,
@@ -118,47 +123,50 @@ fn no_tally() -> Tally
 // A record into level 0, after the merges that make room for it there.
 fn enter_record(
     s: &mut [u32],
-    g: Geometry,
+    z: Layout,
     k: u32,
     mark: bool,
     v: u32,
     live: u32,
     rows: &mut [[u32; 4]],
 ) -> Tally
-    requires { ⌜ checkedOf (now s) ≡ Ready g ⌝ }
-    ensures { λ r. ⌜ Entered g (now (s .entry)) (record { key = k; tombstone = mark; pay = v }) live r (now (s .exit))
-        × (now (rows .exit) ≡ laid (rowsOf (ticketsOf g (mergesFor g (storeAt g (now (s .entry))) k))) (now (rows .entry))) ⌝ }
+    requires { ⌜ Passed z (now s) ⌝ }
+    ensures { λ r. ⌜ Entered z (now (s .entry)) (record { key = k; tombstone = mark; pay = v }) live r (now (s .exit))
+        × (now (rows .exit) ≡ laid (rowsOf (ticketsOf (z .geo) (mergesFor (z .geo) (storeAt z (now (s .entry))) k))) (now (rows .entry))) ⌝ }
 {
-    let at = top::locate(s, g, k);
-    if has_room(s, g, at) {
-        place_record(s, g, at, k, mark, v, live);
+    let at = top::locate(s, z, k);
+    if has_room(s, z, at) {
+        place_record(s, z, at, k, mark, v, live);
         return no_tally();
     }
-    let t = cascade::merge_all(s, g, rows);
-    let after = top::locate(s, g, k);
-    place_record(s, g, after, k, mark, v, live);
+    let t = cascade::merge_all(s, z, rows);
+    let after = top::locate(s, z, k);
+    place_record(s, z, after, k, mark, v, live);
     t
 }
 
 // A record is overwritten in level 0, or there is room for one more.
-fn has_room(s: &[u32], g: Geometry, at: Rank) -> bool
-    requires { ⌜ TopReady g (now s) ⌝ }
-    ensures { λ r. ⌜ r ≡ roomAt g (now (s .entry)) at ⌝ }
+fn has_room(s: &[u32], z: Layout, at: Rank) -> bool
+    requires { ⌜ TopReady z (now s) ⌝ }
+    ensures { λ r. ⌜ r ≡ roomAt z (now (s .entry)) at ⌝ }
 {
     if at.found {
         return true;
     }
+    let g = z.geo;
     let room = g.top_capacity();
-    (s[8] as usize) < room
+    let c = z.count;
+    (s[c] as usize) < room
 }
 
 // A record into level 0, where its key stands and there is room for it, and live as it is then.
-fn place_record(s: &mut [u32], g: Geometry, at: Rank, k: u32, mark: bool, v: u32, live: u32)
-    requires { ⌜ TopReady g (now s) × ((at ≡ rankOf k (keysOf (topRecs g (now s)))) × (roomAt g (now s) at ≡ true)) ⌝ }
-    ensures { λ _. ⌜ now (s .exit) ≡ withEntered g (now (s .entry)) (record { key = k; tombstone = mark; pay = v }) live ⌝ }
+fn place_record(s: &mut [u32], z: Layout, at: Rank, k: u32, mark: bool, v: u32, live: u32)
+    requires { ⌜ TopReady z (now s) × ((at ≡ rankOf k (keysOf (topRecs z (now s)))) × (roomAt z (now s) at ≡ true)) ⌝ }
+    ensures { λ _. ⌜ now (s .exit) ≡ withEntered z (now (s .entry)) (record { key = k; tombstone = mark; pay = v }) live ⌝ }
 {
-    top::enter(s, g, at, k, mark, v);
-    s[6] = live;
+    top::enter(s, z, at, k, mark, v);
+    let spot = z.live;
+    s[spot] = live;
 }
 
 // The merges that a put or delete has made.
@@ -178,47 +186,49 @@ pub fn merges(changed: Changed) -> usize
 }
 
 // What a put of k is going to do, in a store that passes (document 02, card 5).
-pub fn foresee_put(s: &[u32], g: Geometry, k: u32) -> Forecast
-    requires { ⌜ checkedOf (now s) ≡ Ready g ⌝ }
-    ensures { λ r. ⌜ forecastAnswer r ≡ willPutMergeOf (now (s .entry)) k ⌝ }
+pub fn foresee_put(s: &[u32], z: Layout, k: u32) -> Forecast
+    requires { ⌜ Passed z (now s) ⌝ }
+    ensures { λ r. ⌜ forecastAnswer r ≡ foretold (if isFull (keyLimitOf (z .geo)) (mapOf (rows (storeAt z (now (s .entry))))) k then 5 else 0) (topMerges z (now (s .entry)) k) ⌝ }
 {
-    if is_full(s, g, k) {
+    if is_full(s, z, k) {
         return Forecast::Refused(5);
     }
-    Forecast::Merges(top_merges(s, g, k))
+    Forecast::Merges(top_merges(s, z, k))
 }
 
 // A put of k would be turned down as full. Only a store that holds as many keys as it may is searched for k.
-fn is_full(s: &[u32], g: Geometry, k: u32) -> bool
-    requires { ⌜ checkedOf (now s) ≡ Ready g ⌝ }
-    ensures { λ r. ⌜ r ≡ isFull (keyLimitOf g) (mapAt (now (s .entry))) k ⌝ }
+fn is_full(s: &[u32], z: Layout, k: u32) -> bool
+    requires { ⌜ Passed z (now s) ⌝ }
+    ensures { λ r. ⌜ r ≡ isFull (keyLimitOf (z .geo)) (mapOf (rows (storeAt z (now (s .entry))))) k ⌝ }
 {
-    if s[6] as usize == g.key_limit() {
-        let was = is_live(reader::find_key(s, g, k as usize));
+    let g = z.geo;
+    let live = z.live;
+    if s[live] as usize == g.key_limit() {
+        let was = is_live(reader::find_key(s, z, k as usize));
         return !was;
     }
     false
 }
 
 // What a delete of k is going to do: nothing is merged for a key that is not live.
-pub fn foresee_delete(s: &[u32], g: Geometry, k: u32) -> Forecast
-    requires { ⌜ checkedOf (now s) ≡ Ready g ⌝ }
-    ensures { λ r. ⌜ forecastAnswer r ≡ willDeleteMergeOf (now (s .entry)) k ⌝ }
+pub fn foresee_delete(s: &[u32], z: Layout, k: u32) -> Forecast
+    requires { ⌜ Passed z (now s) ⌝ }
+    ensures { λ r. ⌜ forecastAnswer r ≡ foretold 0 (if isSome (find k (mapOf (rows (storeAt z (now (s .entry)))))) then topMerges z (now (s .entry)) k else 0) ⌝ }
 {
-    let was = is_live(reader::find_key(s, g, k as usize));
+    let was = is_live(reader::find_key(s, z, k as usize));
     if was {
-        return Forecast::Merges(top_merges(s, g, k));
+        return Forecast::Merges(top_merges(s, z, k));
     }
     Forecast::Merges(0)
 }
 
 // The merges into level 1 that make room for a record of k: one where level 0 is full and has none of k.
-fn top_merges(s: &[u32], g: Geometry, k: u32) -> u32
-    requires { ⌜ checkedOf (now s) ≡ Ready g ⌝ }
-    ensures { λ r. ⌜ r ≡ topMerges (now (s .entry)) k ⌝ }
+fn top_merges(s: &[u32], z: Layout, k: u32) -> u32
+    requires { ⌜ Passed z (now s) ⌝ }
+    ensures { λ r. ⌜ r ≡ topMerges z (now (s .entry)) k ⌝ }
 {
-    let slot = top::locate(s, g, k);
-    if has_room(s, g, slot) {
+    let slot = top::locate(s, z, k);
+    if has_room(s, z, slot) {
         return 0;
     }
     1

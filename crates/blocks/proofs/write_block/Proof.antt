@@ -85,7 +85,7 @@ returns c =
     let b = s .pre .0 .b-high in
     let e = written-is z xs (s .args .place) (s .args .buf) (omega (arith, slice-aggregate-copy (k1 .before .before))) (omega (arith, slice-aggregate-copy-2 (k2 .before .before))) (ends z xs (s .pre .0) (s .args .place) (s .pre .1)) in
     let w : k2 .copy2 .last .1 .1 .1 .0 ≡ written z xs (s .args .place) (s .args .buf) = k2 .copy2 .ensures ∙ rw (k1 .copy .ensures, k0 .place-start .ensures) e in
-    (w, λ g l rs f h. w ∙ written-records z xs (s .args .place) (s .args .buf) (s .pre .0) (s .pre .1) g l rs f h)
+    (w, λ g l rs f h. w ∙ written-records z xs (s .args .place) (s .args .buf) (s .pre .0) g l rs f h)
 
 pub write-block-spec : {M : Type 1} → statement M
 write-block-spec =

@@ -24,7 +24,7 @@ loop-holds : tie.Need-loop-holds Inv-loop μ-loop
 loop-holds c = turn-first 98304 _ _ _ _ _ (c .before .pre)
 
 deepest-requires : tie.Need-deepest-requires Inv-loop μ-loop
-deepest-requires c κs = c .before .loop .inv .goes .rolling .valid .ranged
+deepest-requires c κs = c .before .loop .inv .goes .rolling .proper .valid .ranged
 
 merge-step-requires : tie.Need-merge-step-requires Inv-loop μ-loop
 merge-step-requires c κs = goes-asks 98304 _ _ _ _ _ _ _ (c .before .before .before .before .before .loop .inv .goes) _ (c .before .before .before .deepest .ensures) (c .before .before .before .deepest .result - 1) (omega (arith, c .before .before .if1 .left))

@@ -3,7 +3,7 @@ use mathlib.Core.Path.{_≡_, refl, sym, ap}
 use native.Mathlib.Omega.{arith}
 use lib.ListN.{length, length-set}
 use borrow.Author.Needs.{needs}
-use Rattle.words.specs.Layout.{word}
+use Rattle.words.specs.Stores.{word}
 use Rattle.choice.specs.Fences.{Fence}
 use Rattle.fences.specs.Reading.{fill, listedFence}
 use Rattle.fences.proofs.Lists.{fill-none, fill-step}
@@ -12,7 +12,6 @@ use Rattle.fences.proofs.fence_blocks.Statement.{statement}
 use Rattle.fences.proofs.fence_blocks.Tie as tie
 use Rattle.fences.proofs.fence_blocks.Reads as reads
 use Rattle.fences.proofs.fence_blocks.Lts as lts
-use Rattle.geometry.proofs.Geometry.place_start.Reads as place-start-reads
 
 abbrev Inv-loop : tie.InvT-loop
 Inv-loop s g list n firsts₀ lasts₀ i₀ firsts lasts i = (i ≤ n) × ((length firsts ≡ length firsts₀) × ((length lasts ≡ length lasts₀) × ((firsts ≡ fill (λ j. listedFence g s list j .first) i firsts₀) × (lasts ≡ fill (λ j. listedFence g s list j .last) i lasts₀))))
@@ -24,7 +23,7 @@ abbrev μ-loop : tie.MeasureT-loop
 room : (c : tie.After-place-start Inv-loop μ-loop)
     → (c .place-start .result + 2 < length (c .before .before .before .before .before .before .before .before .args .s .now))
     × (c .place-start .result + 1 + word (c .before .before .before .before .before .before .before .before .args .s .now) (c .place-start .result) < length (c .before .before .before .before .before .before .before .before .args .s .now))
-room c = place-room _ _ _ _ (c .place-start .ensures) (c .before .before .before .before .before .before .before .before .pre .1 .1 .1 .1 .1 _ (c .before .before .loop-test .taken)) (c .before .before .before .before .before .before .before .before .pre .1 .0)
+room c = place-room _ _ _ _ (c .place-start .ensures) (c .before .before .before .before .before .before .before .before .pre .1 .1 .1 .1 _ (c .before .before .loop-test .taken)) (c .before .before .before .before .before .before .before .before .pre .0)
 
 loop-holds : tie.Need-loop-holds Inv-loop μ-loop
 loop-holds c = (omega arith, (refl, (refl, (sym (fill-none _ _), sym (fill-none _ _)))))
@@ -39,7 +38,7 @@ cast-place : tie.Need-cast-place Inv-loop μ-loop
 cast-place c = omega (arith, c .shared-slice-known3 .given (c .before .before .loop .i))
 
 place-start-requires : tie.Need-place-start-requires Inv-loop μ-loop
-place-start-requires c κs = (c .before .before .before .before .before .before .before .pre .0 .ranged, omega (arith, c .before .before .before .before .before .before .before .pre .0 .places-high, c .before .before .before .before .before .before .before .pre .1 .1 .1 .1 .1 _ (c .before .loop-test .taken) .inside))
+place-start-requires c κs = (c .before .before .before .before .before .before .before .pre .0 .proper, omega (arith, c .before .before .before .before .before .before .before .pre .0 .proper .valid .places-high, c .before .before .before .before .before .before .before .pre .1 .1 .1 .1 _ (c .before .loop-test .taken) .inside))
 
 mul-count : tie.Need-mul-count Inv-loop μ-loop
 mul-count c = omega (arith, room c)
@@ -92,7 +91,7 @@ loop-less c = search needs
 loop-again : tie.Need-loop-again Inv-loop μ-loop
 loop-again c =
     let l = c .before .before .before .before .before .before .loop in
-    let e = listed-words (c .before .before .before .before .before .before .before .before .before .before .before .args .g) (c .before .before .before .before .before .before .before .before .before .before .before .args .s .now) (c .before .before .before .before .before .before .before .before .before .before .before .args .list .now) (l .i) (c .before .before .before .before .before .before .before .before .before .before .before .pre .1 .1 .1 .1 .1 _ (c .before .before .before .before .before .loop-test .taken)) in
+    let e = listed-words (c .before .before .before .before .before .before .before .before .before .before .before .args .z) (c .before .before .before .before .before .before .before .before .before .before .before .args .s .now) (c .before .before .before .before .before .before .before .before .before .before .before .args .list .now) (l .i) (c .before .before .before .before .before .before .before .before .before .before .before .pre .1 .1 .1 .1 _ (c .before .before .before .before .before .loop-test .taken)) in
     (omega arith, (simp length-set (l .inv .1 .0), (simp length-set (l .inv .1 .1 .0), (fill-step _ _ _ _ _ (omega arith) (l .inv .1 .1 .1 .0) (rw (c .before .before .before .place-start .ensures) (sym (ap (λ (f : Fence). f .first) e))), fill-step _ _ _ _ _ (omega arith) (l .inv .1 .1 .1 .1) (rw (c .before .before .before .place-start .ensures) (sym (ap (λ (f : Fence). f .last) e)))))))
 
 same-length : tie.Need-same-length Inv-loop μ-loop

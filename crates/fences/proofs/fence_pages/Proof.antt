@@ -3,7 +3,7 @@ use mathlib.Core.Path.{_≡_, refl, sym, _∙_}
 use native.Mathlib.Omega.{arith}
 use lib.ListN.{length, length-set}
 use borrow.Author.Needs.{needs}
-use Rattle.words.specs.Layout.{word}
+use Rattle.words.specs.Stores.{word}
 use Rattle.fences.specs.Reading.{fill}
 use Rattle.fences.proofs.Lists.{fill-none, fill-step}
 use Rattle.fences.proofs.Words.{page-room, pages-firsts, pages-lasts}
@@ -12,7 +12,6 @@ use Rattle.fences.proofs.fence_pages.Tie as tie
 use Rattle.fences.proofs.fence_pages.Reads as reads
 use Rattle.fences.proofs.fence_pages.Lts as lts
 use Rattle.geometry.proofs.Geometry.block_records.Reads as block-records-reads
-use Rattle.geometry.proofs.Geometry.keys_start.Reads as keys-start-reads
 
 abbrev Inv-loop : tie.InvT-loop
 Inv-loop s n firsts₀ lasts₀ keys b i₀ firsts lasts i = (i ≤ n) × ((length firsts ≡ length firsts₀) × ((length lasts ≡ length lasts₀) × ((firsts ≡ fill (λ j. word s (keys + j * b)) i firsts₀) × (lasts ≡ fill (λ j. word s (keys + j * b + b - 1)) i lasts₀))))
@@ -23,13 +22,10 @@ abbrev μ-loop : tie.MeasureT-loop
 -- the keys of the page lie in the store
 room : (c : tie.In-loop Inv-loop μ-loop)
     → (1 ≤ c .before .before .block-records .result)
-    × (c .before .before .before .keys-start .result + c .before .loop .i * c .before .before .block-records .result + c .before .before .block-records .result ≤ length (c .before .before .before .before .before .before .before .args .s .now))
+    × (c .before .before .before .before .before .before .before .args .z .keys + c .before .loop .i * c .before .before .block-records .result + c .before .before .block-records .result ≤ length (c .before .before .before .before .before .before .before .args .s .now))
 room c =
     let p = c .before .before .before .before .before .before .before .pre in
-    page-room (c .before .before .before .before .before .before .before .args .g) (c .before .before .before .before .before .before .before .args .s .now) (c .before .before .before .before .before .before .before .args .n) _ _ _ (c .before .before .before .keys-start .ensures) (c .before .before .block-records .ensures) (p .0) (p .1 .0) (p .1 .1 .0) (p .1 .1 .1 .0) (c .loop-test .taken)
-
-keys-start-requires : tie.Need-keys-start-requires Inv-loop μ-loop
-keys-start-requires c κs = c .before .before .before .pre .0 .ranged
+    page-room (c .before .before .before .before .before .before .before .args .z) (c .before .before .before .before .before .before .before .args .s .now) (c .before .before .before .before .before .before .before .args .n) _ _ _ refl (c .before .before .block-records .ensures) (p .0) (p .1 .0) (p .1 .1 .0) (c .loop-test .taken)
 
 block-records-requires : tie.Need-block-records-requires Inv-loop μ-loop
 block-records-requires c κs = search needs
@@ -96,8 +92,8 @@ returns c =
     let a = c .before .before .before .before .before .before .before .args in
     let p = c .before .before .before .before .before .before .before .pre in
     let e : l .i ≡ a .n = omega arith in (
-      rw e at (l .inv .1 .1 .1 .0) ∙ pages-firsts (a .g) (a .s .now) _ (a .n) _ _ (c .before .before .before .keys-start .ensures) (c .before .before .block-records .ensures) (p .0) (p .1 .1 .0) (p .1 .1 .1 .0),
-      rw e at (l .inv .1 .1 .1 .1) ∙ pages-lasts (a .g) (a .s .now) _ (a .n) _ _ (c .before .before .before .keys-start .ensures) (c .before .before .block-records .ensures) (p .0) (p .1 .1 .0) (p .1 .1 .1 .0),
+      rw e at (l .inv .1 .1 .1 .0) ∙ pages-firsts (a .z) (a .s .now) _ (a .n) _ _ refl (c .before .before .block-records .ensures) (p .0 .proper) (p .1 .0) (p .1 .1 .0),
+      rw e at (l .inv .1 .1 .1 .1) ∙ pages-lasts (a .z) (a .s .now) _ (a .n) _ _ refl (c .before .before .block-records .ensures) (p .0 .proper) (p .1 .0) (p .1 .1 .0),
     )
 
 pub fence-pages-spec : {M : Type 1} → statement M
@@ -106,7 +102,6 @@ fence-pages-spec =
     (tie.spec
     Inv-loop
     μ-loop
-    keys-start-requires
     block-records-requires
     loop-holds
     mul-at

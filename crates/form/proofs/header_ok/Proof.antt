@@ -1,3 +1,5 @@
+use native.Mathlib.Omega.{arith}
+use Rattle.layout.proofs.Laws.{fitted-count, fitted-hand, fitted-live, fitted-spots}
 use Rattle.form.proofs.Steps.{header-is}
 use borrow.Author.Needs.{needs}
 use Rattle.form.proofs.header_ok.Statement.{statement}
@@ -29,25 +31,34 @@ room-of-requires-3 : tie.Need-room-of-requires-3
 room-of-requires-3 c κs = search needs
 
 word-requires : tie.Need-word-requires
-word-requires c κs = search needs
+word-requires c κs = omega (arith, fitted-live _ _ (c .before .before .before .before .before .before .before .before .pre))
 
 word-requires-2 : tie.Need-word-requires-2
-word-requires-2 c κs = search needs
+word-requires-2 c κs = omega (arith, fitted-hand _ _ (c .before .before .before .before .before .before .before .before .before .pre))
 
 word-requires-3 : tie.Need-word-requires-3
-word-requires-3 c κs = search needs
+word-requires-3 c κs = omega (arith, fitted-count _ _ (c .before .before .before .before .before .before .before .before .before .before .pre))
+
+add-word : tie.Need-add-word
+add-word c = omega (arith, fitted-spots _ _ (c .before .before .before .before .before .before .before .before .before .before .before .pre))
 
 word-requires-4 : tie.Need-word-requires-4
-word-requires-4 c κs = search needs
+word-requires-4 c κs = omega (arith, fitted-count _ _ (c .before .before .before .before .before .before .before .before .before .before .before .pre))
+
+add-word-2 : tie.Need-add-word-2
+add-word-2 c = omega (arith, fitted-spots _ _ (c .before .before .before .before .before .before .before .before .before .before .before .before .pre))
 
 word-requires-5 : tie.Need-word-requires-5
-word-requires-5 c κs = search needs
+word-requires-5 c κs = omega (arith, fitted-count _ _ (c .before .before .before .before .before .before .before .before .before .before .before .before .pre))
+
+add-word-3 : tie.Need-add-word-3
+add-word-3 c = omega (arith, fitted-spots _ _ (c .before .before .before .before .before .before .before .before .before .before .before .before .before .pre))
 
 word-requires-6 : tie.Need-word-requires-6
-word-requires-6 c κs = search needs
+word-requires-6 c κs = omega (arith, fitted-count _ _ (c .before .before .before .before .before .before .before .before .before .before .before .before .before .pre))
 
 returns : tie.Need-returns
-returns c = rw (← header-is (c .before .before .before .before .before .before .before .before .before .before .before .before .before .args .g) (c .before .before .before .before .before .before .before .before .before .before .before .before .before .args .s .now), c .before .before .before .before .before .word .ensures .0, c .before .before .before .before .word2 .ensures .0, c .before .before .before .word3 .ensures .0, c .before .before .word4 .ensures .0, c .before .word5 .ensures .0, c .word6 .ensures .0, c .before .before .before .before .before .before .before .before .room-of .ensures, c .before .before .before .before .before .before .before .room-of2 .ensures, c .before .before .before .before .before .before .room-of3 .ensures, c .before .before .before .before .before .before .before .before .before .top-capacity .ensures, c .before .before .before .before .before .before .before .before .before .before .places .ensures, c .before .before .before .before .before .before .before .before .before .before .before .key-limit .ensures)
+returns c = rw (← header-is (c .before .before .before .before .before .before .before .before .before .before .before .before .before .before .args .z) (c .before .before .before .before .before .before .before .before .before .before .before .before .before .before .args .s .now), c .before .before .before .before .before .word .ensures .0, c .before .before .before .before .word2 .ensures .0, c .before .before .before .word3 .ensures .0, c .before .before .word4 .ensures .0, c .before .word5 .ensures .0, c .word6 .ensures .0, c .before .before .before .before .before .before .before .before .room-of .ensures, c .before .before .before .before .before .before .before .room-of2 .ensures, c .before .before .before .before .before .before .room-of3 .ensures, c .before .before .before .before .before .before .before .before .before .top-capacity .ensures, c .before .before .before .before .before .before .before .before .before .before .places .ensures, c .before .before .before .before .before .before .before .before .before .before .before .key-limit .ensures)
 
 pub header-ok-spec : {M : Type 1} → statement M
 header-ok-spec =
@@ -62,7 +73,10 @@ header-ok-spec =
     word-requires
     word-requires-2
     word-requires-3
+    add-word
     word-requires-4
+    add-word-2
     word-requires-5
+    add-word-3
     word-requires-6
     returns)

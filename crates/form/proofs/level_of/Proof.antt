@@ -1,14 +1,15 @@
+use native.Mathlib.Omega.{arith}
+use Rattle.layout.proofs.Laws.{fitted-count}
 use Rattle.form.specs.Form.{levelOf}
 use borrow.Author.Needs.{needs}
 use Rattle.form.proofs.level_of.Statement.{statement}
 use Rattle.form.proofs.level_of.Tie as tie
 use Rattle.form.proofs.level_of.Reads as reads
 use Rattle.form.proofs.level_of.Lts as lts
-use Rattle.slices.proofs.word.Reads as word-reads
 use Rattle.geometry.proofs.Geometry.block_records.Reads as block-records-reads
 use Rattle.geometry.proofs.Geometry.levels.Reads as levels-reads
-use Rattle.geometry.proofs.Geometry.list_start.Reads as list-start-reads
-use Rattle.geometry.proofs.Geometry.places_start.Reads as places-start-reads
+use Rattle.layout.proofs.Layout.list_start.Reads as list-start-reads
+use Rattle.slices.proofs.word.Reads as word-reads
 
 block-records-requires : tie.Need-block-records-requires
 block-records-requires c κs = search needs
@@ -19,18 +20,15 @@ levels-requires c κs = search needs
 list-start-requires : tie.Need-list-start-requires
 list-start-requires c κs = search needs
 
-places-start-requires : tie.Need-places-start-requires
-places-start-requires c κs = search needs
-
 add-word : tie.Need-add-word
 add-word c = search needs
 
 word-requires : tie.Need-word-requires
-word-requires c κs = search needs
+word-requires c κs = omega (arith, fitted-count _ _ (c .before .before .before .before .before .before .pre .0), c .before .before .before .before .before .before .pre .1 .1)
 
 returns : tie.Need-returns
 unfolding levelOf
-returns c = rw (c .word .ensures .0, c .before .places-start .ensures, c .before .before .list-start .ensures, c .before .before .before .levels .ensures, c .before .before .before .before .block-records .ensures)
+returns c = rw (c .word .ensures .0, c .before .before .list-start .ensures, c .before .before .before .levels .ensures, c .before .before .before .before .block-records .ensures)
 
 pub level-of-spec : {M : Type 1} → statement M
 level-of-spec =
@@ -39,7 +37,6 @@ level-of-spec =
     block-records-requires
     levels-requires
     list-start-requires
-    places-start-requires
     add-word
     word-requires
     returns)

@@ -17,10 +17,10 @@ use Rattle.geometry.proofs.Geometry.levels.Reads as levels-reads
 use Rattle.geometry.proofs.Geometry.places.Reads as places-reads
 
 abbrev Inv-loop : tie.InvT-loop
-Inv-loop s g h p used₀ i₀ used i = (i ≤ h) × (listsFrom g s (i + 1) (h - i) used ≡ listsOk g s)
+Inv-loop s z g h p used₀ i₀ used i = (i ≤ h) × (listsFrom z s (i + 1) (h - i) used ≡ listsOk z s)
 
 abbrev μ-loop : tie.MeasureT-loop
-μ-loop s g h p used₀ i₀ used i = h - i
+μ-loop s z g h p used₀ i₀ used i = h - i
 
 levels-requires : tie.Need-levels-requires Inv-loop μ-loop
 levels-requires c κs = search needs
@@ -36,33 +36,33 @@ add-capacity : tie.Need-add-capacity Inv-loop μ-loop
 add-capacity c = search needs
 
 capacity-requires : tie.Need-capacity-requires Inv-loop μ-loop
-capacity-requires c κs = let r = c .before .before .before .before .before .pre .sized .valid .ranged in (r, omega (arith, c .before .before .before .levels .ensures, r .h-high))
+capacity-requires c κs = let r = c .before .before .before .before .before .before .pre .sized .proper .valid .ranged in (r, omega (arith, c .before .before .before .levels .ensures, r .h-high))
 
 add-level-of : tie.Need-add-level-of Inv-loop μ-loop
 add-level-of c = search needs
 
 level-of-requires : tie.Need-level-of-requires Inv-loop μ-loop
-level-of-requires c κs = (c .before .before .before .before .before .before .pre .sized, (omega arith, omega (arith, c .before .before .before .before .levels .ensures, c .before .before .before .before .before .before .pre .sized .valid .ranged .h-high)))
+level-of-requires c κs = (c .before .before .before .before .before .before .before .pre .sized, (omega arith, omega (arith, c .before .before .before .before .levels .ensures, c .before .before .before .before .before .before .before .pre .sized .proper .valid .ranged .h-high)))
 
 list-fresh-requires : tie.Need-list-fresh-requires Inv-loop μ-loop
 list-fresh-requires c κs =
-    let q = list-room _ _ (c .before .before .before .before .before .before .before .before .pre) _ (omega (arith, c .before .before .before .before .before .before .levels .ensures, c .before .before .before .loop-test .taken)) _ (c .before .level-of .ensures) _ (c .before .before .capacity .ensures) in
-    (omega arith, omega (arith, c .before .before .before .before .before .places .ensures, c .before .before .before .before .before .before .before .before .pre .sized .valid .places-high))
+    let q = list-room _ _ (c .before .before .before .before .before .before .before .before .before .pre) _ (omega (arith, c .before .before .before .before .before .before .levels .ensures, c .before .before .before .loop-test .taken)) _ (c .before .level-of .ensures) _ (c .before .before .capacity .ensures) in
+    (omega arith, omega (arith, c .before .before .before .before .before .places .ensures, c .before .before .before .before .before .before .before .before .before .pre .sized .proper .valid .places-high))
 
 returns : tie.Need-returns Inv-loop μ-loop
 returns c = sym (lists-unfresh _ _ _ _ _ (c .before .before .before .before .before .loop-test .taken) _ (c .before .before .before .level-of .ensures) (rw (c .before .before .before .before .before .before .before .places .ensures) at (sym (c .before .list-fresh .ensures .0) ∙ not-true _ (c .if1 .taken)))) ∙ c .before .before .before .before .before .before .loop .inv .1
 
 add-zeros : tie.Need-add-zeros Inv-loop μ-loop
 add-zeros c =
-    let q = list-room _ _ (c .before .before .before .before .before .before .before .before .before .before .pre) _ (omega (arith, c .before .before .before .before .before .before .before .before .levels .ensures, c .before .before .before .before .before .loop-test .taken)) _ (c .before .before .before .level-of .ensures) _ (c .before .before .before .before .capacity .ensures) in
-    omega (arith, c .before .before .before .before .before .before .before .before .before .before .pre .sized .short)
+    let q = list-room _ _ (c .before .before .before .before .before .before .before .before .before .before .before .pre) _ (omega (arith, c .before .before .before .before .before .before .before .before .levels .ensures, c .before .before .before .before .before .loop-test .taken)) _ (c .before .before .before .level-of .ensures) _ (c .before .before .before .before .capacity .ensures) in
+    omega (arith, c .before .before .before .before .before .before .before .before .before .before .before .pre .sized .proper .short, c .before .before .before .before .before .before .before .before .before .before .before .pre .sized .words)
 
 sub-zeros : tie.Need-sub-zeros Inv-loop μ-loop
-sub-zeros c = list-room _ _ (c .before .before .before .before .before .before .before .before .before .before .pre) _ (omega (arith, c .before .before .before .before .before .before .before .before .levels .ensures, c .before .before .before .before .before .loop-test .taken)) _ (c .before .before .before .level-of .ensures) _ (c .before .before .before .before .capacity .ensures) .1
+sub-zeros c = list-room _ _ (c .before .before .before .before .before .before .before .before .before .before .before .pre) _ (omega (arith, c .before .before .before .before .before .before .before .before .levels .ensures, c .before .before .before .before .before .loop-test .taken)) _ (c .before .before .before .level-of .ensures) _ (c .before .before .before .before .capacity .ensures) .1
 
 zeros-requires : tie.Need-zeros-requires Inv-loop μ-loop
 zeros-requires c κs =
-    let q = list-room _ _ (c .before .before .before .before .before .before .before .before .before .before .pre) _ (omega (arith, c .before .before .before .before .before .before .before .before .levels .ensures, c .before .before .before .before .before .loop-test .taken)) _ (c .before .before .before .level-of .ensures) _ (c .before .before .before .before .capacity .ensures) in
+    let q = list-room _ _ (c .before .before .before .before .before .before .before .before .before .before .before .pre) _ (omega (arith, c .before .before .before .before .before .before .before .before .levels .ensures, c .before .before .before .before .before .loop-test .taken)) _ (c .before .before .before .level-of .ensures) _ (c .before .before .before .before .capacity .ensures) in
     omega arith
 
 returns-2 : tie.Need-returns-2 Inv-loop μ-loop

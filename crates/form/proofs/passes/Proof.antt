@@ -1,3 +1,4 @@
+use Rattle.layout.proofs.Laws.{fitted-live}
 use native.Mathlib.Omega.{arith}
 use mathlib.Core.Path.{_≡_, sym, _∙_}
 use mathlib.Core.Bool.{true}
@@ -41,28 +42,28 @@ at6 c = at5 (c .before .before .before)
 abbrev at7 : tie.Else7 → tie.Start
 at7 c = at6 (c .before .before .before)
 
-h1 : (c : tie.Else1) → headerOk (at1 c .args .g) (at1 c .args .s .now) ≡ true
+h1 : (c : tie.Else1) → headerOk (at1 c .args .z) (at1 c .args .s .now) ≡ true
 h1 c = sym (c .before .header-ok .ensures) ∙ not-false _ (c .if1 .left)
 
-headed : (c : tie.Else1) → Headed (at1 c .args .g) (at1 c .args .s .now)
+headed : (c : tie.Else1) → Headed (at1 c .args .z) (at1 c .args .s .now)
 headed c = record { sized = at1 c .pre; header = h1 c }
 
-h2 : (c : tie.Else2) → listsOk (at2 c .args .g) (at2 c .args .s .now) ≡ true
+h2 : (c : tie.Else2) → listsOk (at2 c .args .z) (at2 c .args .s .now) ≡ true
 h2 c = sym (c .before .lists-ok .ensures) ∙ not-false _ (c .if2 .left)
 
-h3 : (c : tie.Else3) → spareOk (at3 c .args .g) (at3 c .args .s .now) ≡ true
+h3 : (c : tie.Else3) → spareOk (at3 c .args .z) (at3 c .args .s .now) ≡ true
 h3 c = sym (c .before .spare-ok .ensures) ∙ not-false _ (c .if3 .left)
 
-h4 : (c : tie.Else4) → levelFormed (at4 c .args .s .now) (topOf (at4 c .args .g) (at4 c .args .s .now)) ≡ true
+h4 : (c : tie.Else4) → levelFormed (at4 c .args .s .now) (topOf (at4 c .args .z) (at4 c .args .s .now)) ≡ true
 h4 c = rw (← c .before .before .top-of .ensures) (sym (c .before .level-formed .ensures) ∙ not-false _ (c .if4 .left))
 
-h5 : (c : tie.Else5) → levelFormed (at5 c .args .s .now) (levelOf (at5 c .args .g) (at5 c .args .s .now) 1) ≡ true
+h5 : (c : tie.Else5) → levelFormed (at5 c .args .s .now) (levelOf (at5 c .args .z) (at5 c .args .s .now) 1) ≡ true
 h5 c = rw (← c .before .before .level-of .ensures) (sym (c .before .level-formed2 .ensures) ∙ not-false _ (c .if5 .left))
 
-h6 : (c : tie.Else6) → levelFormed (at6 c .args .s .now) (levelOf (at6 c .args .g) (at6 c .args .s .now) 2) ≡ true
+h6 : (c : tie.Else6) → levelFormed (at6 c .args .s .now) (levelOf (at6 c .args .z) (at6 c .args .s .now) 2) ≡ true
 h6 c = rw (← c .before .before .level-of2 .ensures) (sym (c .before .level-formed3 .ensures) ∙ not-false _ (c .if6 .left))
 
-h7 : (c : tie.Else7) → levelFormed (at7 c .args .s .now) (levelOf (at7 c .args .g) (at7 c .args .s .now) 3) ≡ true
+h7 : (c : tie.Else7) → levelFormed (at7 c .args .s .now) (levelOf (at7 c .args .z) (at7 c .args .s .now) 3) ≡ true
 h7 c = rw (← c .before .before .level-of3 .ensures) (sym (c .before .level-formed4 .ensures) ∙ not-false _ (c .if7 .left))
 
 header-ok-requires : tie.Need-header-ok-requires
@@ -157,7 +158,7 @@ returns-7 c =
     rw (h1 (k2 .before .before), h2 k2, h3 k3, h4 k4, h5 k5, h6 k6, ← c .before .before .level-of3 .ensures, ← c .before .level-formed4 .ensures, not-true (c .before .level-formed4 .result) (c .if7 .taken))
 
 word-requires : tie.Need-word-requires
-word-requires c κs = omega (arith, at7 c .pre .long)
+word-requires c κs = omega (arith, fitted-live _ _ (at7 c .pre))
 
 live-requires : tie.Need-live-requires
 live-requires c κs =

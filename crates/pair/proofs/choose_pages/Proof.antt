@@ -27,14 +27,14 @@ pick-requires : tie.Need-pick-requires
 pick-requires c κs =
     let p = c .before .before .before .before .before .before .before .before .before .pre in
     let k = p .1 .1 .1 .1 .0 in
-    let b = p .0 .ranged .b-low in
+    let b = p .0 .valid .ranged .b-low in
     let e = c .before .before .before .before .fence-pages .ensures in
     (p .0, (p .1 .0, (p .1 .1 .0, (p .1 .1 .1 .0, (paged-fenced _ _ _ (omega arith) k _ _ _ _ (e .0) (e .1) (omega (arith, c .before .before .before .before .fence-pages .kept, k .high)) (omega (arith, c .before .before .before .before .fence-pages .kept, k .high)), p .1 .1 .1 .1 .1)))))
 
 returns : tie.Need-returns
 returns c =
     let p = c .before .before .before .before .before .before .before .before .before .before .pre in
-    let b = p .0 .ranged .b-low in
+    let b = p .0 .valid .ranged .b-low in
     let e = c .before .before .before .before .before .fence-pages .ensures in
     c .pick .ensures _ (paged-are _ _ _ (omega arith) (p .1 .1 .1 .1 .0) _ _ _ _ (e .0) (e .1))
 

@@ -53,16 +53,16 @@ find-in-requires-4 : tie.Need-find-in-requires-4
 find-in-requires-4 c κs = rw (c .level-of3 .ensures) ((ready-levels _ _ (c .before .before .before .before .before .before .before .before .before .before .before .before .before .before .pre .0) .formed3), omega (arith, c .before .before .before .before .before .before .before .before .before .before .before .before .before .before .pre .1))
 
 returns : tie.Need-returns
-returns c = rw (found-levels (c .before .before .before .before .before .before .before .before .before .before .before .before .before .before .before .args .s .now) (c .before .before .before .before .before .before .before .before .before .before .before .before .before .before .before .args .g) (c .before .before .before .before .before .before .before .before .before .before .before .before .before .before .before .pre .0) (c .before .before .before .before .before .before .before .before .before .before .before .before .before .before .before .args .k), ← c .before .before .before .before .before .before .before .before .before .before .before .before .before .top-of .ensures, ← c .before .before .before .before .before .before .before .before .before .before .before .before .find-in .ensures, c .before .before .before .before .before .before .before .before .before .before .enum-told .given .1, ← c .before .before .before .before .before .before .before .before .before .level-of .ensures, ← c .before .before .before .before .before .before .before .before .find-in2 .ensures, c .before .before .before .before .before .before .enum-told2 .given .1, ← c .before .before .before .before .before .level-of2 .ensures, ← c .before .before .before .before .find-in3 .ensures, c .before .before .enum-told3 .given .1, ← c .before .level-of3 .ensures) (c .find-in4 .ensures)
+returns c = rw (found-levels (c .before .before .before .before .before .before .before .before .before .before .before .before .before .before .before .args .s .now) (c .before .before .before .before .before .before .before .before .before .before .before .before .before .before .before .args .z) (c .before .before .before .before .before .before .before .before .before .before .before .before .before .before .before .pre .0) (c .before .before .before .before .before .before .before .before .before .before .before .before .before .before .before .args .k), ← c .before .before .before .before .before .before .before .before .before .before .before .before .before .top-of .ensures, ← c .before .before .before .before .before .before .before .before .before .before .before .before .find-in .ensures, c .before .before .before .before .before .before .before .before .before .before .enum-told .given .1, ← c .before .before .before .before .before .before .before .before .before .level-of .ensures, ← c .before .before .before .before .before .before .before .before .find-in2 .ensures, c .before .before .before .before .before .before .enum-told2 .given .1, ← c .before .before .before .before .before .level-of2 .ensures, ← c .before .before .before .before .find-in3 .ensures, c .before .before .enum-told3 .given .1, ← c .before .level-of3 .ensures) (c .find-in4 .ensures)
 
 returns-2 : tie.Need-returns-2
-returns-2 c = rw (found-levels (c .before .before .before .before .before .before .before .before .before .before .before .before .before .before .args .s .now) (c .before .before .before .before .before .before .before .before .before .before .before .before .before .before .args .g) (c .before .before .before .before .before .before .before .before .before .before .before .before .before .before .pre .0) (c .before .before .before .before .before .before .before .before .before .before .before .before .before .before .args .k), ← c .before .before .before .before .before .before .before .before .before .before .before .before .top-of .ensures, ← c .before .before .before .before .before .before .before .before .before .before .before .find-in .ensures, c .before .before .before .before .before .before .before .before .before .enum-told .given .1, ← c .before .before .before .before .before .before .before .before .level-of .ensures, ← c .before .before .before .before .before .before .before .find-in2 .ensures, c .before .before .before .before .before .enum-told2 .given .1, ← c .before .before .before .before .level-of2 .ensures, ← c .before .before .before .find-in3 .ensures, c .before .m2 .given .1)
+returns-2 c = rw (found-levels (c .before .before .before .before .before .before .before .before .before .before .before .before .before .before .args .s .now) (c .before .before .before .before .before .before .before .before .before .before .before .before .before .before .args .z) (c .before .before .before .before .before .before .before .before .before .before .before .before .before .before .pre .0) (c .before .before .before .before .before .before .before .before .before .before .before .before .before .before .args .k), ← c .before .before .before .before .before .before .before .before .before .before .before .before .top-of .ensures, ← c .before .before .before .before .before .before .before .before .before .before .before .find-in .ensures, c .before .before .before .before .before .before .before .before .before .enum-told .given .1, ← c .before .before .before .before .before .before .before .before .level-of .ensures, ← c .before .before .before .before .before .before .before .find-in2 .ensures, c .before .before .before .before .before .enum-told2 .given .1, ← c .before .before .before .before .level-of2 .ensures, ← c .before .before .before .find-in3 .ensures, c .before .m2 .given .1)
 
 returns-3 : tie.Need-returns-3
-returns-3 c = rw (found-levels (c .before .before .before .before .before .before .before .before .before .before .args .s .now) (c .before .before .before .before .before .before .before .before .before .before .args .g) (c .before .before .before .before .before .before .before .before .before .before .pre .0) (c .before .before .before .before .before .before .before .before .before .before .args .k), ← c .before .before .before .before .before .before .before .before .top-of .ensures, ← c .before .before .before .before .before .before .before .find-in .ensures, c .before .before .before .before .before .enum-told .given .1, ← c .before .before .before .before .level-of .ensures, ← c .before .before .before .find-in2 .ensures, c .before .m1 .given .1)
+returns-3 c = rw (found-levels (c .before .before .before .before .before .before .before .before .before .before .args .s .now) (c .before .before .before .before .before .before .before .before .before .before .args .z) (c .before .before .before .before .before .before .before .before .before .before .pre .0) (c .before .before .before .before .before .before .before .before .before .before .args .k), ← c .before .before .before .before .before .before .before .before .top-of .ensures, ← c .before .before .before .before .before .before .before .find-in .ensures, c .before .before .before .before .before .enum-told .given .1, ← c .before .before .before .before .level-of .ensures, ← c .before .before .before .find-in2 .ensures, c .before .m1 .given .1)
 
 returns-4 : tie.Need-returns-4
-returns-4 c = rw (found-levels (c .before .before .before .before .before .before .args .s .now) (c .before .before .before .before .before .before .args .g) (c .before .before .before .before .before .before .pre .0) (c .before .before .before .before .before .before .args .k), ← c .before .before .before .before .top-of .ensures, ← c .before .before .before .find-in .ensures, c .before .m0 .given .1)
+returns-4 c = rw (found-levels (c .before .before .before .before .before .before .args .s .now) (c .before .before .before .before .before .before .args .z) (c .before .before .before .before .before .before .pre .0) (c .before .before .before .before .before .before .args .k), ← c .before .before .before .before .top-of .ensures, ← c .before .before .before .find-in .ensures, c .before .m0 .given .1)
 
 pub find-key-spec : {M : Type 1} → statement M
 find-key-spec =

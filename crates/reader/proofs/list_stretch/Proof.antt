@@ -27,7 +27,7 @@ same-length-2 c = search needs
 returns : tie.Need-returns
 returns c =
     let a = c .before .before .before .before .before .before .before .before .before .before .before .before in
-    rw (← stretch-levels (a .args .s .now) (a .args .g) (a .pre .0) (a .args .first) (a .args .last)) (rw (c .before .before .before .before .before .before .before .before .levels-of .ensures) at (c .before .before .before .before .before .list-stretch .ensures .0))
+    rw (← stretch-levels (a .args .s .now) (a .args .z) (a .pre .0) (a .args .first) (a .args .last)) (rw (c .before .before .before .before .before .before .before .before .levels-of .ensures) at (c .before .before .before .before .before .list-stretch .ensures .0))
 
 pub list-stretch-spec : {M : Type 1} → statement M
 list-stretch-spec =

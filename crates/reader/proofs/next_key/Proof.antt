@@ -28,7 +28,7 @@ enum-told c = search needs
 returns : tie.Need-returns
 returns c =
     let a = c .before .before .before .before .before in
-    rw (← next-levels (a .args .s .now) (a .args .g) (a .pre .0) (a .args .k)) (next-nothing (firstFrom (a .args .k) (unmarked (layered (a .args .s .now) (levelsOf (a .args .g) (a .args .s .now))))) (sym (c .enum-told .given .1) ∙ (rw (c .before .before .before .levels-of .ensures) at (c .before .before .next-from .ensures .0))))
+    rw (← next-levels (a .args .s .now) (a .args .z) (a .pre .0) (a .args .k)) (next-nothing (firstFrom (a .args .k) (unmarked (layered (a .args .s .now) (levelsOf (a .args .z) (a .args .s .now))))) (sym (c .enum-told .given .1) ∙ (rw (c .before .before .before .levels-of .ensures) at (c .before .before .next-from .ensures .0))))
 
 cast-t8 : tie.Need-cast-t8
 cast-t8 c = let f = rw (c .before .key .given .1) at (c .before .before .before .next-from .ensures .1) in omega arith
@@ -36,7 +36,7 @@ cast-t8 c = let f = rw (c .before .key .given .1) at (c .before .before .before 
 returns-2 : tie.Need-returns-2
 returns-2 c =
     let a = c .before .before .before .before .before .before in
-    rw (← next-levels (a .args .s .now) (a .args .g) (a .pre .0) (a .args .k)) (next-at (firstFrom (a .args .k) (unmarked (layered (a .args .s .now) (levelsOf (a .args .g) (a .args .s .now))))) _ _ (sym (c .before .key .given .1) ∙ (rw (c .before .before .before .before .levels-of .ensures) at (c .before .before .before .next-from .ensures .0))))
+    rw (← next-levels (a .args .s .now) (a .args .z) (a .pre .0) (a .args .k)) (next-at (firstFrom (a .args .k) (unmarked (layered (a .args .s .now) (levelsOf (a .args .z) (a .args .s .now))))) _ _ (sym (c .before .key .given .1) ∙ (rw (c .before .before .before .before .levels-of .ensures) at (c .before .before .before .next-from .ensures .0))))
 
 pub next-key-spec : {M : Type 1} → statement M
 next-key-spec =

@@ -11,7 +11,6 @@ use Rattle.slices.proofs.word.Reads as word-reads
 use Rattle.form.proofs.level_of.Reads as level-of-reads
 use Rattle.geometry.proofs.Geometry.block_width.Reads as block-width-reads
 use Rattle.geometry.proofs.Geometry.levels.Reads as levels-reads
-use Rattle.geometry.proofs.Geometry.place_start.Reads as place-start-reads
 use Rattle.search.proofs.enclosing.Reads as enclosing-reads
 
 levels-requires : tie.Need-levels-requires
@@ -24,10 +23,10 @@ returns-2 : tie.Need-returns-2
 returns-2 c = part-high _ _ _ _ (c .before .if1 .left) (omega (arith, c .before .before .levels .ensures, c .if2 .taken))
 
 level-of-requires : tie.Need-level-of-requires
-level-of-requires c κs = let z = ready-sized _ _ (c .before .before .before .before .pre .0) in (z, (c .before .if1 .left, omega (arith, c .before .before .levels .ensures, c .if2 .left, z .valid .ranged .h-high)))
+level-of-requires c κs = let z = ready-sized _ _ (c .before .before .before .before .before .pre .0) in (z, (c .before .if1 .left, omega (arith, c .before .before .levels .ensures, c .if2 .left, z .proper .valid .ranged .h-high)))
 
 enclosing-requires : tie.Need-enclosing-requires
-enclosing-requires c κs = rw (c .level-of .ensures) ((ready-level _ _ (c .before .before .before .before .before .pre .0) _ (c .before .before .if1 .left) (omega (arith, c .before .before .before .levels .ensures, c .before .if2 .left, ready-sized _ _ (c .before .before .before .before .before .pre .0) .valid .ranged .h-high))), omega (arith, c .before .before .before .before .before .pre .1))
+enclosing-requires c κs = rw (c .level-of .ensures) ((ready-level _ _ (c .before .before .before .before .before .before .pre .0) _ (c .before .before .if1 .left) (omega (arith, c .before .before .before .levels .ensures, c .before .if2 .left, ready-sized _ _ (c .before .before .before .before .before .before .pre .0) .proper .valid .ranged .h-high))), omega (arith, c .before .before .before .before .before .before .pre .1))
 
 enum-known-i : tie.Need-enum-known-i
 enum-known-i c = search needs
@@ -36,29 +35,29 @@ enum-told : tie.Need-enum-told
 enum-told c = search needs
 
 returns-3 : tie.Need-returns-3
-returns-3 c = part-none _ _ (c .before .before .before .before .before .before .before .before .pre .0) _ (c .before .before .before .before .before .if1 .left) (omega (arith, c .before .before .before .before .before .before .levels .ensures, c .before .before .before .before .if2 .left)) _ _ (c .before .before .before .level-of .ensures) (sym (c .enum-told .given .1) ∙ c .before .before .enclosing .ensures)
+returns-3 c = part-none _ _ (c .before .before .before .before .before .before .before .before .before .pre .0) _ (c .before .before .before .before .before .if1 .left) (omega (arith, c .before .before .before .before .before .before .levels .ensures, c .before .before .before .before .if2 .left)) _ _ (c .before .before .before .level-of .ensures) (sym (c .enum-told .given .1) ∙ c .before .before .enclosing .ensures)
 
 add-word : tie.Need-add-word
 add-word c =
-    let h = shown-in _ _ (c .before .before .before .before .before .before .before .before .before .pre .0) _ (c .before .before .before .before .before .before .if1 .left) (omega (arith, c .before .before .before .before .before .before .before .levels .ensures, c .before .before .before .before .before .if2 .left)) _ _ (c .before .before .before .before .level-of .ensures) _ (sym (c .before .i .given .1) ∙ c .before .before .before .enclosing .ensures) in
-    omega (arith, ready-sized _ _ (c .before .before .before .before .before .before .before .before .before .pre .0) .short)
+    let h = shown-in _ _ (c .before .before .before .before .before .before .before .before .before .before .pre .0) _ (c .before .before .before .before .before .before .if1 .left) (omega (arith, c .before .before .before .before .before .before .before .levels .ensures, c .before .before .before .before .before .if2 .left)) _ _ (c .before .before .before .before .level-of .ensures) _ (sym (c .before .i .given .1) ∙ c .before .before .before .enclosing .ensures) in
+    omega (arith, ready-sized _ _ (c .before .before .before .before .before .before .before .before .before .before .pre .0) .proper .short, ready-sized _ _ (c .before .before .before .before .before .before .before .before .before .before .pre .0) .words)
 
 word-requires : tie.Need-word-requires
-word-requires c κs = shown-in _ _ (c .before .before .before .before .before .before .before .before .before .pre .0) _ (c .before .before .before .before .before .before .if1 .left) (omega (arith, c .before .before .before .before .before .before .before .levels .ensures, c .before .before .before .before .before .if2 .left)) _ _ (c .before .before .before .before .level-of .ensures) _ (sym (c .before .i .given .1) ∙ c .before .before .before .enclosing .ensures)
+word-requires c κs = shown-in _ _ (c .before .before .before .before .before .before .before .before .before .before .pre .0) _ (c .before .before .before .before .before .before .if1 .left) (omega (arith, c .before .before .before .before .before .before .before .levels .ensures, c .before .before .before .before .before .if2 .left)) _ _ (c .before .before .before .before .level-of .ensures) _ (sym (c .before .i .given .1) ∙ c .before .before .before .enclosing .ensures)
 
 place-start-requires : tie.Need-place-start-requires
 place-start-requires c κs =
-    let z = ready-sized _ _ (c .before .before .before .before .before .before .before .before .before .before .pre .0) in
-    let h = shown-place _ _ (c .before .before .before .before .before .before .before .before .before .before .pre .0) _ (c .before .before .before .before .before .before .before .if1 .left) (omega (arith, c .before .before .before .before .before .before .before .before .levels .ensures, c .before .before .before .before .before .before .if2 .left)) _ _ (c .before .before .before .before .before .level-of .ensures) _ (sym (c .before .before .i .given .1) ∙ c .before .before .before .before .enclosing .ensures) in
-    (z .valid .ranged, omega (arith, c .word .ensures .0, z .valid .places-high))
+    let z = ready-sized _ _ (c .before .before .before .before .before .before .before .before .before .before .before .pre .0) in
+    let h = shown-place _ _ (c .before .before .before .before .before .before .before .before .before .before .before .pre .0) _ (c .before .before .before .before .before .before .before .if1 .left) (omega (arith, c .before .before .before .before .before .before .before .before .levels .ensures, c .before .before .before .before .before .before .if2 .left)) _ _ (c .before .before .before .before .before .level-of .ensures) _ (sym (c .before .before .i .given .1) ∙ c .before .before .before .before .enclosing .ensures) in
+    (z .proper, omega (arith, c .word .ensures .0, z .proper .valid .places-high))
 
 block-width-requires : tie.Need-block-width-requires
-block-width-requires c κs = ready-sized _ _ (c .before .before .before .before .before .before .before .before .before .before .before .pre .0) .valid .ranged
+block-width-requires c κs = ready-sized _ _ (c .before .before .before .before .before .before .before .before .before .before .before .before .pre .0) .proper .valid .ranged
 
 returns-4 : tie.Need-returns-4
 returns-4 c =
     rw (c .before .place-start .ensures, c .block-width .ensures, c .before .before .word .ensures .0)
-    (part-at _ _ (c .before .before .before .before .before .before .before .before .before .before .before .before .pre .0) _ (c .before .before .before .before .before .before .before .before .before .if1 .left) (omega (arith, c .before .before .before .before .before .before .before .before .before .before .levels .ensures, c .before .before .before .before .before .before .before .before .if2 .left)) _ _ (c .before .before .before .before .before .before .before .level-of .ensures) _ (sym (c .before .before .before .before .i .given .1) ∙ c .before .before .before .before .before .before .enclosing .ensures))
+    (part-at _ _ (c .before .before .before .before .before .before .before .before .before .before .before .before .before .pre .0) _ (c .before .before .before .before .before .before .before .before .before .if1 .left) (omega (arith, c .before .before .before .before .before .before .before .before .before .before .levels .ensures, c .before .before .before .before .before .before .before .before .if2 .left)) _ _ (c .before .before .before .before .before .before .before .level-of .ensures) _ (sym (c .before .before .before .before .i .given .1) ∙ c .before .before .before .before .before .before .enclosing .ensures))
 
 pub show-block-spec : {M : Type 1} → statement M
 show-block-spec =

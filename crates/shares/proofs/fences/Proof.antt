@@ -3,7 +3,7 @@ use native.Mathlib.Omega.{arith}
 use Prim.Native.Nat.{_+_, _-_, _≤_}
 use mathlib.Core.Path.{_≡_, refl}
 use lib.ListN.{length}
-use Rattle.words.specs.Layout.{word}
+use Rattle.words.specs.Stores.{word}
 use Rattle.search.specs.Search.{firstAt}
 use Rattle.shares.proofs.Seating.{Passing, passing-start, passing-few, passing-step, passing-end, started-first}
 use Rattle.shares.proofs.fences.Statement.{statement}

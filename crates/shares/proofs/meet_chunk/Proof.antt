@@ -2,7 +2,7 @@ use Prim.Native.Nat.{_+_, _-_, _*_, _≤_}
 use mathlib.Core.Path.{_≡_}
 use native.Mathlib.Omega.{arith}
 use lib.ListN.{length, getD, take, drop}
-use Rattle.words.specs.Layout.{word}
+use Rattle.words.specs.Stores.{word}
 use Rattle.words.proofs.Ranks.{keys-slots}
 use Rattle.search.specs.Search.{Sought}
 use Rattle.shares.specs.Shadow.{knownIn, number, keysIn}

@@ -32,67 +32,67 @@ array-read-n : tie.Need-array-read-n
 array-read-n c = search needs
 
 entries-requires : tie.Need-entries-requires
-entries-requires c κs = let p = c .before .before .before .before .before .pre in entries-ask _ _ _ _ (p .0) (c .before .before .before .before .before .args .level - 1) _ _ (omega (arith, p .1 .0)) (p .1 .1) (c .before .before .levels .ensures)
+entries-requires c κs = let p = c .before .before .before .before .before .before .pre in entries-ask _ _ _ _ (p .0) (c .before .before .before .before .before .before .args .level - 1) _ _ (omega (arith, p .1 .0)) (p .1 .1) (c .before .before .levels .ensures)
 
 needs-compacting-requires : tie.Need-needs-compacting-requires
-needs-compacting-requires c κs = let p = c .before .before .before .before .before .before .before .pre in rw (c .before .entries .ensures) (due-asks _ _ _ _ (p .0) (c .before .before .before .before .before .before .before .args .level - 1) _ _ (omega (arith, p .1 .0)) (p .1 .1) (c .before .before .before .before .levels .ensures))
+needs-compacting-requires c κs = let p = c .before .before .before .before .before .before .before .before .pre in rw (c .before .entries .ensures) (due-asks _ _ _ _ (p .0) (c .before .before .before .before .before .before .before .before .args .level - 1) _ _ (omega (arith, p .1 .0)) (p .1 .1) (c .before .before .before .before .levels .ensures))
 
 same-length : tie.Need-same-length
 same-length c = search needs
 
 returns : tie.Need-returns
 returns c =
-    let p = c .before .before .before .before .before .before .before .before .before .pre in
-    kept-level _ _ _ _ (p .0) (c .before .before .before .before .before .before .before .before .before .args .level - 1) _ _ (omega (arith, p .1 .0)) (p .1 .1) (c .before .before .before .before .before .before .levels .ensures) (rw (c .before .before .before .entries .ensures) at (sym (c .before .needs-compacting .ensures) ∙ not-true _ (c .if1 .taken)))
+    let p = c .before .before .before .before .before .before .before .before .before .before .pre in
+    kept-level _ _ _ _ (p .0) (c .before .before .before .before .before .before .before .before .before .before .args .level - 1) _ _ (omega (arith, p .1 .0)) (p .1 .1) (c .before .before .before .before .before .before .levels .ensures) (rw (c .before .before .before .entries .ensures) at (sym (c .before .needs-compacting .ensures) ∙ not-true _ (c .if1 .taken)))
 
 marks-requires : tie.Need-marks-requires
-marks-requires c κs = let k = c .before .before .before .before .before .before .before .before .before .before .pre .0 in rw (c .before .before .before .before .before .before .before .levels .ensures) (markable _ _ _ _ _ _ (k .valid) (k .inside) (k .stands))
+marks-requires c κs = let k = c .before .before .before .before .before .before .before .before .before .before .before .before .pre .0 in (refl, rw (c .before .before .before .before .before .before .before .before .levels .ensures) (markable _ _ _ _ _ _ (k .proper) (k .inside) (k .stands)))
 
 entries-requires-2 : tie.Need-entries-requires-2
-entries-requires-2 c κs = let p = c .before .before .before .before .before .before .before .before .before .before .before .before .before .pre in entries-ask _ _ _ _ (p .0) (c .before .before .before .before .before .before .before .before .before .before .before .before .before .args .level - 1) _ _ (omega (arith, p .1 .0)) (p .1 .1) (c .before .before .before .before .before .before .before .before .before .before .levels .ensures)
+entries-requires-2 c κs = let p = c .before .before .before .before .before .before .before .before .before .before .before .before .before .before .before .pre in entries-ask _ _ _ _ (p .0) (c .before .before .before .before .before .before .before .before .before .before .before .before .before .before .before .args .level - 1) _ _ (omega (arith, p .1 .0)) (p .1 .1) (c .before .before .before .before .before .before .before .before .before .before .before .levels .ensures)
 
 compact-requires : tie.Need-compact-requires
 compact-requires c κs =
-    let p = c .before .before .before .before .before .before .before .before .before .before .before .before .before .before .before .before .before .pre in
-    let h = rw (c .before .before .before .before .before .before .before .before .before .before .before .entries .ensures) at (sym (c .before .before .before .before .before .before .before .before .before .needs-compacting .ensures) ∙ not-false _ (c .before .before .before .before .before .before .before .before .if1 .left)) in
-    (rw (c .before .before .before .entries2 .ensures) (list-asks _ _ _ _ (p .0) (c .before .before .before .before .before .before .before .before .before .before .before .before .before .before .before .before .before .args .level - 1) _ _ (omega (arith, p .1 .0)) (p .1 .1) (c .before .before .before .before .before .before .before .before .before .before .before .before .before .before .levels .ensures) h (c .before .before .before .before .before .before .marks .result) (c .before .before .before .before .before .before .marks .ensures)), refl)
+    let p = c .before .before .before .before .before .before .before .before .before .before .before .before .before .before .before .before .before .before .before .pre in
+    let h = rw (c .before .before .before .before .before .before .before .before .before .before .before .before .entries .ensures) at (sym (c .before .before .before .before .before .before .before .before .before .before .needs-compacting .ensures) ∙ not-false _ (c .before .before .before .before .before .before .before .before .before .if1 .left)) in
+    (rw (c .before .before .before .entries2 .ensures) (list-asks _ _ _ _ (p .0) (c .before .before .before .before .before .before .before .before .before .before .before .before .before .before .before .before .before .before .before .args .level - 1) _ _ (omega (arith, p .1 .0)) (p .1 .1) (c .before .before .before .before .before .before .before .before .before .before .before .before .before .before .before .levels .ensures) h (c .before .before .before .before .before .before .marks .last .0) (c .before .before .before .before .before .before .marks .ensures)), refl)
 
 start-of-requires : tie.Need-start-of-requires
-start-of-requires c κs = let e = c .before .before .before .before .before .before .before .before .before .before .before .before .before .before .before .before .before .levels .ensures in (omega (arith, e, c .before .before .before .before .before .before .before .before .before .before .before .before .before .before .before .before .before .before .before .before .pre .1 .1), omega (arith, e, c .before .before .before .before .before .before .before .before .before .before .before .before .before .before .before .before .before .before .before .before .pre .0 .valid .ranged .h-high))
+start-of-requires c κs = let e = c .before .before .before .before .before .before .before .before .before .before .before .before .before .before .before .before .before .before .levels .ensures in (omega (arith, e, c .before .before .before .before .before .before .before .before .before .before .before .before .before .before .before .before .before .before .before .before .before .before .pre .1 .1), omega (arith, e, c .before .before .before .before .before .before .before .before .before .before .before .before .before .before .before .before .before .before .before .before .before .before .pre .0 .proper .valid .ranged .h-high))
 
 slice-aggregate-copy : tie.Need-slice-aggregate-copy
 slice-aggregate-copy c =
-    let p = c .before .before .before .before .before .before .before .before .before .before .before .before .before .before .before .before .before .before .before .before .before .before .pre in
-    let h = rw (c .before .before .before .before .before .before .before .before .before .before .before .before .before .before .before .before .entries .ensures) at (sym (c .before .before .before .before .before .before .before .before .before .before .before .before .before .before .needs-compacting .ensures) ∙ not-false _ (c .before .before .before .before .before .before .before .before .before .before .before .before .before .if1 .left)) in
-    out-long _ _ _ _ (p .0) (c .before .before .before .before .before .before .before .before .before .before .before .before .before .before .before .before .before .before .before .before .before .before .args .level - 1) _ _ (omega (arith, p .1 .0)) (p .1 .1) (c .before .before .before .before .before .before .before .before .before .before .before .before .before .before .before .before .before .before .before .levels .ensures) h (c .before .before .before .before .before .before .before .before .before .before .before .marks .result) (c .before .before .before .before .before .before .before .before .before .before .before .marks .ensures) _ _ _ _ (rw (c .before .before .before .before .before .before .before .before .entries2 .ensures) at (c .before .before .before .before .compact .ensures))
+    let p = c .before .before .before .before .before .before .before .before .before .before .before .before .before .before .before .before .before .before .before .before .before .before .before .before .pre in
+    let h = rw (c .before .before .before .before .before .before .before .before .before .before .before .before .before .before .before .before .before .entries .ensures) at (sym (c .before .before .before .before .before .before .before .before .before .before .before .before .before .before .before .needs-compacting .ensures) ∙ not-false _ (c .before .before .before .before .before .before .before .before .before .before .before .before .before .before .if1 .left)) in
+    out-long _ _ _ _ (p .0) (c .before .before .before .before .before .before .before .before .before .before .before .before .before .before .before .before .before .before .before .before .before .before .before .before .args .level - 1) _ _ (omega (arith, p .1 .0)) (p .1 .1) (c .before .before .before .before .before .before .before .before .before .before .before .before .before .before .before .before .before .before .before .before .levels .ensures) h (c .before .before .before .before .before .before .before .before .before .before .before .marks .last .0) (c .before .before .before .before .before .before .before .before .before .before .before .marks .ensures) _ _ _ _ (rw (c .before .before .before .before .before .before .before .before .entries2 .ensures) at (c .before .before .before .before .compact .ensures))
 
 copy-requires : tie.Need-copy-requires
 copy-requires c κs =
-    let p = c .before .before .before .before .before .before .before .before .before .before .before .before .before .before .before .before .before .before .before .before .before .before .before .pre in
-    let h = rw (c .before .before .before .before .before .before .before .before .before .before .before .before .before .before .before .before .before .entries .ensures) at (sym (c .before .before .before .before .before .before .before .before .before .before .before .before .before .before .before .needs-compacting .ensures) ∙ not-false _ (c .before .before .before .before .before .before .before .before .before .before .before .before .before .before .if1 .left)) in
-    copy-asks _ _ _ _ (p .0) (c .before .before .before .before .before .before .before .before .before .before .before .before .before .before .before .before .before .before .before .before .before .before .before .args .level - 1) _ _ (omega (arith, p .1 .0)) (p .1 .1) (c .before .before .before .before .before .before .before .before .before .before .before .before .before .before .before .before .before .before .before .before .levels .ensures) h (c .before .before .before .before .before .before .before .before .before .before .before .before .marks .result) (c .before .before .before .before .before .before .before .before .before .before .before .before .marks .ensures) _ _ _ _ (rw (c .before .before .before .before .before .before .before .before .before .entries2 .ensures) at (c .before .before .before .before .before .compact .ensures)) _ (c .before .before .start-of .ensures)
+    let p = c .before .before .before .before .before .before .before .before .before .before .before .before .before .before .before .before .before .before .before .before .before .before .before .before .before .pre in
+    let h = rw (c .before .before .before .before .before .before .before .before .before .before .before .before .before .before .before .before .before .before .entries .ensures) at (sym (c .before .before .before .before .before .before .before .before .before .before .before .before .before .before .before .before .needs-compacting .ensures) ∙ not-false _ (c .before .before .before .before .before .before .before .before .before .before .before .before .before .before .before .if1 .left)) in
+    copy-asks _ _ _ _ (p .0) (c .before .before .before .before .before .before .before .before .before .before .before .before .before .before .before .before .before .before .before .before .before .before .before .before .before .args .level - 1) _ _ (omega (arith, p .1 .0)) (p .1 .1) (c .before .before .before .before .before .before .before .before .before .before .before .before .before .before .before .before .before .before .before .before .before .levels .ensures) h (c .before .before .before .before .before .before .before .before .before .before .before .before .marks .last .0) (c .before .before .before .before .before .before .before .before .before .before .before .before .marks .ensures) _ _ _ _ (rw (c .before .before .before .before .before .before .before .before .before .entries2 .ensures) at (c .before .before .before .before .before .compact .ensures)) _ (c .before .before .start-of .ensures)
 
 add-count : tie.Need-add-count
-add-count c = omega (arith, c .before .before .before .before .before .before .before .before .before .before .before .before .before .before .before .before .before .before .before .before .before .before .before .before .before .pre .1 .1, c .before .before .before .before .before .before .before .before .before .before .before .before .before .before .before .before .before .before .before .before .before .before .before .before .before .pre .0 .valid .ranged .h-high)
+add-count c = omega (arith, c .before .before .before .before .before .before .before .before .before .before .before .before .before .before .before .before .before .before .before .before .before .before .before .before .before .before .before .pre .1 .1, c .before .before .before .before .before .before .before .before .before .before .before .before .before .before .before .before .before .before .before .before .before .before .before .before .before .before .before .pre .0 .proper .valid .ranged .h-high)
 
 count-requires : tie.Need-count-requires
 count-requires c κs =
-    let p = c .before .before .before .before .before .before .before .before .before .before .before .before .before .before .before .before .before .before .before .before .before .before .before .before .before .pre in
-    let h = rw (c .before .before .before .before .before .before .before .before .before .before .before .before .before .before .before .before .before .before .before .entries .ensures) at (sym (c .before .before .before .before .before .before .before .before .before .before .before .before .before .before .before .before .before .needs-compacting .ensures) ∙ not-false _ (c .before .before .before .before .before .before .before .before .before .before .before .before .before .before .before .before .if1 .left)) in
-    let w = list-few _ _ _ _ (p .0) (c .before .before .before .before .before .before .before .before .before .before .before .before .before .before .before .before .before .before .before .before .before .before .before .before .before .args .level - 1) _ _ (omega (arith, p .1 .0)) (p .1 .1) (c .before .before .before .before .before .before .before .before .before .before .before .before .before .before .before .before .before .before .before .before .before .before .levels .ensures) h (c .before .before .before .before .before .before .before .before .before .before .before .before .before .before .marks .result) (c .before .before .before .before .before .before .before .before .before .before .before .before .before .before .marks .ensures) _ _ _ _ (rw (c .before .before .before .before .before .before .before .before .before .before .before .entries2 .ensures) at (c .before .before .before .before .before .before .before .compact .ensures)) in
+    let p = c .before .before .before .before .before .before .before .before .before .before .before .before .before .before .before .before .before .before .before .before .before .before .before .before .before .before .before .pre in
+    let h = rw (c .before .before .before .before .before .before .before .before .before .before .before .before .before .before .before .before .before .before .before .before .entries .ensures) at (sym (c .before .before .before .before .before .before .before .before .before .before .before .before .before .before .before .before .before .before .needs-compacting .ensures) ∙ not-false _ (c .before .before .before .before .before .before .before .before .before .before .before .before .before .before .before .before .before .if1 .left)) in
+    let w = list-few _ _ _ _ (p .0) (c .before .before .before .before .before .before .before .before .before .before .before .before .before .before .before .before .before .before .before .before .before .before .before .before .before .before .before .args .level - 1) _ _ (omega (arith, p .1 .0)) (p .1 .1) (c .before .before .before .before .before .before .before .before .before .before .before .before .before .before .before .before .before .before .before .before .before .before .before .levels .ensures) h (c .before .before .before .before .before .before .before .before .before .before .before .before .before .before .marks .last .0) (c .before .before .before .before .before .before .before .before .before .before .before .before .before .before .marks .ensures) _ _ _ _ (rw (c .before .before .before .before .before .before .before .before .before .before .before .entries2 .ensures) at (c .before .before .before .before .before .before .before .compact .ensures)) in
     (p .0 .small, record { merges = omega arith; written = omega arith; compacted = w })
 
 relist-requires : tie.Need-relist-requires
-relist-requires c κs = omega (arith, c .before .before .before .before .before .before .before .before .before .before .before .before .before .before .before .before .before .before .before .before .before .before .before .before .before .before .pre .1 .1, c .before .before .before .before .before .before .before .before .before .before .before .before .before .before .before .before .before .before .before .before .before .before .before .before .before .before .pre .0 .valid .ranged .h-high)
+relist-requires c κs = omega (arith, c .before .before .before .before .before .before .before .before .before .before .before .before .before .before .before .before .before .before .before .before .before .before .before .before .before .before .before .before .pre .1 .1, c .before .before .before .before .before .before .before .before .before .before .before .before .before .before .before .before .before .before .before .before .before .before .before .before .before .before .before .before .pre .0 .proper .valid .ranged .h-high)
 
 same-length-2 : tie.Need-same-length-2
 same-length-2 c = search needs
 
 returns-2 : tie.Need-returns-2
 returns-2 c =
-    let p = c .before .before .before .before .before .before .before .before .before .before .before .before .before .before .before .before .before .before .before .before .before .before .before .before .before .before .before .pre in
-    let h = rw (c .before .before .before .before .before .before .before .before .before .before .before .before .before .before .before .before .before .before .before .before .before .entries .ensures) at (sym (c .before .before .before .before .before .before .before .before .before .before .before .before .before .before .before .before .before .before .before .needs-compacting .ensures) ∙ not-false _ (c .before .before .before .before .before .before .before .before .before .before .before .before .before .before .before .before .before .before .if1 .left)) in
-    compacted _ _ _ _ (p .0) (c .before .before .before .before .before .before .before .before .before .before .before .before .before .before .before .before .before .before .before .before .before .before .before .before .before .before .before .args .level - 1) _ _ (omega (arith, p .1 .0)) (p .1 .1) (c .before .before .before .before .before .before .before .before .before .before .before .before .before .before .before .before .before .before .before .before .before .before .before .before .levels .ensures) h (c .before .before .before .before .before .before .before .before .before .before .before .before .before .before .before .before .marks .result) (c .before .before .before .before .before .before .before .before .before .before .before .before .before .before .before .before .marks .ensures) _ _ _ _ (rw (c .before .before .before .before .before .before .before .before .before .before .before .before .before .entries2 .ensures) at (c .before .before .before .before .before .before .before .before .before .compact .ensures)) _ (c .before .before .before .before .before .before .start-of .ensures) _ _ _ (c .before .before .before .copy .ensures) (c .before .count .ensures) (rw (c .relist .ensures))
+    let p = c .before .before .before .before .before .before .before .before .before .before .before .before .before .before .before .before .before .before .before .before .before .before .before .before .before .before .before .before .before .pre in
+    let h = rw (c .before .before .before .before .before .before .before .before .before .before .before .before .before .before .before .before .before .before .before .before .before .before .entries .ensures) at (sym (c .before .before .before .before .before .before .before .before .before .before .before .before .before .before .before .before .before .before .before .before .needs-compacting .ensures) ∙ not-false _ (c .before .before .before .before .before .before .before .before .before .before .before .before .before .before .before .before .before .before .before .if1 .left)) in
+    compacted _ _ _ _ (p .0) (c .before .before .before .before .before .before .before .before .before .before .before .before .before .before .before .before .before .before .before .before .before .before .before .before .before .before .before .before .before .args .level - 1) _ _ (omega (arith, p .1 .0)) (p .1 .1) (c .before .before .before .before .before .before .before .before .before .before .before .before .before .before .before .before .before .before .before .before .before .before .before .before .before .levels .ensures) h (c .before .before .before .before .before .before .before .before .before .before .before .before .before .before .before .before .marks .last .0) (c .before .before .before .before .before .before .before .before .before .before .before .before .before .before .before .before .marks .ensures) _ _ _ _ (rw (c .before .before .before .before .before .before .before .before .before .before .before .before .before .entries2 .ensures) at (c .before .before .before .before .before .before .before .before .before .compact .ensures)) _ (c .before .before .before .before .before .before .start-of .ensures) _ _ _ (c .before .before .before .copy .ensures) (c .before .count .ensures) (rw (c .relist .ensures))
 
 pub compact-level-spec : {M : Type 1} → statement M
 compact-level-spec =

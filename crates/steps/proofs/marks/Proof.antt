@@ -11,13 +11,13 @@ use Rattle.blocks.proofs.mark_listed.Reads as mark-listed-reads
 use Rattle.lists.proofs.entries.Reads as entries-reads
 
 abbrev Inv-loop : tie.InvT-loop
-Inv-loop lists h ns used₀ i₀ used i = (i ≤ h) × Marked h lists ns used i
+Inv-loop used₀ lists h ns i₀ used i = (i ≤ h) × Marked h lists ns used i
 
 abbrev μ-loop : tie.MeasureT-loop
-μ-loop lists h ns used₀ i₀ used i = h - i
+μ-loop used₀ lists h ns i₀ used i = h - i
 
 loop-holds : tie.Need-loop-holds Inv-loop μ-loop
-loop-holds c = (omega arith, marks-first)
+loop-holds c = (omega arith, rw (c .pre .0) marks-first)
 
 add-entries : tie.Need-add-entries Inv-loop μ-loop
 add-entries c = search needs
@@ -29,10 +29,10 @@ array-read-entries : tie.Need-array-read-entries Inv-loop μ-loop
 array-read-entries c = search needs
 
 entries-requires : tie.Need-entries-requires Inv-loop μ-loop
-entries-requires c κs = let p = c .before .before .before .pre in (omega (arith, c .before .loop-test .taken), (p .high, (rw add-one (p .fit _ (c .before .loop-test .taken)), p .long)))
+entries-requires c κs = let p = c .before .before .before .pre .1 in (omega (arith, c .before .loop-test .taken), (p .high, (rw add-one (p .fit _ (c .before .loop-test .taken)), p .long)))
 
 mark-listed-requires : tie.Need-mark-listed-requires Inv-loop μ-loop
-mark-listed-requires c κs = marks-low _ _ _ (c .before .before .before .before .before .pre) (c .before .before .before .before .loop .i) (c .before .before .before .loop-test .taken) _ (c .before .entries .ensures)
+mark-listed-requires c κs = marks-low _ _ _ (c .before .before .before .before .before .pre .1) (c .before .before .before .before .loop .i) (c .before .before .before .loop-test .taken) _ (c .before .entries .ensures)
 
 add-i : tie.Need-add-i Inv-loop μ-loop
 add-i c = search needs
@@ -41,7 +41,7 @@ loop-less : tie.Need-loop-less Inv-loop μ-loop
 loop-less c = omega arith
 
 loop-again : tie.Need-loop-again Inv-loop μ-loop
-loop-again c = (omega (arith, c .before .before .before .before .loop-test .taken), marks-more _ _ _ (c .before .before .before .before .before .before .pre) (c .before .before .before .before .before .loop .i) (c .before .before .before .before .loop-test .taken) _ (c .before .before .entries .ensures) _ _ (c .before .before .before .before .before .loop .inv .1) (c .mark-listed .ensures))
+loop-again c = (omega (arith, c .before .before .before .before .loop-test .taken), marks-more _ _ _ (c .before .before .before .before .before .before .pre .1) (c .before .before .before .before .before .loop .i) (c .before .before .before .before .loop-test .taken) _ (c .before .before .entries .ensures) _ _ (c .before .before .before .before .before .loop .inv .1) (c .mark-listed .ensures))
 
 returns : tie.Need-returns Inv-loop μ-loop
 returns c = marks-are _ _ _ (c .before .loop .i) (c .before .loop .used) (omega (arith, c .before .loop .inv .0, c .loop-test .left)) (c .before .loop .inv .1)

@@ -16,22 +16,22 @@ sub-above : tie.Need-sub-above
 sub-above c = search needs
 
 mul-above : tie.Need-mul-above
-mul-above c = let k = c .before .before .pre .0 in omega (arith, level-low _ _ _ _ (k .valid) (k .facts), k .valid .ranged .h-high)
+mul-above c = let k = c .before .before .pre .0 in omega (arith, level-low _ _ _ _ (k .proper) (k .facts), k .proper .valid .ranged .h-high)
 
 array-read-above : tie.Need-array-read-above
-array-read-above c = let k = c .before .before .pre .0 in omega (arith, level-low _ _ _ _ (k .valid) (k .facts), k .valid .ranged .h-high)
+array-read-above c = let k = c .before .before .pre .0 in omega (arith, level-low _ _ _ _ (k .proper) (k .facts), k .proper .valid .ranged .h-high)
 
 mul-under : tie.Need-mul-under
-mul-under c = let k = c .before .before .pre .0 in omega (arith, level-low _ _ _ _ (k .valid) (k .facts), k .valid .ranged .h-high)
+mul-under c = let k = c .before .before .pre .0 in omega (arith, level-low _ _ _ _ (k .proper) (k .facts), k .proper .valid .ranged .h-high)
 
 array-read-under : tie.Need-array-read-under
-array-read-under c = let k = c .before .before .pre .0 in omega (arith, level-low _ _ _ _ (k .valid) (k .facts), k .valid .ranged .h-high)
+array-read-under c = let k = c .before .before .pre .0 in omega (arith, level-low _ _ _ _ (k .proper) (k .facts), k .proper .valid .ranged .h-high)
 
 merge-pair-requires : tie.Need-merge-pair-requires
 merge-pair-requires c κs = two-ready _ _ _ _ _ (c .before .before .before .before .before .pre .0) _ (c .before .before .before .before .before .pre .1 .0) (c .before .before .before .before .before .args .level - 1) (omega (arith, c .before .before .before .before .before .pre .1 .1))
 
 add-count : tie.Need-add-count
-add-count c = let k = c .before .before .before .before .before .before .before .before .before .pre .0 in omega (arith, level-low _ _ _ _ (k .valid) (k .facts), k .valid .ranged .h-high)
+add-count c = let k = c .before .before .before .before .before .before .before .before .before .pre .0 in omega (arith, level-low _ _ _ _ (k .proper) (k .facts), k .proper .valid .ranged .h-high)
 
 count-requires : tie.Need-count-requires
 count-requires c κs =
@@ -42,10 +42,10 @@ sub-relist : tie.Need-sub-relist
 sub-relist c = search needs
 
 relist-requires : tie.Need-relist-requires
-relist-requires c κs = let k = c .before .before .before .before .before .before .before .before .before .before .pre .0 in omega (arith, level-low _ _ _ _ (k .valid) (k .facts), k .valid .ranged .h-high)
+relist-requires c κs = let k = c .before .before .before .before .before .before .before .before .before .before .pre .0 in omega (arith, level-low _ _ _ _ (k .proper) (k .facts), k .proper .valid .ranged .h-high)
 
 relist-requires-2 : tie.Need-relist-requires-2
-relist-requires-2 c κs = let k = c .before .before .before .before .before .before .before .before .before .before .before .pre .0 in omega (arith, level-low _ _ _ _ (k .valid) (k .facts), k .valid .ranged .h-high)
+relist-requires-2 c κs = let k = c .before .before .before .before .before .before .before .before .before .before .before .pre .0 in omega (arith, level-low _ _ _ _ (k .proper) (k .facts), k .proper .valid .ranged .h-high)
 
 ticket-requires : tie.Need-ticket-requires
 ticket-requires c κs = two-words _ _ _ _ _ (c .before .before .before .before .before .before .before .before .before .before .before .before .pre .0) (c .before .before .before .before .before .before .before .before .before .before .before .before .args .used .now) (c .before .before .before .before .before .before .before .before .before .before .before .before .pre .1 .0) (c .before .before .before .before .before .before .before .before .before .before .before .before .args .level - 1) (omega (arith, c .before .before .before .before .before .before .before .before .before .before .before .before .pre .1 .1)) _ _ _ _ (c .before .before .before .before .before .before .merge-pair .ensures)

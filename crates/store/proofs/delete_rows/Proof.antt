@@ -1,3 +1,4 @@
+use Rattle.form.proofs.Ready.{checked-passes}
 use mathlib.Core.Path.{sym, _∙_}
 use Rattle.store.proofs.Changing.{delete-refused, delete-ready}
 use borrow.Author.Needs.{needs}
@@ -14,11 +15,11 @@ check-requires c κs = search needs
 enum-known-n : tie.Need-enum-known-n
 enum-known-n c = search needs
 
-enum-known-g : tie.Need-enum-known-g
-enum-known-g c = search needs
+enum-known-z : tie.Need-enum-known-z
+enum-known-z c = search needs
 
 delete-ready-requires : tie.Need-delete-ready-requires
-delete-ready-requires c κs = sym (c .before .before .before .before .before .check .ensures) ∙ c .before .before .before .g .given .1
+delete-ready-requires c κs = checked-passes _ _ (sym (c .before .before .before .before .before .check .ensures) ∙ c .before .before .before .z .given .1)
 
 same-length : tie.Need-same-length
 same-length c = search needs
@@ -33,7 +34,7 @@ same-length-3 : tie.Need-same-length-3
 same-length-3 c = search needs
 
 returns-2 : tie.Need-returns-2
-returns-2 c = delete-ready _ _ (sym (c .before .before .before .before .before .before .before .before .before .check .ensures) ∙ c .before .before .before .before .before .before .before .g .given .1) _ _ _ _ _ (c .before .before .before .delete-ready .ensures)
+returns-2 c = delete-ready _ _ (sym (c .before .before .before .before .before .before .before .before .before .check .ensures) ∙ c .before .before .before .before .before .before .before .z .given .1) _ _ _ _ _ (c .before .before .before .delete-ready .ensures)
 
 pub delete-rows-spec : {M : Type 1} → statement M
 delete-rows-spec =
@@ -41,7 +42,7 @@ delete-rows-spec =
     (tie.spec
     check-requires
     enum-known-n
-    enum-known-g
+    enum-known-z
     delete-ready-requires
     same-length
     returns

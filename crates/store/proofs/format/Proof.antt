@@ -1,13 +1,11 @@
-use native.Mathlib.Omega.{arith}
-use mathlib.Core.Path.{sym, _∙_}
-use Rattle.entry.proofs.Laws.{fitted-ready}
-use Rattle.store.proofs.Formatting.{cleared-headed, format-refused, format-done, fitted-room}
+use mathlib.Core.Path.{refl, sym, _∙_}
+use Rattle.store.proofs.Formatting.{cleared-headed, format-refused, format-done, layout-is, header-asks, limit-asks, length-is}
 use borrow.Author.Needs.{needs}
 use Rattle.store.proofs.format.Statement.{statement}
 use Rattle.store.proofs.format.Tie as tie
 use Rattle.store.proofs.format.Reads as reads
 use Rattle.store.proofs.format.Lts as lts
-use Rattle.entry.proofs.fit.Reads as fit-reads
+use Rattle.layout.proofs.fit.Reads as fit-reads
 use Rattle.slices.proofs.clear.Reads as clear-reads
 use Rattle.store.proofs.limit.Reads as limit-reads
 use Rattle.store.proofs.put_header.Reads as put-header-reads
@@ -18,8 +16,8 @@ fit-requires c κs = search needs
 enum-known-n : tie.Need-enum-known-n
 enum-known-n c = search needs
 
-enum-known-t : tie.Need-enum-known-t
-enum-known-t c = search needs
+enum-known-z : tie.Need-enum-known-z
+enum-known-z c = search needs
 
 clear-requires : tie.Need-clear-requires
 clear-requires c κs = search needs
@@ -28,12 +26,12 @@ put-header-requires : tie.Need-put-header-requires
 put-header-requires c κs =
     let clear = c .before .before .before in
     let at = clear .before .before .before in
-    let k = fitted-room _ _ _ (sym (at .before .before .fit .ensures) ∙ at .t .given .1) in
-    (omega (arith, k .0, clear .clear .kept .0), k .1)
+    let k = header-asks _ _ _ (sym (at .before .before .fit .ensures) ∙ at .z .given .1) _ (clear .clear .kept .0) in
+    (k .0, (refl, k .1))
 
 limit-requires : tie.Need-limit-requires
 limit-requires c κs =
-    let at = c .before .before .before .before .before .before .before .before .before in fitted-ready _ _ _ (sym (at .before .before .fit .ensures) ∙ at .t .given .1) .1 .0
+    let at = c .before .before .before .before .before .before .before .before .before in limit-asks _ _ _ (sym (at .before .before .fit .ensures) ∙ at .z .given .1)
 
 returns : tie.Need-returns
 returns c = sym (format-refused _ _ _ (sym (c .before .before .before .fit .ensures) ∙ c .before .n .given .1))
@@ -46,8 +44,8 @@ returns-2 c =
     let header = c .before .before .before in
     let clear = header .before .before .before .before in
     let at = clear .before .before .before in
-    let e = sym (at .before .before .fit .ensures) ∙ at .t .given .1 in
-    rw (c .limit .ensures, header .put-header .ensures, clear .clear .ensures, cleared-headed _ _ (fitted-room _ _ _ e .0)) (sym (format-done _ _ _ e))
+    let e = sym (at .before .before .fit .ensures) ∙ at .z .given .1 in
+    rw (c .limit .ensures, header .put-header .ensures, clear .clear .ensures, cleared-headed _ _ _ (layout-is _ _ _ e) (length-is _ _ _ e)) (sym (format-done _ _ _ e))
 
 pub format-spec : {M : Type 1} → statement M
 format-spec =
@@ -55,7 +53,7 @@ format-spec =
     (tie.spec
     fit-requires
     enum-known-n
-    enum-known-t
+    enum-known-z
     clear-requires
     put-header-requires
     limit-requires

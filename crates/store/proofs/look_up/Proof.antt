@@ -1,3 +1,4 @@
+use Rattle.form.proofs.Ready.{checked-passes}
 use native.Mathlib.Omega.{arith}
 use mathlib.Core.Path.{sym, _∙_}
 use Rattle.store.proofs.Answering.{look-refused, look-ready}
@@ -16,11 +17,11 @@ check-requires c κs = search needs
 enum-known-n : tie.Need-enum-known-n
 enum-known-n c = search needs
 
-enum-known-g : tie.Need-enum-known-g
-enum-known-g c = search needs
+enum-known-z : tie.Need-enum-known-z
+enum-known-z c = search needs
 
 find-key-requires : tie.Need-find-key-requires
-find-key-requires c κs = (sym (c .before .before .before .check .ensures) ∙ c .before .g .given .1, omega arith)
+find-key-requires c κs = (checked-passes _ _ (sym (c .before .before .before .check .ensures) ∙ c .before .z .given .1), omega arith)
 
 look-answer-requires : tie.Need-look-answer-requires
 look-answer-requires c κs = search needs
@@ -29,7 +30,7 @@ returns : tie.Need-returns
 returns c = look-refused _ _ (sym (c .before .before .before .check .ensures) ∙ c .before .n .given .1) _
 
 returns-2 : tie.Need-returns-2
-returns-2 c = rw (c .look-answer .ensures) (look-ready _ _ (sym (c .before .before .before .before .before .check .ensures) ∙ c .before .before .before .g .given .1) _ _ (c .before .find-key .ensures))
+returns-2 c = rw (c .look-answer .ensures) (look-ready _ _ (sym (c .before .before .before .before .before .check .ensures) ∙ c .before .before .before .z .given .1) _ _ (c .before .find-key .ensures))
 
 pub look-up-spec : {M : Type 1} → statement M
 look-up-spec =
@@ -37,7 +38,7 @@ look-up-spec =
     (tie.spec
     check-requires
     enum-known-n
-    enum-known-g
+    enum-known-z
     find-key-requires
     look-answer-requires
     returns

@@ -1,55 +1,46 @@
 use native.Mathlib.Omega.{arith}
-use lib.ListN.{length-set}
-use Rattle.store.specs.Format.{headed}
-use mathlib.Core.Path.{refl}
+use Rattle.layout.proofs.Laws.{fitted-spots}
+use Rattle.store.proofs.Formatting.{header-laid}
 use borrow.Author.Needs.{needs}
 use Rattle.store.proofs.put_header.Statement.{statement}
 use Rattle.store.proofs.put_header.Tie as tie
 use Rattle.store.proofs.put_header.Reads as reads
 use Rattle.store.proofs.put_header.Lts as lts
+use Rattle.slices.proofs.copy.Reads as copy-reads
 
-slice-write-s : tie.Need-slice-write-s
-slice-write-s c = search needs
+slice-aggregate-copy : tie.Need-slice-aggregate-copy
+slice-aggregate-copy c = search needs
 
-slice-write-s-2 : tie.Need-slice-write-s-2
-slice-write-s-2 c = simp length-set (omega arith)
+copy-requires : tie.Need-copy-requires
+copy-requires c κs = (search needs, omega (arith, fitted-spots _ _ (c .before .before .before .pre .0)))
 
-slice-write-s-3 : tie.Need-slice-write-s-3
-slice-write-s-3 c = simp length-set (omega arith)
-
-slice-write-s-4 : tie.Need-slice-write-s-4
-slice-write-s-4 c = simp length-set (omega arith)
-
-slice-write-s-5 : tie.Need-slice-write-s-5
-slice-write-s-5 c = simp length-set (omega arith)
-
-slice-write-s-6 : tie.Need-slice-write-s-6
-slice-write-s-6 c = simp length-set (omega arith)
+array-read-s : tie.Need-array-read-s
+array-read-s c = search needs
 
 sub-s : tie.Need-sub-s
 sub-s c = search needs
 
-slice-write-s-7 : tie.Need-slice-write-s-7
-slice-write-s-7 c = simp length-set (omega arith)
+mul-s : tie.Need-mul-s
+mul-s c = omega (arith, fitted-spots _ _ (c .before .before .before .before .before .before .pre .0))
+
+slice-write-s : tie.Need-slice-write-s
+slice-write-s c = omega (arith, c .before .before .copy .kept .1 .1 .1 .0, fitted-spots _ _ (c .before .before .before .before .before .before .pre .0))
 
 same-length : tie.Need-same-length
 same-length c = search needs
 
 returns : tie.Need-returns
-unfolding headed
-returns c = refl
+returns c = rw (c .before .before .copy .ensures) (header-laid _ _ _ (c .before .before .before .before .before .before .pre .0) (c .before .before .before .before .before .before .pre .1 .0))
 
 pub put-header-spec : {M : Type 1} → statement M
 put-header-spec =
     tie.close
     (tie.spec
-    slice-write-s
-    slice-write-s-2
-    slice-write-s-3
-    slice-write-s-4
-    slice-write-s-5
-    slice-write-s-6
+    slice-aggregate-copy
+    copy-requires
+    array-read-s
     sub-s
-    slice-write-s-7
+    mul-s
+    slice-write-s
     same-length
     returns)

@@ -1,3 +1,4 @@
+use Rattle.form.proofs.Ready.{checked-passes}
 use native.Mathlib.Omega.{arith}
 use mathlib.Core.Path.{sym, _∙_}
 use Rattle.store.proofs.Answering.{show-refused, show-ready}
@@ -12,8 +13,8 @@ use Rattle.reader.proofs.show_block.Reads as show-block-reads
 check-requires : tie.Need-check-requires
 check-requires c κs = search needs
 
-enum-known-g : tie.Need-enum-known-g
-enum-known-g c = search needs
+enum-known-z : tie.Need-enum-known-z
+enum-known-z c = search needs
 
 enum-told : tie.Need-enum-told
 enum-told c = search needs
@@ -22,12 +23,12 @@ returns : tie.Need-returns
 returns c = show-refused _ (c .enum-told .given .0 .0) (sym (c .before .before .check .ensures) ∙ c .enum-told .given .1) _ _
 
 show-block-requires : tie.Need-show-block-requires
-show-block-requires c κs = (sym (c .before .before .before .check .ensures) ∙ c .before .g .given .1, omega arith)
+show-block-requires c κs = (checked-passes _ _ (sym (c .before .before .before .check .ensures) ∙ c .before .z .given .1), omega arith)
 
 returns-2 : tie.Need-returns-2
-returns-2 c = c .show-block .ensures ∙ show-ready _ _ (sym (c .before .before .before .before .check .ensures) ∙ c .before .before .g .given .1) _ _
+returns-2 c = c .show-block .ensures ∙ show-ready _ _ (sym (c .before .before .before .before .check .ensures) ∙ c .before .before .z .given .1) _ _
 
 pub show-at-spec : {M : Type 1} → statement M
 show-at-spec =
     tie.close
-    (tie.spec check-requires enum-known-g enum-told returns show-block-requires returns-2)
+    (tie.spec check-requires enum-known-z enum-told returns show-block-requires returns-2)

@@ -1,3 +1,4 @@
+use Rattle.form.proofs.Ready.{checked-passes}
 use native.Mathlib.Omega.{arith}
 use mathlib.Core.Path.{sym, _∙_}
 use Rattle.store.proofs.Answering.{stretch-refused, stretch-ready}
@@ -15,11 +16,11 @@ check-requires c κs = search needs
 enum-known-n : tie.Need-enum-known-n
 enum-known-n c = search needs
 
-enum-known-g : tie.Need-enum-known-g
-enum-known-g c = search needs
+enum-known-z : tie.Need-enum-known-z
+enum-known-z c = search needs
 
 list-stretch-requires : tie.Need-list-stretch-requires
-list-stretch-requires c κs = (sym (c .before .before .before .before .before .check .ensures) ∙ c .before .before .before .g .given .1, (omega arith, omega arith))
+list-stretch-requires c κs = (checked-passes _ _ (sym (c .before .before .before .before .before .check .ensures) ∙ c .before .before .before .z .given .1), (omega arith, omega arith))
 
 returns : tie.Need-returns
 returns c = stretch-refused _ _ (sym (c .before .before .before .check .ensures) ∙ c .before .n .given .1) _ _ _ _
@@ -31,7 +32,7 @@ same-length-2 : tie.Need-same-length-2
 same-length-2 c = search needs
 
 returns-2 : tie.Need-returns-2
-returns-2 c = c .before .before .before .before .list-stretch .ensures ∙ stretch-ready _ _ (sym (c .before .before .before .before .before .before .before .before .before .before .check .ensures) ∙ c .before .before .before .before .before .before .before .before .g .given .1) _ _ _ _
+returns-2 c = c .before .before .before .before .list-stretch .ensures ∙ stretch-ready _ _ (sym (c .before .before .before .before .before .before .before .before .before .before .check .ensures) ∙ c .before .before .before .before .before .before .before .before .z .given .1) _ _ _ _
 
 pub stretch-spec : {M : Type 1} → statement M
 stretch-spec =
@@ -39,7 +40,7 @@ stretch-spec =
     (tie.spec
     check-requires
     enum-known-n
-    enum-known-g
+    enum-known-z
     list-stretch-requires
     returns
     same-length

@@ -14,23 +14,17 @@ add-left c = search needs
 sub-left : tie.Need-sub-left
 sub-left c = search needs
 
+add-to : tie.Need-add-to
+add-to c = search needs
+
 add-copy-down : tie.Need-add-copy-down
 add-copy-down c = search needs
-
-add-copy-down-2 : tie.Need-add-copy-down-2
-add-copy-down-2 c = search needs
-
-add-copy-down-3 : tie.Need-add-copy-down-3
-add-copy-down-3 c = search needs
 
 copy-down-requires : tie.Need-copy-down-requires
 copy-down-requires c κs = search needs
 
 add-clear : tie.Need-add-clear
 add-clear c = search needs
-
-add-clear-2 : tie.Need-add-clear-2
-add-clear-2 c = search needs
 
 clear-requires : tie.Need-clear-requires
 clear-requires c κs = search needs
@@ -47,12 +41,10 @@ close-part-spec =
     (tie.spec
     add-left
     sub-left
+    add-to
     add-copy-down
-    add-copy-down-2
-    add-copy-down-3
     copy-down-requires
     add-clear
-    add-clear-2
     clear-requires
     same-length
     returns)

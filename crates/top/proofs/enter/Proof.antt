@@ -1,9 +1,9 @@
 use mathlib.Core.Path.{_∙_}
 use native.Mathlib.Omega.{arith}
-use borrow.Author.Needs.{needs}
 use Rattle.geometry.proofs.Bounds.{top-capacity-high}
 use Rattle.top.proofs.Words.{ready-bounds}
 use Rattle.top.proofs.Pushing.{found-ready, found-entered, gap-ready, gap-entered}
+use borrow.Author.Needs.{needs}
 use Rattle.top.proofs.enter.Statement.{statement}
 use Rattle.top.proofs.enter.Tie as tie
 use Rattle.top.proofs.enter.Reads as reads
@@ -14,17 +14,23 @@ use Rattle.top.proofs.write_slot.Reads as write-slot-reads
 write-slot-requires : tie.Need-write-slot-requires
 write-slot-requires c κs = let a = c .before .before .before in found-ready _ _ (a .pre .0) (record { key = a .args .k; mark = a .args .mark; pay = a .args .v }) _ (a .pre .1 .0) (c .before .if1 .taken)
 
+mul-c : tie.Need-mul-c
+mul-c c = omega (arith, ready-bounds _ _ (c .before .before .pre .0))
+
 slice-read-c : tie.Need-slice-read-c
 slice-read-c c = ready-bounds _ _ (c .before .before .before .pre .0) .1 .1
 
 cast-push-in : tie.Need-cast-push-in
-cast-push-in c = let t = c .before .before .before .before .pre .0 in omega (arith, t .fits, top-capacity-high _ (t .valid .ranged))
+cast-push-in c = search needs
 
 push-in-requires : tie.Need-push-in-requires
 push-in-requires c κs = let a = c .before .before .before .before in (a .pre .0, gap-ready _ _ (a .pre .0) (record { key = a .args .k; mark = a .args .mark; pay = a .args .v }) _ (a .pre .1 .0) (c .before .before .if1 .left) (a .pre .1 .1))
 
 add-s : tie.Need-add-s
-add-s c = let t = c .before .before .before .before .before .before .before .pre .0 in omega (arith, t .fits, top-capacity-high _ (t .valid .ranged))
+add-s c = let t = c .before .before .before .before .before .before .before .pre .0 in omega (arith, t .fits, top-capacity-high _ (t .proper .valid .ranged))
+
+mul-s : tie.Need-mul-s
+mul-s c = omega (arith, ready-bounds _ _ (c .before .before .before .before .before .before .before .pre .0))
 
 slice-write-s : tie.Need-slice-write-s
 slice-write-s c = omega (arith, c .before .before .push-in .kept .0, ready-bounds _ _ (c .before .before .before .before .before .before .before .pre .0))
@@ -46,10 +52,12 @@ enter-spec =
     tie.close
     (tie.spec
     write-slot-requires
+    mul-c
     slice-read-c
     cast-push-in
     push-in-requires
     add-s
+    mul-s
     slice-write-s
     same-length
     returns

@@ -7,73 +7,58 @@ use Rattle.top.proofs.read_slot.Tie as tie
 use Rattle.top.proofs.read_slot.Reads as reads
 use Rattle.top.proofs.read_slot.Lts as lts
 use Rattle.geometry.proofs.Geometry.block_records.Reads as block-records-reads
-use Rattle.geometry.proofs.Geometry.keys_start.Reads as keys-start-reads
-use Rattle.geometry.proofs.Geometry.marks_start.Reads as marks-start-reads
-use Rattle.geometry.proofs.Geometry.pays_start.Reads as pays-start-reads
 
 block-records-requires : tie.Need-block-records-requires
 block-records-requires c κs = search needs
-
-marks-start-requires : tie.Need-marks-start-requires
-marks-start-requires c κs = search needs
-
-keys-start-requires : tie.Need-keys-start-requires
-keys-start-requires c κs = search needs
-
-pays-start-requires : tie.Need-pays-start-requires
-pays-start-requires c κs = search needs
 
 div-m : tie.Need-div-m
 div-m c = search needs
 
 add-m : tie.Need-add-m
-add-m c = rw (c .before .before .marks-start .ensures, c .before .before .before .block-records .ensures) (omega (arith, offsets _ _ _ (c .before .before .before .before .before .pre .0) (c .before .before .before .before .before .pre .1), c .before .before .before .before .before .pre .0))
+add-m c = rw (c .before .block-records .ensures) (omega (arith, offsets _ _ _ (c .before .before .before .before .pre .0) (c .before .before .before .before .pre .1 .0) (c .before .before .before .before .pre .1 .1)))
 
 mul-m : tie.Need-mul-m
-mul-m c = rw (c .before .before .marks-start .ensures, c .before .before .before .block-records .ensures) (omega (arith, offsets _ _ _ (c .before .before .before .before .before .pre .0) (c .before .before .before .before .before .pre .1), c .before .before .before .before .before .pre .0))
+mul-m c = rw (c .before .block-records .ensures) (omega (arith, offsets _ _ _ (c .before .before .before .before .pre .0) (c .before .before .before .before .pre .1 .0) (c .before .before .before .before .pre .1 .1)))
 
 shared-slice-read-m : tie.Need-shared-slice-read-m
-shared-slice-read-m c = rw (c .before .before .before .marks-start .ensures, c .before .before .before .before .block-records .ensures) (offsets _ _ _ (c .before .before .before .before .before .before .pre .0) (c .before .before .before .before .before .before .pre .1) .mark)
+shared-slice-read-m c = rw (c .before .before .block-records .ensures) (offsets _ _ _ (c .before .before .before .before .before .pre .0) (c .before .before .before .before .before .pre .1 .0) (c .before .before .before .before .before .pre .1 .1) .mark)
 
 rem-shift : tie.Need-rem-shift
 rem-shift c = search needs
 
 cast-shift : tie.Need-cast-shift
-cast-shift c = rw (c .before .before .before .before .block-records .ensures) (omega (arith, offsets _ _ _ (c .before .before .before .before .before .before .pre .0) (c .before .before .before .before .before .before .pre .1)))
+cast-shift c = rw (c .before .before .block-records .ensures) (omega (arith, offsets _ _ _ (c .before .before .before .before .before .pre .0) (c .before .before .before .before .before .pre .1 .0) (c .before .before .before .before .before .pre .1 .1)))
 
 add-key : tie.Need-add-key
-add-key c = rw (c .before .before .keys-start .ensures) (omega (arith, offsets _ _ _ (c .before .before .before .before .before .before .pre .0) (c .before .before .before .before .before .before .pre .1), c .before .before .before .before .before .before .pre .0))
+add-key c = search needs
 
 mul-key : tie.Need-mul-key
-mul-key c = rw (c .before .before .keys-start .ensures) (omega (arith, offsets _ _ _ (c .before .before .before .before .before .before .pre .0) (c .before .before .before .before .before .before .pre .1), c .before .before .before .before .before .before .pre .0))
+mul-key c = omega (arith, offsets _ _ _ (c .before .before .before .before .before .before .pre .0) (c .before .before .before .before .before .before .pre .1 .0) (c .before .before .before .before .before .before .pre .1 .1))
 
 shared-slice-read-key : tie.Need-shared-slice-read-key
-shared-slice-read-key c = rw (c .before .before .before .keys-start .ensures) (offsets _ _ _ (c .before .before .before .before .before .before .before .pre .0) (c .before .before .before .before .before .before .before .pre .1) .key)
+shared-slice-read-key c = offsets _ _ _ (c .before .before .before .before .before .before .before .pre .0) (c .before .before .before .before .before .before .before .pre .1 .0) (c .before .before .before .before .before .before .before .pre .1 .1) .key
 
 add-pay : tie.Need-add-pay
-add-pay c = rw (c .before .before .pays-start .ensures) (omega (arith, offsets _ _ _ (c .before .before .before .before .before .before .before .pre .0) (c .before .before .before .before .before .before .before .pre .1), c .before .before .before .before .before .before .before .pre .0))
+add-pay c = search needs
 
 mul-pay : tie.Need-mul-pay
-mul-pay c = rw (c .before .before .pays-start .ensures) (omega (arith, offsets _ _ _ (c .before .before .before .before .before .before .before .pre .0) (c .before .before .before .before .before .before .before .pre .1), c .before .before .before .before .before .before .before .pre .0))
+mul-pay c = omega (arith, offsets _ _ _ (c .before .before .before .before .before .before .before .before .pre .0) (c .before .before .before .before .before .before .before .before .pre .1 .0) (c .before .before .before .before .before .before .before .before .pre .1 .1))
 
 shared-slice-read-pay : tie.Need-shared-slice-read-pay
-shared-slice-read-pay c = rw (c .before .before .before .pays-start .ensures) (offsets _ _ _ (c .before .before .before .before .before .before .before .before .pre .0) (c .before .before .before .before .before .before .before .before .pre .1) .pay)
+shared-slice-read-pay c = offsets _ _ _ (c .before .before .before .before .before .before .before .before .before .pre .0) (c .before .before .before .before .before .before .before .before .before .pre .1 .0) (c .before .before .before .before .before .before .before .before .before .pre .1 .1) .pay
 
-shr-t16 : tie.Need-shr-t16
-shr-t16 c = rw (c .before .before .before .before .before .before .block-records .ensures) (omega (arith, offsets _ _ _ (c .before .before .before .before .before .before .before .before .pre .0) (c .before .before .before .before .before .before .before .before .pre .1)))
+shr-t14 : tie.Need-shr-t14
+shr-t14 c = rw (c .before .before .before .before .before .before .block-records .ensures) (omega (arith, offsets _ _ _ (c .before .before .before .before .before .before .before .before .before .pre .0) (c .before .before .before .before .before .before .before .before .before .pre .1 .0) (c .before .before .before .before .before .before .before .before .before .pre .1 .1)))
 
 returns : tie.Need-returns
 unfolding slotAt
-returns c = rw (c .before .before .before .before .before .marks-start .ensures, c .before .before .before .before .before .before .block-records .ensures, c .before .before .before .before .keys-start .ensures, c .before .before .before .pays-start .ensures)
+returns c = rw (c .before .before .before .before .before .before .block-records .ensures)
 
 pub read-slot-spec : {M : Type 1} → statement M
 read-slot-spec =
     tie.close
     (tie.spec
     block-records-requires
-    marks-start-requires
-    keys-start-requires
-    pays-start-requires
     div-m
     add-m
     mul-m
@@ -86,5 +71,5 @@ read-slot-spec =
     add-pay
     mul-pay
     shared-slice-read-pay
-    shr-t16
+    shr-t14
     returns)

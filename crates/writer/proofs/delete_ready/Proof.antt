@@ -1,5 +1,5 @@
 use native.Mathlib.Omega.{arith}
-use Rattle.writer.proofs.Entering.{holds-long, live-some}
+use Rattle.writer.proofs.Entering.{holds-live, live-some}
 use Rattle.writer.proofs.Changing.{live-is, delete-over, delete-none}
 use borrow.Author.Needs.{needs}
 use Rattle.writer.proofs.delete_ready.Statement.{statement}
@@ -17,8 +17,11 @@ find-key-requires c κs = search needs
 is-live-requires : tie.Need-is-live-requires
 is-live-requires c κs = search needs
 
+mul-live : tie.Need-mul-live
+mul-live c = omega (arith, holds-live _ _ (c .before .before .before .before .before .pre))
+
 slice-read-live : tie.Need-slice-read-live
-slice-read-live c = omega (arith, holds-long _ _ (c .before .before .before .before .before .before .pre))
+slice-read-live c = omega (arith, holds-live _ _ (c .before .before .before .before .before .before .pre))
 
 sub-enter-record : tie.Need-sub-enter-record
 sub-enter-record c = live-some _ _ (c .before .before .before .before .before .before .before .pre) _ (live-is _ _ _ _ _ (c .before .before .before .before .find-key .ensures) (c .before .before .before .is-live .ensures) (c .before .before .if1 .taken))
@@ -50,6 +53,7 @@ delete-ready-spec =
     (tie.spec
     find-key-requires
     is-live-requires
+    mul-live
     slice-read-live
     sub-enter-record
     enter-record-requires

@@ -12,7 +12,7 @@ use Rattle.writer.proofs.is_live.Reads as is-live-reads
 use Rattle.writer.proofs.top_merges.Reads as top-merges-reads
 
 find-key-requires : tie.Need-find-key-requires
-find-key-requires c κs = search needs
+find-key-requires c κs = (c .before .pre, search needs)
 
 is-live-requires : tie.Need-is-live-requires
 is-live-requires c κs = search needs

@@ -13,13 +13,13 @@ is-full-requires : tie.Need-is-full-requires
 is-full-requires c κs = search needs
 
 returns : tie.Need-returns
-returns c = put-by _ _ (c .before .before .before .pre) _ true (sym (c .before .is-full .ensures) ∙ c .if1 .taken)
+returns c = put-by _ true _ (sym (c .if1 .taken) ∙ c .before .is-full .ensures)
 
 top-merges-requires : tie.Need-top-merges-requires
 top-merges-requires c κs = search needs
 
 returns-2 : tie.Need-returns-2
-returns-2 c = ap (λ n. record { reason = 0; merges = n }) (c .top-merges .ensures) ∙ put-by _ _ (c .before .before .before .before .pre) _ false (sym (c .before .before .is-full .ensures) ∙ c .before .if1 .left)
+returns-2 c = ap (λ n. record { reason = 0; merges = n }) (c .top-merges .ensures) ∙ put-by _ false _ (sym (c .before .if1 .left) ∙ c .before .before .is-full .ensures)
 
 pub foresee-put-spec : {M : Type 1} → statement M
 foresee-put-spec = tie.close (tie.spec is-full-requires returns top-merges-requires returns-2)

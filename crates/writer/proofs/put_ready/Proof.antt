@@ -1,5 +1,5 @@
 use native.Mathlib.Omega.{arith}
-use Rattle.writer.proofs.Entering.{holds-ranged, holds-long, live-small}
+use Rattle.writer.proofs.Entering.{holds-ranged, holds-live, live-small}
 use Rattle.writer.proofs.Changing.{live-is, put-over, put-turned, put-added}
 use borrow.Author.Needs.{needs}
 use Rattle.writer.proofs.put_ready.Statement.{statement}
@@ -17,8 +17,11 @@ find-key-requires c κs = search needs
 is-live-requires : tie.Need-is-live-requires
 is-live-requires c κs = search needs
 
+mul-live : tie.Need-mul-live
+mul-live c = omega (arith, holds-live _ _ (c .before .before .before .before .pre))
+
 slice-read-live : tie.Need-slice-read-live
-slice-read-live c = omega (arith, holds-long _ _ (c .before .before .before .before .before .pre))
+slice-read-live c = omega (arith, holds-live _ _ (c .before .before .before .before .before .pre))
 
 enter-record-requires : tie.Need-enter-record-requires
 enter-record-requires c κs = search needs
@@ -33,19 +36,19 @@ returns : tie.Need-returns
 returns c = put-over _ _ _ _ _ _ _ _ (live-is _ _ _ _ _ (c .before .before .before .before .before .before .before .before .before .find-key .ensures) (c .before .before .before .before .before .before .before .before .is-live .ensures) (c .before .before .before .before .before .before .if1 .taken)) (c .before .before .before .enter-record .ensures)
 
 cast-if2 : tie.Need-cast-if2
-cast-if2 c = omega (arith, live-small _ _ (c .before .before .before .before .before .before .pre))
+cast-if2 c = omega (arith, live-small _ _ (c .before .before .before .before .before .before .before .pre))
 
 key-limit-requires : tie.Need-key-limit-requires
-key-limit-requires c κs = holds-ranged _ _ (c .before .before .before .before .before .before .pre)
+key-limit-requires c κs = holds-ranged _ _ (c .before .before .before .before .before .before .before .pre)
 
 same-length-3 : tie.Need-same-length-3
 same-length-3 c = search needs
 
 returns-2 : tie.Need-returns-2
-returns-2 c = put-turned _ _ _ _ _ (live-is _ _ _ _ _ (c .before .before .before .before .before .find-key .ensures) (c .before .before .before .before .is-live .ensures) (c .before .before .if1 .left)) (omega (arith, c .if2 .taken, c .before .key-limit .ensures))
+returns-2 c = put-turned _ _ _ _ _ (live-is _ _ _ _ _ (c .before .before .before .before .before .before .find-key .ensures) (c .before .before .before .before .before .is-live .ensures) (c .before .before .before .if1 .left)) (omega (arith, c .if2 .taken, c .before .key-limit .ensures))
 
 add-enter-record : tie.Need-add-enter-record
-add-enter-record c = omega (arith, live-small _ _ (c .before .before .before .before .before .before .before .before .before .pre))
+add-enter-record c = omega (arith, live-small _ _ (c .before .before .before .before .before .before .before .before .before .before .pre))
 
 enter-record-requires-2 : tie.Need-enter-record-requires-2
 enter-record-requires-2 c κs = search needs
@@ -57,7 +60,7 @@ same-length-5 : tie.Need-same-length-5
 same-length-5 c = search needs
 
 returns-3 : tie.Need-returns-3
-returns-3 c = put-added _ _ _ _ _ _ _ _ (live-is _ _ _ _ _ (c .before .before .before .before .before .before .before .before .before .before .before .find-key .ensures) (c .before .before .before .before .before .before .before .before .before .before .is-live .ensures) (c .before .before .before .before .before .before .before .before .if1 .left)) (λ q. omega (arith, q, c .before .before .before .before .before .before .if2 .left, c .before .before .before .before .before .before .before .key-limit .ensures)) (c .before .before .before .enter-record2 .ensures)
+returns-3 c = put-added _ _ _ _ _ _ _ _ (live-is _ _ _ _ _ (c .before .before .before .before .before .before .before .before .before .before .before .before .find-key .ensures) (c .before .before .before .before .before .before .before .before .before .before .before .is-live .ensures) (c .before .before .before .before .before .before .before .before .before .if1 .left)) (λ q. omega (arith, q, c .before .before .before .before .before .before .if2 .left, c .before .before .before .before .before .before .before .key-limit .ensures)) (c .before .before .before .enter-record2 .ensures)
 
 pub put-ready-spec : {M : Type 1} → statement M
 put-ready-spec =
@@ -65,6 +68,7 @@ put-ready-spec =
     (tie.spec
     find-key-requires
     is-live-requires
+    mul-live
     slice-read-live
     enter-record-requires
     same-length

@@ -1,0 +1,3 @@
+pub mod Laws
+pub mod Old
+pub mod Opening
