@@ -11,10 +11,6 @@ use Rattle.geometry.proofs.Laws.{flash-capacity-below, capacity-doubles, capaci
 use Rattle.geometry.proofs.Bounds.{capacity-zero-high, place-offset-high}
 use Rattle.layout.specs.Layouts.{headerLength, old, listStart, placeStart, Proper}
 
-pub old-geometry : (g : Geometry) → old g .geo ≡ g
-unfolding old
-old-geometry g = refl
-
 pub header-end : (g : Geometry) → headerLength ≡ old g .marks
 unfolding old
 header-end g = refl

@@ -6,7 +6,7 @@ use mathlib.Core.List.{List, [], _∷_, _++_}
 use native.Mathlib.Nat.{suc-add, zero-add, suc-sub-suc, add-zero}
 use native.Mathlib.Omega.{arith}
 use lib.ListN.{length, take, drop, getD, replicate, length-append, length-drop, length-replicate, take-append-drop}
-use lib.Seq.{take-at, drop-at, drop-append-add, drop-append-le, take-append-le, getD-take, getD-drop, take-nil, take-take, drop-drop, take-add, drop-cons, length-take-le, take-all, drop-append-seam}
+use lib.Seq.{take-at, drop-at, getD-take, getD-drop, take-nil, take-take, drop-drop, take-add, drop-cons, length-take-le, take-all, drop-append-seam}
 use Rattle.levels.specs.Basics.{all}
 use Rattle.levels.proofs.Lists.{getD-replicate-self}
 use Rattle.pieces.specs.Pieces.{pad, part}
@@ -29,20 +29,6 @@ pub part-last : (p x : List ℕ) (a n : ℕ) → length p ≡ a → length x ≡
 unfolding part
 part-last p x a n e f = ap (take n) (drop-at p x a e) ∙ take-all n x (omega arith)
 
--- a part that lies in the first of two lists; one that lies in the second
-pub part-left : (x q : List ℕ) (a n : ℕ) → a + n ≤ length x → part (x ++ q) a n ≡ part x a n
-unfolding part
-part-left x q a n h = ap (take n) (drop-append-le a x q (omega arith)) ∙ take-append-le n (drop a x) q (rw length-drop (omega arith))
-
-pub part-right : (p x : List ℕ) (a b n : ℕ) → length p ≡ a → part (p ++ x) (a + b) n ≡ part x b n
-unfolding part
-part-right p x a b n e = rw (← e, drop-append-add p x b)
-
--- a part after the first a words
-pub part-drop : (ws : List ℕ) (a b n : ℕ) → part (drop a ws) b n ≡ part ws (a + b) n
-unfolding part
-part-drop ws a b n = ap (take n) (drop-drop b a ws)
-
 drop-take : {A : Type 0} (b m : ℕ) (l : List A) → drop b (take (b + m) l) ≡ take m (drop b l)
 drop-take zero m l = rw zero-add
 drop-take (suc b) m [] = rw suc-add (sym (take-nil m))
@@ -55,31 +41,10 @@ part-part ws a n b m h =
     let e : n ≡ b + (n - b) = omega arith in
     rw e (ap (take m) (drop-take b (n - b) (drop a ws)) ∙ take-take m (n - b) (drop b (drop a ws)) (omega arith) ∙ ap (take m) (drop-drop b a ws))
 
--- a part of the first n words
-pub part-front-part : (ws : List ℕ) (n b m : ℕ) → b + m ≤ n → part (take n ws) b m ≡ part ws b m
-unfolding part
-part-front-part ws n b m h = part-part ws 0 n b m h ∙ rw zero-add
-
 -- a part in two
 pub part-split : (ws : List ℕ) (a n m : ℕ) → part ws a (n + m) ≡ part ws a n ++ part ws (a + n) m
 unfolding part
 part-split ws a n m = take-add n m (drop a ws) ∙ rw drop-drop
-
-pub part-split-three : (ws : List ℕ) (a x y z : ℕ) → part ws a (x + (y + z)) ≡ part ws a x ++ (part ws (a + x) y ++ part ws (a + x + y) z)
-part-split-three ws a x y z = part-split ws a x (y + z) ∙ rw (part-split ws (a + x) y z)
-
--- a part that is two lists in a row, or three
-pub part-two : (ws xs ys : List ℕ) (a x y : ℕ) → length xs ≡ x → length ys ≡ y → part ws a (x + y) ≡ xs ++ ys → (part ws a x ≡ xs) × (part ws (a + x) y ≡ ys)
-part-two ws xs ys a x y ex ey e = (
-  rw add-zero at (sym (part-part ws a (x + y) 0 x (omega arith))) ∙ ap (λ (l : List ℕ). part l 0 x) e ∙ part-mid [] xs ys 0 x refl ex,
-  sym (part-part ws a (x + y) x y (omega arith)) ∙ ap (λ (l : List ℕ). part l x y) e ∙ part-last xs ys x y ex ey,
-)
-
-pub part-three : (ws xs ys zs : List ℕ) (a x y z : ℕ) → length xs ≡ x → length ys ≡ y → length zs ≡ z → part ws a (x + (y + z)) ≡ xs ++ (ys ++ zs) → (part ws a x ≡ xs) × (part ws (a + x) y ≡ ys) × (part ws (a + x + y) z ≡ zs)
-part-three ws xs ys zs a x y z ex ey ez e =
-    let k = part-two ws xs (ys ++ zs) a x (y + z) ex (rw length-append (omega arith)) e in
-    let l = part-two ws ys zs (a + x) y z ey ez (k .1) in
-    (k .0, l .0, l .1)
 
 -- one word more in front
 pub part-cons : (ws : List ℕ) (a n : ℕ) → a < length ws → part ws a (suc n) ≡ getD ws a 0 ∷ part ws (suc a) n
@@ -93,16 +58,6 @@ part-zeros ws zero a h f = refl
 part-zeros ws (suc n) a h f =
     let z : getD ws a 0 ≡ 0 = rw add-zero at (f 0 (omega arith)) in
     rw (part-cons ws a n (omega arith), z, part-zeros ws n (suc a) (omega arith) (λ j l. let e : a + suc j ≡ suc a + j = omega arith in rw e at (f (suc j) (omega arith))))
-
--- the words from a on: a part and the words after it
-pub part-rest : (ws : List ℕ) (a n : ℕ) → drop a ws ≡ part ws a n ++ drop (a + n) ws
-unfolding part
-part-rest ws a n = sym (take-append-drop n (drop a ws)) ∙ rw drop-drop
-
--- the words before a, then those from a on
-pub part-front : (ws : List ℕ) (a : ℕ) → ws ≡ part ws 0 a ++ drop a ws
-unfolding part
-part-front ws a = sym (take-append-drop a ws)
 
 -- a padded list
 pub pad-length : (n : ℕ) (xs : List ℕ) → length xs ≤ n → length (pad n xs) ≡ n

@@ -241,10 +241,6 @@ pub within-clear : (ps : List Piece) (a n : ℕ) → Within a ps → Every (Clea
 within-clear [] a n i = tt
 within-clear (p ∷ ps) a n i = (inr (i .0), within-clear ps a n (i .1))
 
-pub within-under : (ps : List Piece) (m : ℕ) (q : Piece) → m ≤ q .at → Within m ps → Every (λ p. Clear (p .at) (length (p .words)) q) ps
-within-under [] m q h i = tt
-within-under (p ∷ ps) m q h i = (inl (omega (arith, i .0)), within-under ps m q h (i .1))
-
 -- pieces from word `low` on do not meet what ends before it
 pub stacked-behind : (ps qs : List Piece) (low : ℕ) → Within low ps → Stacked low qs → Every (λ q. Every (Clear (q .at) (length (q .words))) ps) qs
 stacked-behind ps [] low w s = tt

@@ -1,6 +1,6 @@
 -- A record goes in between others: the slots after n turns, and at the end.
 use Prim.Native.Nat.{ℕ, suc, _+_, _-_, _/_, _≤_, _<_}
-use mathlib.Core.Path.{_≡_, refl, sym, ap, _∙_, subst}
+use mathlib.Core.Path.{_≡_, sym, ap, _∙_, subst}
 use mathlib.Core.Bool.{Bool, true, false}
 use mathlib.Core.List.{List, _∷_, _++_, append-assoc}
 use native.Mathlib.Numerals.{add-one}
@@ -151,11 +151,3 @@ module _ (z : Layout) (ws : List ℕ) (t : TopReady z ws) (slot : Slot) (at : Ra
     gap-entered =
         let l : length (pushedIn i r rs) ≤ room = rw gap-long (omega (arith, h e)) in
         rw (gap-slots, padded-is z (t .proper) ws (pushedIn i r rs) l, ← gap-long, entered-at false e .1) (top-is z (t .proper) ws (pushedIn i r rs) l)
-
-  -- what is entered has room in level 0
-  pub entered-fits : Room z ws at → length (insert r rs) ≤ room
-  entered-fits h = go (at .found) refl
-    where
-      go : (x : Bool) → at .found ≡ x → length (insert r rs) ≤ room
-      go true e = rw (entered-at true e .1, length-set rs i r) count-low
-      go false e = rw (entered-at false e .1, gap-long e h) (omega (arith, h e))
