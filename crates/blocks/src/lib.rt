@@ -1,5 +1,6 @@
 // Places of blocks: the few offsets of a layout that a merge reads, the first free place after the cursor, the marks of
 // places in use, the buffer that gathers the records of a block, and the writing of a block.
+#![tactic(auto)]
 
 ghost use Rattle.std.specs.Prelude.{◌≡◌, ℕ, ◌+◌, ◌-◌, ◌*◌, ◌^◌, ◌≤◌, ◌<◌, get_or, length};
 ghost use Rattle.layout.specs.Layouts.{Proper};
@@ -16,7 +17,7 @@ pub const LIST_ROOM: usize = Geometry::LIST_ROOM;
 
 // What a merge reads of the layout at every step: B, P, K(0), and where level 0's mark words, keys and payloads and place 0 start.
 // Few numbers, since the hot loops hand them on from function to function.
-#[derive(Drop)]
+#[derive(Clone, Copy)]
 pub struct Offsets {
     pub b: usize,
     pub p: usize,
@@ -28,7 +29,7 @@ pub struct Offsets {
 }
 
 // Records that wait for a block: bit j of marks is record j's tombstone bit.
-#[derive(Drop)]
+#[derive(Clone, Copy)]
 pub struct Buffer {
     pub keys: [u32; 16],
     pub pays: [u32; 16],

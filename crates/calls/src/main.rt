@@ -1,4 +1,5 @@
 // Document 01's call list program: reads standard input to its end and prints a line for each line of it.
+#![tactic(auto)]
 
 // One read gives at most so many bytes.
 const PART: usize = 512;

@@ -1,4 +1,5 @@
 // The merges of a call, from a full level 0 on: the place lists are taken out of the words, and written back after the last merge.
+#![tactic(auto)]
 
 ghost use Rattle.std.specs.Prelude.{◌≡◌, ◌-◌, length, set};
 ghost use Rattle.geometry.specs.Room.{list_room};

@@ -2,13 +2,14 @@
 // the first and last keys of the blocks alone, so the choice reads two lists of keys for each level and no words of a store:
 // `firsts` and `lasts` of the blocks above, `starts` and `ends` of those below. It goes over them once (card 4): as the run
 // moves on, both ends of the stretch below it move forward.
+#![tactic(auto)]
 
 ghost use Rattle.std.specs.Prelude.{◌≡◌, ◌+◌, ◌≤◌, length, take, drop};
 ghost use Rattle.choice.specs.Fences.{Fenced, fences_of, choose_fences, choice_of, run_over, fewer};
 ghost use Rattle.choice.specs.Pass.{moves_of, AtRun, NotPast};
 
 // The blocks of a level from index `start` on, up to but without index `end`.
-#[derive(Drop)]
+#[derive(Clone, Copy)]
 pub struct Stretch {
     pub start: usize,
     pub end: usize,
@@ -16,7 +17,7 @@ pub struct Stretch {
 
 // The chosen run: the index of its first block, the number of blocks below that it overlaps, and these; where it overlaps none,
 // the gap that its keys lie in.
-#[derive(Drop)]
+#[derive(Clone, Copy)]
 pub struct Choice {
     pub first: usize,
     pub overlap: usize,

@@ -1,11 +1,12 @@
 // Chunks: what a page of level 0 and a listed block have in common, so that every reading of records is
 // written and proved once for both.
+#![tactic(auto)]
 
 ghost use Rattle.std.specs.Prelude.{◌≡◌, ◌+◌, ◌≤◌, length};
 ghost use Rattle.chunks.specs.Chunks.{Inside, rise_of, clean_of, zeros_at};
 
 // Records in a row: their mark word, the words where their keys and their payloads start, and how many they are.
-#[derive(Drop)]
+#[derive(Clone, Copy)]
 pub struct Chunk {
     pub marks: u32,
     pub keys: usize,
@@ -14,7 +15,7 @@ pub struct Chunk {
 }
 
 // Where the keys of a chunk got to: the least number that the next key may be.
-#[derive(Drop)]
+#[derive(Clone, Copy)]
 pub enum Rise {
     To(usize),
     Broken,

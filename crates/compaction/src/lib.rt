@@ -1,4 +1,5 @@
 // Step 5 of a merge: whether a level needs compacting, and all its records written anew.
+#![tactic(auto)]
 
 ghost use Rattle.std.specs.Prelude.{◌≡◌, map, ℕ, ◌<◌, length, get_or};
 ghost use Rattle.levels.specs.Waste.{needs_compact};

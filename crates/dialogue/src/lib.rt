@@ -1,6 +1,7 @@
 // Document 01's call list program without its reading and writing: parts of the input in, the bytes of the answers out. The
 // store is the first of the bench's words, as many as the last format that was not refused took. After the line of a put or delete
 // stand the lines of its first tickets (document 02, card 3), as many as the program is started with: document 01's with none.
+#![tactic(auto)]
 
 ghost use Rattle.std.specs.Prelude.{ℕ, ◌+◌, ◌*◌, ◌≤◌, ◌≡◌, List, [], ◌∷◌, ◌++◌, map, length, take};
 ghost use Rattle.lines.specs.declared.Line.TheVariants.{Put, Delete};
@@ -38,7 +39,7 @@ pub const TICKETS_MOST: usize = 64;
 
 // Between two parts of the input: how many tickets are printed for a call at most, how many words are the store, and how far the
 // line that has begun is read.
-#[derive(Drop)]
+#[derive(Clone, Copy)]
 pub struct State {
     tickets: usize,
     words: usize,
@@ -46,14 +47,14 @@ pub struct State {
 }
 
 // What a part of the input has left: the state for the next part, and how many bytes there are to print.
-#[derive(Drop)]
+#[derive(Clone, Copy)]
 pub struct Fed {
     pub state: State,
     pub bytes: usize,
 }
 
 // What a format takes of the bench's words, or the reason why it takes none.
-#[derive(Drop)]
+#[derive(Clone, Copy)]
 enum Room {
     Words(usize),
     Refused(u32),

@@ -1,7 +1,7 @@
 -- Laws of chunks and of the pass over a level.
 use Prim.Native.Nat.{ℕ, zero, suc, ◌+◌, ◌-◌, ◌*◌, ◌/◌, ◌^◌, ◌≤◌, ◌<◌}
 use mathlib.Core.Path.{◌≡◌, sym, ap, ◌∙◌, refl}
-use mathlib.Core.Bool.{Bool, true, false, not, ◌&&◌, and-eq-true_iff, and_false}
+use mathlib.Core.Bool.{Bool, true, false, not, ◌&&◌, and-eq-true_iff, and-false}
 use mathlib.Core.Logic.{dite}
 use mathlib.Core.List.{List, ◌++◌}
 use native.Mathlib.Decide.{dec_lt}
@@ -93,7 +93,7 @@ pass_start ws d n = let p : n - 0 ≡ n = omega arith in rw p
 -- seven tests, taken chunk by chunk or rule by rule
 shuffle : (k r c z t q y : Bool) → (k && (r && (c && z) && (t && (q && y)))) ≡ ((k && (c && z)) && t && ((r && q) && y))
 shuffle false r c z t q y = refl
-shuffle true false c z t q y = sym (and_false (c && z && t))
+shuffle true false c z t q y = sym (and-false (c && z && t))
 shuffle true true false z t q y = refl
 shuffle true true true false t q y = refl
 shuffle true true true true t q y = refl

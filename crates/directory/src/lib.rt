@@ -1,5 +1,6 @@
 // Directories: how to get the chunks of a level, one after the other, whether they are the pages of
 // level 0 or the blocks that a place list names; and all rules of one level, in one pass.
+#![tactic(auto)]
 
 ghost use Rattle.std.specs.Prelude.{◌≡◌, ◌+◌, ◌-◌, ◌*◌, ◌≤◌, ◌<◌, length};
 ghost use Rattle.directory.specs.Directory.{Within, chunk_at, page_of, block_of, kept_of, level_formed};
@@ -10,7 +11,7 @@ use chunks::{Chunk, Rise};
 // (width), and how many chunks there are. In level 0 `list` is its first mark word, `base` its first key,
 // `pays` its first payload and `records` its count; in a listed level `list` is the first entry of its
 // place list, `base` the first word of place 0, and the last two are unused.
-#[derive(Drop)]
+#[derive(Clone, Copy)]
 pub struct Directory {
     pub top: bool,
     pub bottom: bool,

@@ -1,5 +1,6 @@
 // The fences of a level, its blocks' first and last keys, read out of the lent words: of the blocks of a place list, and of the
 // pages of level 0. What is chosen by them is chosen in `choice`, which sees no words.
+#![tactic(auto)]
 
 ghost use Rattle.std.specs.Prelude.{◌≡◌, ℕ, ◌*◌, ◌≤◌, ◌<◌, length};
 ghost use Rattle.geometry.specs.Geometry.{top_capacity_of};

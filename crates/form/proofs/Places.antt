@@ -1,7 +1,7 @@
 -- The place lists: the code's marks say that listed places are below P, and none twice over all levels.
 use Prim.Native.Nat.{ℕ, zero, suc, ◌+◌, ◌-◌, ◌≤◌, ◌<◌}
 use mathlib.Core.Path.{◌≡◌, sym, ◌∙◌, refl}
-use mathlib.Core.Bool.{Bool, true, false, not, ◌&&◌, ◌||◌, and_false}
+use mathlib.Core.Bool.{Bool, true, false, not, ◌&&◌, ◌||◌, and-false}
 use mathlib.Core.List.{List, [], ◌∷◌, ◌++◌}
 use native.Mathlib.Decide.{ℕ_discrete}
 use native.Mathlib.Omega.{arith}
@@ -67,7 +67,7 @@ mark_one used q (r ∷ rs) h = go (ℕ_discrete r q) (mark_one used q rs h)
     one false b c = refl
 
     go : Dec (r ≡ q) → unused (set used q true) rs ≡ (unused used rs && not (member q rs)) → (not (get_or (set used q true) r false) && unused (set used q true) rs) ≡ ((not (get_or used r false) && unused used rs) && not (eqb q r || member q rs))
-    go (yes e) ih = rw (eq-eqb q r (sym e), e, get_or-set_same used q true false h) (sym (and_false (not (get_or used q false) && unused used rs)))
+    go (yes e) ih = rw (eq-eqb q r (sym e), e, get_or-set_same used q true false h) (sym (and-false (not (get_or used q false) && unused used rs)))
     go (no n) ih = rw (ne_eqb q r (λ e. n (sym e)), get_or-set_other used q r true false n, ih) (one (not (get_or used r false)) (unused used rs) (member q rs))
 
 -- the code's marks are long enough for every place

@@ -1,5 +1,6 @@
 // The form check of a lent store (document 01, "Form check"), and what every call begins with: the
 // layout of a store that passes, or the reason that it is turned down for.
+#![tactic(auto)]
 
 ghost use Rattle.std.specs.Prelude.{◌≡◌, true, ◌+◌, ◌-◌, ◌*◌, ◌≤◌, ◌<◌, length};
 ghost use Rattle.geometry.specs.Geometry.{Ranged};

@@ -1,10 +1,11 @@
 // The geometry of a store: six numbers set by format, their limits and the capacities that follow from them (document 01, "Geometry").
+#![tactic(auto)]
 
 ghost use Rattle.std.specs.Prelude.{◌≡◌, ◌+◌, ◌^◌, ◌≤◌};
 ghost use Rattle.geometry.specs.Geometry.{capacity_of, window_of, capacity_sum, flash_capacity_of, key_limit_of, in_ranges, in_sizes, built_of, Ranged, block_width, top_capacity_of};
 
 // The fields are private, so that a geometry outside this crate comes from `new` and keeps every limit.
-#[derive(Drop)]
+#[derive(Clone, Copy)]
 pub struct Geometry {
     b: usize,
     w: usize,
@@ -15,7 +16,7 @@ pub struct Geometry {
 }
 
 // What six words are: a geometry, or that they break a limit (refusal 2).
-#[derive(Drop)]
+#[derive(Clone, Copy)]
 pub enum Built {
     Legal(Geometry),
     Broken,

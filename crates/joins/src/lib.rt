@@ -1,5 +1,6 @@
 // Step 4 of a merge: a leftover joins the block before it, the last block joins the block after Y,
 // and the blocks after Y follow.
+#![tactic(auto)]
 
 ghost use Rattle.std.specs.Prelude.{◌≡◌, ◌+◌, ◌-◌, ◌*◌, ◌%◌, ◌≤◌, ◌<◌, length, get_or};
 ghost use Rattle.blocks.specs.Blocks.{start_of};

@@ -1,5 +1,6 @@
 // Where the words of a store stand, as a value: a form of the store is one such value, made by its constructor, and everything
 // above asks the value. Today there is document 01's form.
+#![tactic(auto)]
 
 ghost use Rattle.std.specs.Prelude.{◌≡◌, ◌≤◌};
 ghost use Rattle.geometry.specs.Geometry.{Valid};
@@ -12,7 +13,7 @@ use geometry::{Built, Geometry};
 // The geometry, and word numbers: of the first of the geometry's six words, of live, of hand and of c, behind which stand the block
 // counts of levels 1 to 3; of the first mark word, key and payload of level 0; of the first entry of level 1's place list, behind
 // which stand the lists of the levels below; of the first word of place 0. The places are last, and `length` is the number of words.
-#[derive(Drop)]
+#[derive(Clone, Copy)]
 pub struct Layout {
     pub geo: Geometry,
     pub six: usize,
@@ -81,7 +82,7 @@ impl Layout {
 
 // The layout of lent words, or why they are turned down (document 01, reasons 1 to 3). The form check of crate `form`, which goes
 // on from here to reason 4, answers the same.
-#[derive(Drop)]
+#[derive(Clone, Copy)]
 pub enum Opened {
     Ready(Layout),
     Refused(u32),

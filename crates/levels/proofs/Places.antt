@@ -1,7 +1,7 @@
 -- The places in use before and after a merge or a compaction: none twice, all below P, and the newly used are the blocks written.
 -- Lists of places are compared by sums: `total f` of a list, for any weight f of a place.
 use Prim.Native.Nat.{ℕ, zero, suc, ◌+◌, ◌<◌, ◌≤◌}
-use mathlib.Core.Path.{◌≡◌, refl, sym, ◌∙◌, ap}
+use mathlib.Core.Path.{◌≡◌, refl, sym, ◌∙◌, ap, subst}
 use mathlib.Core.Bool.{Bool, true, false, not, ◌&&◌, ◌||◌, true≢false}
 use mathlib.Core.List.{List, [], ◌∷◌, ◌++◌}
 use mathlib.Core.Option.{Option, none, some}
@@ -183,7 +183,7 @@ takes_once P a (q ∷ ps) t p = go (eqb p q) refl (takes_once P (record { used =
   where
     go : (s : Bool) → eqb p q ≡ s → total (hit p) ps ≤ 1 → (if s then 1 else 0) + total (hit p) ps ≤ 1
     go true d ih =
-        let m : member p (q ∷ a.used) ≡ true = rw (eqb-true p q d) (member_head q a.used) in
+        let m : member p (q ∷ a.used) ≡ true = subst (λ (x : ℕ). member x (q ∷ a.used) ≡ true) (sym (eqb-true p q d)) (member_head q a.used) in
         omega (arith, takes_apart P (record { used = q ∷ a.used; cursor = q }) ps t.1 p m)
     go false d ih = omega arith
 

@@ -1,6 +1,7 @@
 // The store of document 01 as records, blocks and levels, with no word of the lent slice in sight:
 // definitions, in specs/, that code and proofs of other crates cite, the ticket of a merge, and the test
 // of the level rule, which the form check and step 5 of a merge share.
+#![tactic(auto)]
 
 ghost use Rattle.std.specs.Prelude.{◌≡◌, ◌*◌, ◌≤◌};
 ghost use Rattle.levels.specs.Waste.{wasteful};
@@ -8,7 +9,7 @@ ghost use Rattle.levels.specs.Waste.{wasteful};
 // What a merge did (document 02, card 3; a ticket is the document's word): its upper level, the number of the run's first
 // block in that level, from 0, at the merge's start, the overlap, and the blocks written.
 #[repr(C)]
-#[derive(Drop)]
+#[derive(Clone, Copy)]
 pub struct Ticket {
     pub level: u32,
     pub first: u32,

@@ -1,7 +1,7 @@
 -- Laws of reading: the machine of `specs/Machine.antt` finds at a line's end what the line says.
 use Prim.Native.Nat.{ℕ, ◌+◌, ◌-◌, ◌*◌, ◌≤◌, ◌<◌}
 use mathlib.Core.Path.{◌≡◌, refl, sym}
-use mathlib.Core.Bool.{Bool, true, false, ◌&&◌, ◌||◌, and-eq-true_iff, and_false}
+use mathlib.Core.Bool.{Bool, true, false, ◌&&◌, ◌||◌, and-eq-true_iff, and-false}
 use mathlib.Core.List.{List, [], ◌∷◌, ◌++◌, map, append_assoc}
 use native.Mathlib.Omega.{arith}
 use borrow.Author.Tests.{ltb-true, ltb-false, leb-true, lt-ltb, le-ltb, ne_eqb}
@@ -125,7 +125,7 @@ spoken_other x vs e =
     let e2 = or_right_no (eqb x letter_p) _ e1 in
     let d = or_left_no (eqb x letter_d) _ e2 in
     let g = or_right_no (eqb x letter_d) _ e2 in
-    simp (f, p, d, g, and_false)
+    simp (f, p, d, g, and-false)
 
 -- nothing mends a spoiled line
 pub run_spoiled : (xs : List ℕ) → run Spoiled xs ≡ Spoiled
@@ -158,7 +158,7 @@ after_space_full letter ns x h = rw (le-ltb _ _ h)
 
 pub after_space_bad : (letter : ℕ) (ns : Numbers) (x : ℕ) → is_digit x ≡ false → step (Space letter ns) x ≡ Spoiled
 unfolding step after_space
-after_space_bad letter ns x e = rw (e, and_false)
+after_space_bad letter ns x e = rw (e, and-false)
 
 -- One byte after a digit.
 pub after_digits_space : (letter : ℕ) (ns : Numbers) (x : ℕ) → eqb x space ≡ true → step (Digits letter ns) x ≡ Space letter ns
@@ -227,7 +227,7 @@ pub digits_line_high : (letter : ℕ) (ns : List ℕ) (v : ℕ) (xs : List ℕ) 
 unfolding digits_line
 digits_line_high letter ns v xs h =
     let l : word_limit ≤ value_from v (first_field xs) = omega (arith, value_low v (first_field xs)) in
-    rw (le-ltb _ _ l, and_false)
+    rw (le-ltb _ _ l, and-false)
 
 pub digits_line_bad : (letter : ℕ) (ns : List ℕ) (v x : ℕ) (xs : List ℕ) → eqb x space ≡ false → is_digit x ≡ false → digits_line letter ns v (x ∷ xs) ≡ Unreadable
 unfolding digits_line

@@ -1,4 +1,5 @@
 // The lines of document 01's call list program: what a line says, read byte by byte, and the lines that are printed.
+#![tactic(auto)]
 
 ghost use Rattle.std.specs.Prelude.{◌≡◌, ◌+◌, ◌-◌, ◌*◌, ◌≤◌, ◌<◌, [], ◌∷◌, length};
 ghost use Rattle.lines.specs.Bytes.{is_digit, Printed};
@@ -6,7 +7,7 @@ ghost use Rattle.lines.specs.Lines.{longest_line, decimal, field, format_line, g
 ghost use Rattle.lines.specs.Machine.{no_numbers, pushed, relast, is_letter, after_start, after_letter, after_space, grown, after_digits, step, said, line_after, is_start};
 
 // What a line says.
-#[derive(Drop)]
+#[derive(Clone, Copy)]
 pub enum Line {
     Format {
         b: u32,
@@ -31,7 +32,7 @@ pub enum Line {
 
 // The last six numbers of a line, n1 the latest: a line says its meaning only at its end, so the numbers move up and
 // need no index.
-#[derive(Drop)]
+#[derive(Clone, Copy)]
 pub struct Numbers {
     count: usize,
     n6: u32,
@@ -43,7 +44,7 @@ pub struct Numbers {
 }
 
 // How far a line has been read. Lines have no greatest length, so this is all that is kept of one.
-#[derive(Drop)]
+#[derive(Clone, Copy)]
 pub enum Reading {
     // No byte yet.
     Start,

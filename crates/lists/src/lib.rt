@@ -1,5 +1,6 @@
 // The place lists of all levels while a call merges: in one work array apart from the words, since within a call a
 // level may be longer than its K(i) words. `load` takes them out; `store_back` puts them back at the call's end.
+#![tactic(auto)]
 
 ghost use Rattle.std.specs.Prelude.{◌≡◌, ℕ, suc, ◌≤◌, ◌<◌, length, take, get_or};
 ghost use Rattle.geometry.specs.Geometry.{capacity_of};

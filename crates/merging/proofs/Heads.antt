@@ -1,7 +1,7 @@
 -- What a head shows of a side, and that the tests on heads are the definitions' tests on blocks.
 use Prim.Native.Nat.{ℕ, zero, suc, ◌+◌, ◌-◌, ◌/◌, ◌%◌, ◌^◌, ◌≤◌, ◌<◌}
 use mathlib.Core.Path.{◌≡◌, sym, ap, ◌∙◌, refl}
-use mathlib.Core.Bool.{Bool, true, false, not, ◌&&◌, ◌||◌, true≢false, and_false}
+use mathlib.Core.Bool.{Bool, true, false, not, ◌&&◌, ◌||◌, true≢false, and-false}
 use mathlib.Core.List.{List, [], ◌∷◌}
 use mathlib.Core.Option.{none, some}
 use mathlib.Core.Logic.{dite}
@@ -117,7 +117,7 @@ shows_at z ws c (suc j) f l =
     go zero e = absurd (omega arith)
     go (suc n) e =
         let v : 0 + suc j ≡ suc j = omega arith in
-        let u : (c.listed && eqb (suc j) 0) ≡ false = rw (ne_eqb (suc j) 0 (λ g. omega arith)) (and_false c.listed) in
+        let u : (c.listed && eqb (suc j) 0) ≡ false = rw (ne_eqb (suc j) 0 (λ g. omega arith)) (and-false c.listed) in
         rw v (record {
           there = refl;
           whole = u;

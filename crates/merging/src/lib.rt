@@ -1,4 +1,5 @@
 // Steps 3 and 4 of a merge, from the place lists of two levels to the new list of the lower one.
+#![tactic(auto)]
 
 ghost use Rattle.std.specs.Prelude.{◌≡◌, ◌+◌, ◌-◌, ◌≤◌};
 ghost use Rattle.levels.specs.Place.{Allocation, settle};
@@ -14,7 +15,7 @@ use stream::{Inputs, Point, Progress};
 // Where a merge's blocks stand: X is the chunks x to xend of the upper level, the lower level's list
 // the entries start to end of an array, and Y the entries y to yend of it; X may be pages of level 0,
 // and the lower level may be level h.
-#[derive(Drop)]
+#[derive(Clone, Copy)]
 pub struct Cut {
     pub x: usize,
     pub xend: usize,
@@ -27,7 +28,7 @@ pub struct Cut {
 }
 
 // What a merge answers: the length of the new list, the allocation cursor, the blocks written.
-#[derive(Drop)]
+#[derive(Clone, Copy)]
 pub struct Merged {
     pub count: usize,
     pub cursor: usize,

@@ -1,4 +1,5 @@
 // The calls of the store for C and Rust (include/mewilovang.h): plain numbers in and out, no `requires` on any of them.
+#![tactic(auto)]
 
 ghost use Rattle.std.specs.Prelude.{◌≡◌};
 ghost use Rattle.levels.specs.Tickets.{laid};
@@ -19,7 +20,7 @@ use levels::Ticket;
 
 // The reason that the call is turned down for, or 0, and N.
 #[repr(C)]
-#[derive(Drop)]
+#[derive(Clone, Copy)]
 pub struct Formatted {
     pub reason: u32,
     pub limit: u32,
@@ -27,7 +28,7 @@ pub struct Formatted {
 
 // The reason or 0, 1 or 0 for a key that is in the map or not, and its payload.
 #[repr(C)]
-#[derive(Drop)]
+#[derive(Clone, Copy)]
 pub struct Looked {
     pub reason: u32,
     pub found: u32,
@@ -36,7 +37,7 @@ pub struct Looked {
 
 // The reason or 0, 1 or 0 if there is such a key or not, the key and its payload.
 #[repr(C)]
-#[derive(Drop)]
+#[derive(Clone, Copy)]
 pub struct Nexted {
     pub reason: u32,
     pub found: u32,
@@ -46,7 +47,7 @@ pub struct Nexted {
 
 // The reason or 0, how many records were written, and 1 or 0 if more follow or not.
 #[repr(C)]
-#[derive(Drop)]
+#[derive(Clone, Copy)]
 pub struct Stretched {
     pub reason: u32,
     pub written: u32,
@@ -55,7 +56,7 @@ pub struct Stretched {
 
 // A part of the lent store, in words; both 0 for an empty part.
 #[repr(C)]
-#[derive(Drop)]
+#[derive(Clone, Copy)]
 pub struct Part {
     pub start: usize,
     pub length: usize,
@@ -63,7 +64,7 @@ pub struct Part {
 
 // The reason or 0, the six numbers of the geometry, live, N, the records in level 0 and the blocks of levels 1 to 3.
 #[repr(C)]
-#[derive(Drop)]
+#[derive(Clone, Copy)]
 pub struct AboutStore {
     pub reason: u32,
     pub b: u32,
@@ -82,7 +83,7 @@ pub struct AboutStore {
 
 // The reason that a put or delete would be turned down for, or 0, and its merges into level 1, 1 or 0.
 #[repr(C)]
-#[derive(Drop)]
+#[derive(Clone, Copy)]
 pub struct Forecast {
     pub reason: u32,
     pub merges: u32,
@@ -90,7 +91,7 @@ pub struct Forecast {
 
 // Merges into a level, blocks written by them, blocks written compacting it.
 #[repr(C)]
-#[derive(Drop)]
+#[derive(Clone, Copy)]
 pub struct Counts {
     pub merges: u32,
     pub written: u32,
@@ -99,7 +100,7 @@ pub struct Counts {
 
 // The reason or 0, 1 or 0 if the key was live before or not, and the counts of levels 1 to 3.
 #[repr(C)]
-#[derive(Drop)]
+#[derive(Clone, Copy)]
 pub struct Changed {
     pub reason: u32,
     pub live: u32,

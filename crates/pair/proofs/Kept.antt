@@ -1,7 +1,7 @@
 -- Blocks that are written at free places change no word of a place in use.
 use Prim.Native.Nat.{ℕ, ◌+◌, ◌≤◌, ◌<◌}
 use mathlib.Core.Path.{◌≡◌, refl, sym, ap, ◌∙◌}
-use mathlib.Core.Bool.{true, false, or_true, true≢false}
+use mathlib.Core.Bool.{true, false, or-true, true≢false}
 use mathlib.Core.List.{List, [], ◌∷◌}
 use mathlib.Core.Option.{Option, none, some}
 use native.Mathlib.Nat.{add-zero}
@@ -49,7 +49,7 @@ settle_grows z a ws (b ∷ bs) v e h r f = go b.place b.recs r f.0 (λ c us d i 
         let k = first_free_lem z.geo.p a h (omega arith) in
         let i = ih (taking z.geo.p a) (lay (block_piece z c) ws) (lay_length (block_piece z c) ws ∙ e) k.inside (omega arith) in
         let w = (settle z.geo.p (taking z.geo.p a) bs).written in
-        let more : (q : ℕ) → member q a.used ≡ true → member q (at ∷ a.used) ≡ true = λ q m. rw m (or_true (eqb q at)) in
+        let more : (q : ℕ) → member q a.used ≡ true → member q (at ∷ a.used) ≡ true = λ q m. rw m (or-true (eqb q at)) in
         record {
           words = λ q l m.
               ap (λ (xs : List ℕ). part xs (place_start z q) (block_width z.geo)) (blocks_more z c w ws)

@@ -1,5 +1,6 @@
 // Steps 1 to 4 of a merge: the run is chosen and leaves its level, and what it meets below is merged with it.
 // The place lists of all levels stand in one array, each in its level's part.
+#![tactic(auto)]
 
 ghost use Rattle.std.specs.Prelude.{◌≡◌, map, suc, ◌+◌, ◌≤◌, length};
 ghost use Rattle.geometry.specs.Room.{list_room};
@@ -24,7 +25,7 @@ const FENCES: usize = 2 * Geometry::MAX_BOTTOM;
 const PAGES: usize = 256;
 
 // The lengths of the two lists of a merge.
-#[derive(Drop)]
+#[derive(Clone, Copy)]
 pub struct Lengths {
     pub above: usize,
     pub under: usize,
@@ -32,7 +33,7 @@ pub struct Lengths {
 
 // What a merge answers: the lengths of the two lists afterwards, the allocation cursor, the blocks
 // written, the run's first block and the number of blocks below that the run overlaps.
-#[derive(Drop)]
+#[derive(Clone, Copy)]
 pub struct Step {
     pub above: usize,
     pub under: usize,
@@ -43,7 +44,7 @@ pub struct Step {
 }
 
 // The chosen run, and the blocks below from `start` on up to but without `end` that it meets.
-#[derive(Drop)]
+#[derive(Clone, Copy)]
 struct Picked {
     first: usize,
     overlap: usize,

@@ -1,4 +1,5 @@
 // What the reading calls answer of a store that passes (document 01, "Calls").
+#![tactic(auto)]
 
 ghost use Rattle.std.specs.Prelude.{◌≡◌, ◌<◌};
 ghost use Rattle.levels.specs.Map.{map_of, decides, next, stretch};
@@ -15,7 +16,7 @@ use search::{Enclosed, Found};
 use walk::Following;
 
 // The payload of a live key, or that the key is not in the map, or the reason that the store is turned down for.
-#[derive(Drop)]
+#[derive(Clone, Copy)]
 pub enum Looked {
     Found(u32),
     Absent,
@@ -23,7 +24,7 @@ pub enum Looked {
 }
 
 // A live key with its payload, or that there is none, or the reason that the store is turned down for.
-#[derive(Drop)]
+#[derive(Clone, Copy)]
 pub enum Nexted {
     At(u32, u32),
     Nothing,
@@ -31,21 +32,21 @@ pub enum Nexted {
 }
 
 // How many records of a stretch were written and whether more of it follow, or the reason that the store is turned down for.
-#[derive(Drop)]
+#[derive(Clone, Copy)]
 pub enum Stretched {
     Written(u32, bool),
     Refused(u32),
 }
 
 // A part of the lent store: its first word and its words; both 0 for an empty part.
-#[derive(Drop)]
+#[derive(Clone, Copy)]
 pub struct Part {
     pub start: usize,
     pub length: usize,
 }
 
 // What a store says of itself: the six numbers of its geometry, live, N, the records in level 0, the blocks of levels 1 to 3.
-#[derive(Drop)]
+#[derive(Clone, Copy)]
 pub struct Facts {
     pub b: u32,
     pub w: u32,
@@ -62,7 +63,7 @@ pub struct Facts {
 }
 
 // What a store says of itself, or the reason that it is turned down for.
-#[derive(Drop)]
+#[derive(Clone, Copy)]
 pub enum Told {
     Known(Facts),
     Refused(u32),

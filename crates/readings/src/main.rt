@@ -13,6 +13,7 @@
 //     w                         prints w and a checksum over the words
 //
 // All but l and f leave the store as it is; what is not there is printed as 0.
+#![tactic(auto)]
 
 ghost use Rattle.std.specs.Prelude.{◌≤◌, length};
 

@@ -1,7 +1,7 @@
 -- Of the chunks of a level, only the one that a search finds can enclose the key.
 use Prim.Native.Nat.{ℕ, zero, suc, ◌+◌, ◌-◌, ◌/◌, ◌≤◌, ◌<◌}
 use mathlib.Core.Path.{◌≡◌, refl, sym, ap, ◌∙◌}
-use mathlib.Core.Bool.{Bool, true, false, ◌&&◌, ◌||◌, and_false}
+use mathlib.Core.Bool.{Bool, true, false, ◌&&◌, ◌||◌, and-false}
 use mathlib.Core.List.{List, [], ◌∷◌, ◌++◌}
 use native.Mathlib.Nat.{add-zero}
 use native.Mathlib.Numerals.{add-one}
@@ -65,7 +65,7 @@ last_below k r (s ∷ rs) b = last_below k s rs b.1
 below_encloses : (k : ℕ) (rs : List Rec) (r : Rec) (ss : List Rec) → rs ≡ r ∷ ss → Below k rs → encloses k rs ≡ false
 below_encloses k rs r ss e b =
     let p : Below k (r ∷ ss) = rw e at b in
-    rw (e, lt-leb k (last_key (r ∷ ss)) (last_below k r ss p)) (and_false (leb r.key k))
+    rw (e, lt-leb k (last_key (r ∷ ss)) (last_below k r ss p)) (and-false (leb r.key k))
 
 above_encloses : (k : ℕ) (rs : List Rec) (r : Rec) (ss ts : List Rec) → rs ≡ r ∷ ss → Rising (suc k) (rs ++ ts) → encloses k rs ≡ false
 above_encloses k rs r ss ts e h =

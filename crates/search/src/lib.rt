@@ -1,5 +1,6 @@
 // Searches in one level: the only chunk that can have a key; the record with a key; the chunk whose keys enclose a key. Of the
 // chunks, whose first keys do not stand in a row, one is found by halving here; in a chunk `slices::rank_of` finds the key.
+#![tactic(auto)]
 
 ghost use Rattle.std.specs.Prelude.{◌≡◌, ◌≤◌};
 ghost use Rattle.levels.specs.Map.{find};
@@ -9,14 +10,14 @@ ghost use Rattle.search.specs.Search.{Sought, found_of, enclosed_of};
 use directory::Directory;
 
 // What a level has for a key: a tombstone (true) or not, with its payload.
-#[derive(Drop)]
+#[derive(Clone, Copy)]
 pub enum Found {
     Here(bool, u32),
     Absent,
 }
 
 // The number of the chunk whose first to last key encloses a key.
-#[derive(Drop)]
+#[derive(Clone, Copy)]
 pub enum Enclosed {
     At(usize),
     Nowhere,

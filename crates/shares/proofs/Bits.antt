@@ -1,7 +1,7 @@
 -- Bits of the words that say which records show no longer.
 use Prim.Native.Nat.{ℕ, zero, suc, ◌+◌, ◌*◌, ◌/◌, ◌%◌, ◌^◌, ◌≤◌, ◌<◌}
 use mathlib.Core.Path.{◌≡◌, refl, sym, ap, ap₂, ◌∙◌}
-use mathlib.Core.Bool.{Bool, true, false, ◌||◌, or_false}
+use mathlib.Core.Bool.{Bool, true, false, ◌||◌, or-false}
 use mathlib.Core.List.{List, [], ◌∷◌, ◌++◌}
 use native.Mathlib.Nat.{pow-succ', pow-suc}
 use native.Mathlib.Numerals.{add-one}
@@ -112,7 +112,7 @@ number_some x (k ∷ ks) = go (eqb k x) refl (number_some x ks)
 -- one of a single key
 among_one : (x y : ℕ) → among y (x ∷ []) ≡ eqb x y
 unfolding among
-among_one x y = or_false (eqb x y)
+among_one x y = or-false (eqb x y)
 
 -- one key more is one bit more
 pub known_more : (xs ks : List ℕ) (y : ℕ) → known_in xs (ks ++ (y ∷ [])) ≡ known_in xs ks ++ (among y xs ∷ [])

@@ -1,7 +1,7 @@
 -- Records under keys of levels above, and the shares of levels in the number of live keys.
 use Prim.Native.Nat.{ℕ, suc, ◌+◌, ◌<◌}
 use mathlib.Core.Path.{◌≡◌, refl, sym, ap, ◌∙◌}
-use mathlib.Core.Bool.{Bool, false, ◌||◌, or_true, or_false, or_assoc}
+use mathlib.Core.Bool.{Bool, false, ◌||◌, or-true, or-false, or_assoc}
 use mathlib.Core.List.{List, [], ◌∷◌, ◌++◌}
 use native.Mathlib.Omega.{arith}
 use lib.Dec.{eqb}
@@ -34,7 +34,7 @@ among_below k low rs r h = found_is k rs ∙ ap is_some (find_below k low rs r h
 -- a record whose key is none of these shows as it is
 pub under_other : (ks : List ℕ) (r : Rec) → among r.key ks ≡ false → under ks r ≡ r
 under_other ks r e = ap (λ (t : Bool). record { key = r.key; tombstone = r.tombstone || t; pay = r.pay }) e
-    ∙ ap (λ (t : Bool). record { key = r.key; tombstone = t; pay = r.pay }) (or_false r.tombstone)
+    ∙ ap (λ (t : Bool). record { key = r.key; tombstone = t; pay = r.pay }) (or-false r.tombstone)
 
 -- and stands so before what is hidden of the others
 pub hide_other : (ks : List ℕ) (r : Rec) (rs : List Rec) → among r.key ks ≡ false → hide ks (r ∷ rs) ≡ r ∷ hide ks rs
@@ -120,7 +120,7 @@ hide_same : (x : ℕ) (ks : List ℕ) (r : Rec) (rs : List Rec) → r.key ≡ x 
 unfolding hide among
 hide_same x ks r rs e =
     unmarked_drop (under (x ∷ ks) r) (hide (x ∷ ks) rs)
-    (ap (λ (t : Bool). r.tombstone || (t || among r.key ks)) (eq-eqb x r.key (sym e)) ∙ or_true r.tombstone)
+    (ap (λ (t : Bool). r.tombstone || (t || among r.key ks)) (eq-eqb x r.key (sym e)) ∙ or-true r.tombstone)
 
 -- the live records of a record before a list, and that list laid over another
 module _ (x : Rec) (xs : List Rec) (rx : Rising (suc x.key) xs) (f : List Rec → List Rec)

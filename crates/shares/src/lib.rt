@@ -2,6 +2,7 @@
 // Which records a level above hides is found from the keys, sixteen at a time: the chunk that can have a key by comparing it with
 // the chunks' first keys, which are gone over once; in that chunk all slots are compared. Where the keys of two levels interleave,
 // no branch hangs on how two keys compare, for which way it would go cannot be foreseen. No levels are merged.
+#![tactic(auto)]
 
 ghost use Rattle.std.specs.Prelude.{◌≡◌, ◌∷◌, [], ℕ, ◌+◌, ◌-◌, ◌*◌, ◌≤◌, ◌<◌, ltb, length, get_or, take, drop};
 ghost use Rattle.slices.specs.Ranks.{among};
@@ -18,14 +19,14 @@ use directory::Directory;
 use walk::Levels;
 
 // The seats of sixteen keys in a level, each the only chunk that can have the key: as many before chunk `end` as `above` says.
-#[derive(Drop)]
+#[derive(Clone, Copy)]
 struct Seats {
     end: usize,
     above: [u32; 16],
 }
 
 // Which keys of a chunk a level has: bit l + 1 for key l. And where the search for later keys goes on.
-#[derive(Drop)]
+#[derive(Clone, Copy)]
 struct Met {
     end: usize,
     bits: u32,

@@ -1,4 +1,5 @@
 // What a side of a merge reads next: a record of a block or of a page of level 0, and whether its block may be reused.
+#![tactic(auto)]
 
 ghost use Rattle.std.specs.Prelude.{◌≡◌, true, false, ℕ, ◌+◌, ◌-◌, ◌*◌, ◌^◌, ◌%◌, ◌≤◌, ◌<◌, length, get_or};
 ghost use Rattle.blocks.specs.Blocks.{Sized};
@@ -9,7 +10,7 @@ use blocks::Offsets;
 
 // Where the records of a block or of a page of level 0 stand: the index of its mark word, of its
 // first key and of its first payload, and how many it has. A page is not listed and has no place.
-#[derive(Drop)]
+#[derive(Clone, Copy)]
 pub struct Chunk {
     pub marks: usize,
     pub keys: usize,
@@ -21,7 +22,7 @@ pub struct Chunk {
 
 // What a side of the merge reads next: the next record, and the block that it stands in, by its mark word, the indices of its
 // first key and payload and its count. `whole` says that the record starts a listed block, which may then be reused.
-#[derive(Drop)]
+#[derive(Clone, Copy)]
 pub struct Head {
     pub some: bool,
     pub whole: bool,

@@ -1,4 +1,5 @@
 // One merge of a call with its step 5: while the merges run, the place lists stand in a work array apart from the words.
+#![tactic(auto)]
 
 ghost use Rattle.std.specs.Prelude.{◌≡◌, ◌+◌, ◌≤◌, ◌<◌, false, length, set, replicate, ◌++◌};
 ghost use Rattle.lists.specs.Lists.{lists_of};
@@ -16,7 +17,7 @@ use levels::Ticket;
 use pair::Lengths;
 
 // Of one level: merges into it, blocks written by them, blocks written compacting it.
-#[derive(Drop)]
+#[derive(Clone, Copy)]
 pub struct Counts {
     pub merges: usize,
     pub written: usize,
@@ -24,7 +25,7 @@ pub struct Counts {
 }
 
 // The counts of levels 1 to 3.
-#[derive(Drop)]
+#[derive(Clone, Copy)]
 pub struct Tally {
     pub one: Counts,
     pub two: Counts,
@@ -32,7 +33,7 @@ pub struct Tally {
 }
 
 // The lengths of the lists of levels 1 to 3, the allocation cursor, and the counts so far.
-#[derive(Drop)]
+#[derive(Clone, Copy)]
 pub struct Run {
     pub ns: [usize; 3],
     pub cursor: usize,
@@ -40,7 +41,7 @@ pub struct Run {
 }
 
 // What a merge has left, and its ticket.
-#[derive(Drop)]
+#[derive(Clone, Copy)]
 pub struct Ticketed {
     pub run: Run,
     pub ticket: Ticket,

@@ -1,4 +1,5 @@
 // The calls on a lent store (document 01, "Calls"). Every slice and every argument is legal input.
+#![tactic(auto)]
 
 ghost use Rattle.std.specs.Prelude.{◌≡◌, ◌≤◌, length, get_or};
 ghost use Rattle.geometry.specs.Geometry.{Valid, key_limit_of};
@@ -22,7 +23,7 @@ use tickets::Gathered;
 use writer::{Changed, Forecast};
 
 // N, or the reason that the words or the geometry are turned down for.
-#[derive(Drop)]
+#[derive(Clone, Copy)]
 pub enum Formatted {
     Done(u32),
     Refused(u32),

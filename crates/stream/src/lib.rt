@@ -1,4 +1,5 @@
 // Step 3 of a merge: X and Y are read in key order, blocks are reused or their records gathered.
+#![tactic(auto)]
 
 ghost use Rattle.std.specs.Prelude.{◌≡◌, true, false, ℕ, ◌+◌, ◌-◌, ◌≤◌, ◌<◌};
 ghost use Rattle.blocks.specs.Room.{places_most, list_room};
@@ -9,7 +10,7 @@ use blocks::{Buffer, Offsets};
 use sides::Head;
 
 // Where a side stands: its next block, and the next record of that block.
-#[derive(Drop)]
+#[derive(Clone, Copy)]
 pub struct Point {
     pub i: usize,
     pub j: usize,
@@ -17,7 +18,7 @@ pub struct Point {
 
 // Where the merge stands: the points of X and of Y, the blocks listed so far, the blocks written
 // so far, the allocation cursor and the buffer.
-#[derive(Drop)]
+#[derive(Clone, Copy)]
 pub struct Progress {
     pub x: Point,
     pub y: Point,
@@ -29,7 +30,7 @@ pub struct Progress {
 
 // What a step does: where X and Y stand then, the record that comes, and whether its whole block
 // follows as it stands.
-#[derive(Drop)]
+#[derive(Clone, Copy)]
 pub struct Move {
     pub x: Point,
     pub y: Point,
@@ -38,7 +39,7 @@ pub struct Move {
 }
 
 // A move, and how many records more of the same block are gathered with its record, which is record `from` of the block.
-#[derive(Drop)]
+#[derive(Clone, Copy)]
 pub struct Run {
     pub next: Move,
     pub from: usize,
@@ -47,7 +48,7 @@ pub struct Run {
 
 // The ends of X and of Y in their lists, whether X is pages of level 0, whether the merge is into
 // level h.
-#[derive(Drop)]
+#[derive(Clone, Copy)]
 pub struct Inputs {
     pub x: usize,
     pub y: usize,

@@ -1,5 +1,6 @@
 // Tickets for a caller (document 02, card 3): from the rows in which the merges leave them into the caller's list. Only here, in
 // `store` and at the border to C is there a lent slice of structs; everything below gathers rows of four words.
+#![tactic(auto)]
 
 ghost use Rattle.std.specs.Prelude.{◌≡◌, ◌<◌, ◌≤◌, map, length, take, set};
 ghost use Rattle.levels.specs.Inside.{merges_most};
@@ -13,7 +14,7 @@ use writer::Changed;
 pub const ROOM: usize = 512;
 
 // What a put or delete did, how many merges it made, and their tickets, in order.
-#[derive(Drop)]
+#[derive(Clone, Copy)]
 pub struct Gathered {
     pub changed: Changed,
     pub count: usize,

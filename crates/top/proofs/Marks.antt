@@ -3,7 +3,7 @@ use Prim.Native.Nat.{ℕ, zero, suc, ◌+◌, ◌-◌, ◌*◌, ◌/◌, ◌%◌
 use mathlib.Core.Path.{◌≡◌, ap, ◌∙◌}
 use mathlib.Core.Bool.{Bool, true, false}
 use mathlib.Core.List.{List, [], ◌∷◌}
-use native.Mathlib.Nat.{pow-succ', div_one, mul_left_comm}
+use native.Mathlib.Nat.{pow-succ', div-one, mul_left_comm}
 use native.Mathlib.Omega.{arith}
 use lib.Dec.{eqb}
 use lib.Pow.{pow_mono}
@@ -32,7 +32,7 @@ doubled x w p h t r e = rw (mul_left_comm w 2 p, mul_left_comm t 2 p) (omega (ar
 -- a bit that is set comes and the one that was there goes
 bit_moves : (m j : ℕ) (t : Bool) → set_bit m j t + bit (eqb (m / 2 ^ j % 2) 1) * 2 ^ j ≡ m + bit t * 2 ^ j
 unfolding set_bit
-bit_moves m zero t = rw (div_one, bit_of m) (omega arith)
+bit_moves m zero t = rw (div-one, bit_of m) (omega arith)
 bit_moves m (suc j) t =
     let w = bit (eqb (m / 2 ^ suc j % 2) 1) in
     let k : set_bit (m / 2) j t + w * 2 ^ j ≡ m / 2 + bit t * 2 ^ j = rw (← shift_suc m j) at (bit_moves (m / 2) j t) in

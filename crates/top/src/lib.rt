@@ -1,5 +1,6 @@
 // Level 0 in the lent words: where a key stands, and the edits that put and delete and a merge out of
 // level 0 make there. Nothing here knows more than level 0's words and its count c.
+#![tactic(auto)]
 
 ghost use Rattle.std.specs.Prelude.{◌≡◌, ◌++◌, suc, ◌+◌, ◌*◌, ◌/◌, ◌≤◌, ◌<◌, length, take, drop};
 ghost use Rattle.slices.specs.Ranks.{rank_of};
@@ -14,7 +15,7 @@ use layout::Layout;
 use slices::Rank;
 
 // What a slot of level 0 holds: mark is true for a tombstone.
-#[derive(Drop)]
+#[derive(Clone, Copy)]
 pub struct Slot {
     pub key: u32,
     pub mark: bool,

@@ -1,5 +1,6 @@
 // The call list program with a ticket for each merge (document 02, card 3): after the line of a put or delete one line for each
 // merge that it made, in order, at most 64 of them.
+#![tactic(auto)]
 
 // One read gives at most so many bytes: few, for each of them may be the end of a line with 64 tickets.
 const PART: usize = 16;

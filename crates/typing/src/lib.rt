@@ -1,5 +1,6 @@
 // The call list programs' reading and writing: standard input to its end, and the answers to its lines to standard output. What is
 // printed is the dialogue's; here bytes are only read, fed and written.
+#![tactic(auto)]
 
 ghost use Rattle.std.specs.Prelude.{◌≡◌, ◌*◌, ◌≤◌, length};
 ghost use Rattle.dialogue.specs.Said.{tickets_most, longest_answer};

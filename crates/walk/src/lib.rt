@@ -1,6 +1,7 @@
 // A walk over four levels side by side: the least key leaves every level that has it, and the uppermost
 // record with it decides. It lists a stretch of the live keys, of which the next live key is the first. Each level is entered at the
 // slot of the first key, so that no key below it is looked at.
+#![tactic(auto)]
 
 ghost use Rattle.std.specs.Prelude.{◌≡◌, ◌+◌, ◌-◌, ◌%◌, ◌≤◌, ◌<◌, min, length, eqb};
 ghost use Rattle.levels.specs.Map.{unmarked, first_from, stretch};
@@ -17,7 +18,7 @@ use directory::Directory;
 const END: usize = 4294967296;
 
 // Four levels, the upper ones first.
-#[derive(Drop)]
+#[derive(Clone, Copy)]
 pub struct Levels {
     pub d0: Directory,
     pub d1: Directory,
@@ -26,7 +27,7 @@ pub struct Levels {
 }
 
 // What is left of a level: the rest of a chunk, the number of the chunk after it, and the next key.
-#[derive(Drop)]
+#[derive(Clone, Copy)]
 struct Cursor {
     next: usize,
     chunk: Chunk,
@@ -34,7 +35,7 @@ struct Cursor {
 }
 
 // Four levels side by side: what is left of each.
-#[derive(Drop)]
+#[derive(Clone, Copy)]
 struct Front {
     c0: Cursor,
     c1: Cursor,
@@ -43,21 +44,21 @@ struct Front {
 }
 
 // A level past some of its records: where it goes on, and how many of the records were no tombstones.
-#[derive(Drop)]
+#[derive(Clone, Copy)]
 struct Passed {
     cursor: Cursor,
     live: usize,
 }
 
 // A live key with its payload, or that there is none.
-#[derive(Drop)]
+#[derive(Clone, Copy)]
 pub enum Following {
     At(usize, u32),
     Nothing,
 }
 
 // How many records of a stretch were written, and whether more of it follow.
-#[derive(Drop)]
+#[derive(Clone, Copy)]
 pub struct Listed {
     pub written: usize,
     pub more: bool,

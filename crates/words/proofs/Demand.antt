@@ -123,7 +123,7 @@ unfolding change_outcome
 entered_demand z ws r was live ms t p f =
     let s : Store = store_at z ws in
     let a = subst (ListRules z s) (sym f.merges) (call_rules z s r.key p.proper p.fits p.sound) in
-    demand_of z ws (some (record { recorded = r; live = live })) ms _ _ p.proper f.merges a (ap (left_words z ws ms) f.store) (counted _ ms refl refl refl)
+    demand_of z ws (some (record { recorded = r; live = live })) ms _ _ p.proper f.merges a (ap (left_words z ws ms) f.store) (counted (change_outcome z ws (entered was ms t)).answer ms refl refl refl)
 
 -- what a put enters, by its outcome
 own_full : (z : Layout) (s : Store) (k v : ℕ) → is_live k (rows s) ≡ false → s.live ≡ key_limit_of z.geo → own_put z.geo s k v ≡ none

@@ -1,7 +1,7 @@
 -- A store whose blocks stand in their places, and how writing new blocks keeps that so.
 use Prim.Native.Nat.{ℕ}
 use mathlib.Core.Path.{◌≡◌, refl, sym, ap, ◌∙◌}
-use mathlib.Core.Bool.{true, false, not, or_true, true≢false, and-eq-true_iff}
+use mathlib.Core.Bool.{true, false, not, or-true, true≢false, and-eq-true_iff}
 use mathlib.Core.List.Memᴰ
 use mathlib.Core.List.{List, [], ◌∷◌, ◌++◌, map, Memᴰ}
 use mathlib.Core.Logic.{◌≢◌, ◌⊎◌, inl, inr}
@@ -27,7 +27,7 @@ use Rattle.words.proofs.Blocks.{PlacesApart, place_below, blocks_other, blocks_h
 -- the places of blocks that fit, one for each block
 pub places_are : (g : Geometry) (bs : Level) → Every (BlockFits g) bs → places_of bs ≡ map place_of bs
 places_are g [] f = refl
-places_are g (b ∷ bs) f = rw (f.0.placed_at_lem, places_are g bs f.1)
+places_are g (b ∷ bs) f = rw (f.0.placed_at, places_are g bs f.1)
 
 -- the places in use are those of the blocks of all levels
 pub in_use_are : (ls : List Level) → in_use ls ≡ places_of (all_blocks ls)
@@ -41,7 +41,7 @@ member_not q (p ∷ ps) e = let k = or_false (eqb q p) (member q ps) e in (eqb-f
 pub member_map : {A : Type 0} (f : A → ℕ) (xs : List A) (x : A) → Memᴰ x xs → member (f x) (map f xs) ≡ true
 member_map f [] x m = absurd (Memᴰ.not-nil m)
 member_map f (y ∷ ys) x (Memᴰ.head e) = rw (e, eq-eqb (f y) (f y) refl)
-member_map f (y ∷ ys) x (Memᴰ.tail m) = rw (member_map f ys x m) (or_true (eqb (f x) (f y)))
+member_map f (y ∷ ys) x (Memᴰ.tail m) = rw (member_map f ys x m) (or-true (eqb (f x) (f y)))
 
 every_unmap : {A : Type 0} (f : A → ℕ) (P : ℕ → Type 0) (xs : List A) → Every P (map f xs) → Every (λ x. P (f x)) xs
 every_unmap f P [] h = tt

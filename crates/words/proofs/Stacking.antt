@@ -1,6 +1,6 @@
 -- The pieces of a store that fits a proper layout: none meets another, and all lie before the places.
 use Prim.Native.Nat.{ℕ, suc, ◌+◌, ◌-◌, ◌≤◌, ◌<◌}
-use mathlib.Core.Path.{◌≡◌}
+use mathlib.Core.Path.{◌≡◌, sym, subst}
 use mathlib.Core.List.{List, [], ◌∷◌, ◌++◌, map}
 use mathlib.Core.Logic.{◌⊎◌, inl, inr}
 use native.Mathlib.Nat.{add-zero, suc-add, add-suc}
@@ -46,7 +46,7 @@ lists_stacked z (l ∷ ls) i o r =
     let e : i + suc (length ls) ≡ suc i + length ls = omega arith in
     let n = list_next z i o in
     let m = list_mono z (length ls) (suc i) (omega arith) in
-    ((omega arith, stacked_lower (list_pieces z (suc i) ls) (list_start z i + length (pad K (map place_of l))) (list_start z (suc i)) (omega (arith, a, n)) b.0), rw e (omega (arith, a, n, m), b.1))
+    ((omega arith, stacked_lower (list_pieces z (suc i) ls) (list_start z i + length (pad K (map place_of l))) (list_start z (suc i)) (omega (arith, a, n)) b.0), subst (λ (n : ℕ). Within (list_start z n) (list_pieces z i (l ∷ ls))) (sym e) (omega (arith, a, n, m), b.1))
 
 -- level 0
 pub top_stacked : (z : Layout) (rs : List Rec) → Proper z → length rs ≤ top_capacity_of z.geo → Stacked z.marks (top_pieces z rs) × Within z.lists (top_pieces z rs)

@@ -1,7 +1,7 @@
 -- What put and delete rest on: a record goes into level 0, after the merges that make room for it.
 use Prim.Native.Nat.{ℕ, suc, ◌-◌, ◌≤◌, ◌<◌}
 use mathlib.Core.Path.{◌≡◌, refl, sym, ap, ◌∙◌, subst}
-use mathlib.Core.Bool.{Bool, true, false, ◌||◌, or_true}
+use mathlib.Core.Bool.{Bool, true, false, ◌||◌, or-true}
 use mathlib.Core.List.{List, []}
 use native.Mathlib.Nat.{mul-le-mul}
 use native.Mathlib.Omega.{arith}
@@ -82,7 +82,7 @@ module _ (z : Layout) (ws : List ℕ) (p : Passed z ws) (k : ℕ) where
       go true e = rw (for_none z.geo (store_at z ws) k e) e
       go false e =
           rw (lt-ltb (length (store_by z ws k).top) (top_capacity_of z.geo) (call_top z.geo (store_at z ws) p.proper.valid p.fits p.sound k e))
-          (or_true (is_some (find k (store_by z ws k).top)))
+          (or-true (is_some (find k (store_by z ws k).top)))
 
   merged_top : length (store_by z ws k).top ≤ top_capacity_of z.geo
   merged_top = go (is_some (find k (store_at z ws).top) || ltb (length (store_at z ws).top) (top_capacity_of z.geo)) refl

@@ -1,7 +1,7 @@
 -- What the proofs of the forecasts need: of a store that passes, each answer of the code is the definition's.
 use Prim.Native.Nat.{ℕ}
 use mathlib.Core.Path.{◌≡◌, sym, ap, ◌∙◌}
-use mathlib.Core.Bool.{Bool, false, not, ◌&&◌, and_false, and-true}
+use mathlib.Core.Bool.{Bool, false, not, ◌&&◌, and-false, and-true}
 use mathlib.Core.List.{List}
 use mathlib.Core.Logic.{◌≢◌}
 use lib.Dec.{eqb}
@@ -38,7 +38,7 @@ module _ (z : Layout) (ws : List ℕ) (p : Passed z ws) (k : ℕ) where
 
   -- refusal 5: not while live is below N, and at N of a key that is not live
   pub full_below : live_at z ws ≢ key_limit_of z.geo → false ≡ is_full (key_limit_of z.geo) records k
-  full_below d = sym (ap (λ (b : Bool). not (is_some (find k records)) && b) (ne_eqb (length records) (key_limit_of z.geo) (λ l. d (live_is_map ∙ l))) ∙ and_false (not (is_some (find k records))))
+  full_below d = sym (ap (λ (b : Bool). not (is_some (find k records)) && b) (ne_eqb (length records) (key_limit_of z.geo) (λ l. d (live_is_map ∙ l))) ∙ and-false (not (is_some (find k records))))
 
   pub full_at : (t : Bool) → live_at z ws ≡ key_limit_of z.geo → is_live k (rows (store_at z ws)) ≡ t → not t ≡ is_full (key_limit_of z.geo) records k
   full_at t l h =

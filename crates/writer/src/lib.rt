@@ -1,4 +1,5 @@
 // What put and delete do to a store that passes (document 01, "Calls").
+#![tactic(auto)]
 
 ghost use Rattle.std.specs.Prelude.{◌≡◌, true, [], ◌≤◌};
 ghost use Rattle.slices.specs.Ranks.{rank_of};
@@ -23,21 +24,21 @@ use slices::Rank;
 use steps::{Counts, Tally};
 
 // What a put or delete did: live says if the key was live, the tally what was merged and written for it.
-#[derive(Drop)]
+#[derive(Clone, Copy)]
 pub struct Change {
     pub live: bool,
     pub tally: Tally,
 }
 
 // What a put or delete did, or the reason that it is turned down for.
-#[derive(Drop)]
+#[derive(Clone, Copy)]
 pub enum Changed {
     Done(Change),
     Refused(u32),
 }
 
 // The merges into level 1 that a put or delete is going to make, 1 or 0, or the reason that it would be turned down for.
-#[derive(Drop)]
+#[derive(Clone, Copy)]
 pub enum Forecast {
     Merges(u32),
     Refused(u32),

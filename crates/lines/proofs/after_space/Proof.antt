@@ -1,4 +1,4 @@
-use mathlib.Core.Bool.{and_false}
+use mathlib.Core.Bool.{and-false}
 use mathlib.Core.Path.{sym, ◌∙◌}
 use borrow.Author.Tests.{lt-ltb, le-ltb, not-true, not-false}
 use Rattle.lines.specs.Machine.{after_space}
@@ -16,7 +16,7 @@ is-digit-requires c κs = search rules
 
 returns : tie.Need-returns
 unfolding after_space
-returns c = rw (← c.before.is_digit.ensures, not-true c.before.is_digit.result c.if1.true, and_false)
+returns c = rw (← c.before.is_digit.ensures, not-true c.before.is_digit.result c.if1.true, and-false)
 
 sub-push : tie.Need-overflow-sub-push
 sub-push c = digit_low _ (sym c.before.before.is_digit.ensures ∙ not-false _ c.before.if1.false)

@@ -1,0 +1,14 @@
+use Rattle.chunks.proofs.Slots.{clean_zero, clean_start, clean_next, clean_end}
+use native.Mathlib.Omega.{arith}
+use Prim.Native.Nat.{◌≤◌, ◌+◌, ◌-◌}
+use mathlib.Core.Path.{◌≡◌, sym, ◌∙◌}
+use mathlib.Core.Bool.{◌&&◌}
+use Rattle.chunks.specs.Chunks.{clean_of}
+use borrow.Author.Rules.{rules}
+use Rattle.chunks.proofs.clean.Given as goal
+
+abbrev pub invariant-loop-j : goal.invariant-loop-j
+invariant-loop-j l = (l.j ≤ l.count) × ((l.ok && clean_of l.s l.m (l.pays + l.j) (l.count - l.j)) ≡ clean_of l.s l.marks l.pays l.count)
+
+abbrev pub decreases-loop-j : goal.decreases-loop-j
+decreases-loop-j l = l.count - l.j

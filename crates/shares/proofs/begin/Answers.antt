@@ -1,0 +1,60 @@
+use Prim.Native.Nat.{◌-◌, ◌*◌, ◌%◌, ◌≤◌, ◌<◌, ℕ}
+use mathlib.Core.Path.{◌≡◌, refl, ap}
+use native.Mathlib.Omega.{arith}
+use lib.ListN.{length, get_or, length-set}
+use borrow.Author.Rules.{rules}
+use Rattle.chunks.specs.declared.Chunk.{Chunk}
+use Rattle.directory.specs.Directory.{chunk_at}
+use Rattle.directory.proofs.Laws.{chunk_room}
+use Rattle.shares.proofs.Rows.{filled_set, marks_show}
+use Rattle.shares.proofs.begin.Goals as goal
+
+pub loop-i-init : goal.loop-i-init
+loop-i-init c = (omega arith, (refl, (refl, (λ j l. absurd (omega arith), λ j l. absurd (omega arith)))))
+
+pub chunk_at-chunk-requires : goal.chunk_at-chunk-requires
+chunk_at-chunk-requires c = (c.requires.0.within, omega arith)
+
+pub overflow_cast-starts : goal.overflow_cast-starts
+overflow_cast-starts c =
+    let k = c in
+    let f = k.requires.0 in
+    let r = chunk_room _ _ f.within _ k.loop-i-test.true in
+    record { fits = rw k.chunk_at-chunk.ensures (omega (arith, r.0, f.within.short)) }
+
+pub bounds-starts-i : goal.bounds-starts-i
+bounds-starts-i c = let k = c in let p = k.requires.1.0 in omega (arith, k.loop-i.invariant.1.0, k.loop-i-test.true)
+
+pub bounds-gone-i : goal.bounds-gone-i
+bounds-gone-i c = let k = c in let p = k.requires.1.1 in omega (arith, k.loop-i.invariant.1.1.0, k.loop-i-test.true)
+
+pub loop-i-preserved : goal.loop-i-preserved
+loop-i-preserved c =
+    let k = c in
+    let l = k.loop-i in
+    let v = l.invariant in
+    let p = k.requires.1 in (
+      omega arith,
+      (
+        simp length-set v.1.0,
+        (
+          simp length-set v.1.1.0,
+          (
+            filled_set _ l.starts l.i _ (omega (arith, v.1.0, p.0)) (ap (λ (h : Chunk). h.keys) k.chunk_at-chunk.ensures) v.1.1.1.0,
+            filled_set _ l.gone l.i _ (omega (arith, v.1.1.0, p.1)) (ap (λ (h : Chunk). h.marks % 65536 * 2) k.chunk_at-chunk.ensures) v.1.1.1.1,
+          ),
+        ),
+      ),
+    )
+
+pub shape_of-starts : goal.shape_of-starts
+shape_of-starts c = c.loop-i.invariant.1.0
+
+pub shape_of-gone : goal.shape_of-gone
+shape_of-gone c = c.loop-i.invariant.1.1.0
+
+pub returns : goal.returns
+returns c =
+    let a = c in
+    let v = c.loop-i.invariant in
+    (marks_show _ _ _ a.requires.0 (λ j h. v.1.1.1.1 j (omega arith)), record { room = omega (arith, v.1.0, a.requires.1.0); start = λ j h. v.1.1.1.0 j (omega arith) })

@@ -1,0 +1,17 @@
+use Prim.Native.Nat.{◌-◌, ◌*◌, ◌%◌, ◌≤◌, ◌<◌, ℕ}
+use mathlib.Core.Path.{◌≡◌, refl, ap}
+use native.Mathlib.Omega.{arith}
+use lib.ListN.{length, get_or, length-set}
+use borrow.Author.Rules.{rules}
+use Rattle.chunks.specs.declared.Chunk.{Chunk}
+use Rattle.directory.specs.Directory.{chunk_at}
+use Rattle.directory.proofs.Laws.{chunk_room}
+use Rattle.shares.proofs.Rows.{filled_set, marks_show}
+use Rattle.shares.proofs.begin.Given as goal
+
+abbrev pub invariant-loop-i : goal.invariant-loop-i
+invariant-loop-i l =
+    (l.i ≤ l.dir.chunks) × ((length l.starts ≡ length l.initial.starts) × ((length l.gone ≡ length l.initial.gone) × (((j : ℕ) → j < l.i → get_or l.starts j 0 ≡ (chunk_at l.s l.dir j).keys) × ((j : ℕ) → j < l.i → get_or l.gone j 0 ≡ (chunk_at l.s l.dir j).marks % 65536 * 2))))
+
+abbrev pub decreases-loop-i : goal.decreases-loop-i
+decreases-loop-i l = l.n - l.i

@@ -1,0 +1,10 @@
+use mathlib.Core.Path.{sym, ◌∙◌}
+use Rattle.shares.proofs.Levels.{within_of}
+use borrow.Author.Rules.{rules}
+use Rattle.shares.proofs.live.Goals as goal
+
+pub count-requires : goal.count-requires
+count-requires c =
+    let k = c in
+    let w = within_of _ _ (sym k.is_within.ensures ∙ c.if-is_within.true) in
+    (k.requires, (w, w))

@@ -1,0 +1,15 @@
+use Prim.Native.Nat.{◌-◌, ◌*◌, ◌≤◌}
+use mathlib.Core.Path.{◌≡◌, refl}
+use native.Mathlib.Omega.{arith}
+use lib.ListN.{length}
+use borrow.Author.Rules.{rules}
+use Rattle.levels.specs.Map.{unmarked}
+use Rattle.shares.specs.Shadow.{shadow_from}
+use Rattle.shares.proofs.Rows.{Counts, counts_of_lem}
+use Rattle.shares.proofs.shown.Given as goal
+
+abbrev pub invariant-loop-i : goal.invariant-loop-i
+invariant-loop-i l = (l.i ≤ l.dir.chunks) × ((l.total ≤ 16 * l.i) × (l.total ≡ length (unmarked (shadow_from l.s l.dir l.gone 0 l.i))))
+
+abbrev pub decreases-loop-i : goal.decreases-loop-i
+decreases-loop-i l = l.n - l.i

@@ -1,0 +1,13 @@
+use Prim.Native.Nat.{◌-◌, ◌≤◌}
+use mathlib.Core.Path.{◌≡◌, refl, sym}
+use native.Mathlib.Omega.{arith}
+use lib.ListN.{length, length-set, take, drop}
+use Rattle.slices.specs.Slices.{put_at}
+use Rattle.slices.proofs.Put.{put_none, down_more}
+use Rattle.slices.proofs.copy_down.Given as goal
+
+abbrev pub invariant-loop-i : goal.invariant-loop-i
+invariant-loop-i l = (l.i ≤ l.n) × ((length l.s ≡ length l.initial.s) × (l.s ≡ put_at l.to (take l.i (drop l.from l.initial.s)) l.initial.s))
+
+abbrev pub decreases-loop-i : goal.decreases-loop-i
+decreases-loop-i l = l.n - l.i

@@ -1,0 +1,23 @@
+use Prim.Native.Nat.{◌-◌, ◌≤◌}
+use mathlib.Core.Path.{◌≡◌, refl}
+use native.Mathlib.Omega.{arith}
+use lib.ListN.{take, drop}
+use borrow.Author.Rules.{rules}
+use Rattle.slices.specs.Ranks.{count_below}
+use Rattle.slices.proofs.Ranks.{count_more}
+use Rattle.slices.proofs.count_few.Goals as goal
+
+pub loop-i-init : goal.loop-i-init
+unfolding count_below
+loop-i-init c = (omega arith, (omega arith, refl))
+
+pub loop-i-preserved : goal.loop-i-preserved
+loop-i-preserved c =
+    let a = c in
+    let l = c.loop-i in
+    let w = c.word-key.ensures.0 in
+    let m = count_more a.args.k a.args.from l.i a.args.s.now (omega arith) a.requires.1 (rw (← w) c.word-key.ensures.1) in
+    (omega arith, (omega arith, rw (w, l.invariant.1.1) m))
+
+pub returns : goal.returns
+returns c = let e : c.loop-i.i ≡ c.args.n = omega arith in rw e at c.loop-i.invariant.1.1

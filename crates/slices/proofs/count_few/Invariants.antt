@@ -1,0 +1,14 @@
+use Prim.Native.Nat.{◌-◌, ◌≤◌}
+use mathlib.Core.Path.{◌≡◌, refl}
+use native.Mathlib.Omega.{arith}
+use lib.ListN.{take, drop}
+use borrow.Author.Rules.{rules}
+use Rattle.slices.specs.Ranks.{count_below}
+use Rattle.slices.proofs.Ranks.{count_more}
+use Rattle.slices.proofs.count_few.Given as goal
+
+abbrev pub invariant-loop-i : goal.invariant-loop-i
+invariant-loop-i l = (l.i ≤ l.n) × ((l.below ≤ l.i) × (l.below ≡ count_below l.k (take l.i (drop l.from l.s))))
+
+abbrev pub decreases-loop-i : goal.decreases-loop-i
+decreases-loop-i l = l.n - l.i
