@@ -62,13 +62,13 @@ unfolding passed
 returns-then-not-level_formed c =
     let k3 = c in
     let k2 = k3 in
-    rw (h1 k2, h2 k2, h3 k3, ← c.top_of-d0.ensures, ← c.level_formed.ensures, c.if-not-level_formed.true)
+    rw (h1 (goal.at.returns-then-not-level_formed c).Else-not-header_ok, h2 (goal.at.returns-then-not-level_formed c).Else-not-lists_ok, h3 (goal.at.returns-then-not-level_formed c).Else-not-spare_ok, ← c.top_of-d0.ensures, ← c.level_formed.ensures, c.if-not-level_formed.true)
 
 pub level_formed-requires-2 : goal.level_formed-requires-2
 level_formed-requires-2 c =
     let k3 = c in
     let k2 = k3 in
-    rw c.level_of-d1.ensures (within_level _ _ (headed k2) (h2 k2) 1 (omega arith) (omega arith))
+    rw c.level_of-d1.ensures (within_level _ _ (headed (goal.at.level_formed-requires-2 c).Else-not-header_ok) (h2 (goal.at.level_formed-requires-2 c).Else-not-lists_ok) 1 (omega arith) (omega arith))
 
 pub returns-then-not-level_formed-2 : goal.returns-then-not-level_formed-2
 unfolding passed
@@ -76,14 +76,14 @@ returns-then-not-level_formed-2 c =
     let k4 = c in
     let k3 = k4 in
     let k2 = k3 in
-    rw (h1 k2, h2 k2, h3 k3, h4 k4, ← c.level_of-d1.ensures, ← c.level_formed-2.ensures, c.if-not-level_formed-2.true)
+    rw (h1 (goal.at.returns-then-not-level_formed-2 c).Else-not-header_ok, h2 (goal.at.returns-then-not-level_formed-2 c).Else-not-lists_ok, h3 (goal.at.returns-then-not-level_formed-2 c).Else-not-spare_ok, h4 (goal.at.returns-then-not-level_formed-2 c).Else-not-level_formed, ← c.level_of-d1.ensures, ← c.level_formed-2.ensures, c.if-not-level_formed-2.true)
 
 pub level_formed-requires-3 : goal.level_formed-requires-3
 level_formed-requires-3 c =
     let k4 = c in
     let k3 = k4 in
     let k2 = k3 in
-    rw c.level_of-d2.ensures (within_level _ _ (headed k2) (h2 k2) 2 (omega arith) (omega arith))
+    rw c.level_of-d2.ensures (within_level _ _ (headed (goal.at.level_formed-requires-3 c).Else-not-header_ok) (h2 (goal.at.level_formed-requires-3 c).Else-not-lists_ok) 2 (omega arith) (omega arith))
 
 pub returns-then-not-level_formed-3 : goal.returns-then-not-level_formed-3
 unfolding passed
@@ -92,7 +92,7 @@ returns-then-not-level_formed-3 c =
     let k4 = k5 in
     let k3 = k4 in
     let k2 = k3 in
-    rw (h1 k2, h2 k2, h3 k3, h4 k4, h5 k5, ← c.level_of-d2.ensures, ← c.level_formed-3.ensures, c.if-not-level_formed-3.true)
+    rw (h1 (goal.at.returns-then-not-level_formed-3 c).Else-not-header_ok, h2 (goal.at.returns-then-not-level_formed-3 c).Else-not-lists_ok, h3 (goal.at.returns-then-not-level_formed-3 c).Else-not-spare_ok, h4 (goal.at.returns-then-not-level_formed-3 c).Else-not-level_formed, h5 (goal.at.returns-then-not-level_formed-3 c).Else-not-level_formed-2, ← c.level_of-d2.ensures, ← c.level_formed-3.ensures, c.if-not-level_formed-3.true)
 
 pub level_of-d3-requires : goal.level_of-d3-requires
 level_of-d3-requires c = (c.requires, (omega arith, omega arith))
@@ -103,7 +103,7 @@ level_formed-requires-4 c =
     let k4 = k5 in
     let k3 = k4 in
     let k2 = k3 in
-    rw c.level_of-d3.ensures (within_level _ _ (headed k2) (h2 k2) 3 (omega arith) (omega arith))
+    rw c.level_of-d3.ensures (within_level _ _ (headed (goal.at.level_formed-requires-4 c).Else-not-header_ok) (h2 (goal.at.level_formed-requires-4 c).Else-not-lists_ok) 3 (omega arith) (omega arith))
 
 pub returns-then-not-level_formed-4 : goal.returns-then-not-level_formed-4
 unfolding passed
@@ -113,7 +113,7 @@ returns-then-not-level_formed-4 c =
     let k4 = k5 in
     let k3 = k4 in
     let k2 = k3 in
-    rw (h1 k2, h2 k2, h3 k3, h4 k4, h5 k5, h6 k6, ← c.level_of-d3.ensures, ← c.level_formed-4.ensures, c.if-not-level_formed-4.true)
+    rw (h1 (goal.at.returns-then-not-level_formed-4 c).Else-not-header_ok, h2 (goal.at.returns-then-not-level_formed-4 c).Else-not-lists_ok, h3 (goal.at.returns-then-not-level_formed-4 c).Else-not-spare_ok, h4 (goal.at.returns-then-not-level_formed-4 c).Else-not-level_formed, h5 (goal.at.returns-then-not-level_formed-4 c).Else-not-level_formed-2, h6 (goal.at.returns-then-not-level_formed-4 c).Else-not-level_formed-3, ← c.level_of-d3.ensures, ← c.level_formed-4.ensures, c.if-not-level_formed-4.true)
 
 pub word-live-requires : goal.word-live-requires
 word-live-requires c = omega (arith, fitted_live _ _ c.requires)
@@ -126,12 +126,12 @@ live-requires c =
     let k4 = k5 in
     let k3 = k4 in
     let k2 = k3 in
-    let hd = headed k2 in
+    let hd = headed (goal.at.live-requires c).Else-not-header_ok in
     record {
-      formed0 = rw k4.top_of-d0.ensures (formed_all _ _ (within_top _ _ hd) (h4 k4));
-      formed1 = rw k5.level_of-d1.ensures (formed_all _ _ (within_level _ _ hd (h2 k2) 1 (omega arith) (omega arith)) (h5 k5));
-      formed2 = rw k6.level_of-d2.ensures (formed_all _ _ (within_level _ _ hd (h2 k2) 2 (omega arith) (omega arith)) (h6 k6));
-      formed3 = rw k7.level_of-d3.ensures (formed_all _ _ (within_level _ _ hd (h2 k2) 3 (omega arith) (omega arith)) (h7 k7));
+      formed0 = rw k4.top_of-d0.ensures (formed_all _ _ (within_top _ _ hd) (h4 (goal.at.live-requires c).Else-not-level_formed));
+      formed1 = rw k5.level_of-d1.ensures (formed_all _ _ (within_level _ _ hd (h2 (goal.at.live-requires c).Else-not-lists_ok) 1 (omega arith) (omega arith)) (h5 (goal.at.live-requires c).Else-not-level_formed-2));
+      formed2 = rw k6.level_of-d2.ensures (formed_all _ _ (within_level _ _ hd (h2 (goal.at.live-requires c).Else-not-lists_ok) 2 (omega arith) (omega arith)) (h6 (goal.at.live-requires c).Else-not-level_formed-3));
+      formed3 = rw k7.level_of-d3.ensures (formed_all _ _ (within_level _ _ hd (h2 (goal.at.live-requires c).Else-not-lists_ok) 3 (omega arith) (omega arith)) (h7 (goal.at.live-requires c).Else-not-level_formed-4));
     }
 
 pub returns : goal.returns
@@ -143,4 +143,4 @@ returns c =
     let k4 = k5 in
     let k3 = k4 in
     let k2 = k3 in
-    rw (h1 k2, h2 k2, h3 k3, h4 k4, h5 k5, h6 k6, h7 k7, c.word-live.ensures.0, c.live.ensures, k4.top_of-d0.ensures, k5.level_of-d1.ensures, k6.level_of-d2.ensures, k7.level_of-d3.ensures)
+    rw (h1 (goal.at.returns c).Else-not-header_ok, h2 (goal.at.returns c).Else-not-lists_ok, h3 (goal.at.returns c).Else-not-spare_ok, h4 (goal.at.returns c).Else-not-level_formed, h5 (goal.at.returns c).Else-not-level_formed-2, h6 (goal.at.returns c).Else-not-level_formed-3, h7 (goal.at.returns c).Else-not-level_formed-4, c.word-live.ensures.0, c.live.ensures, k4.top_of-d0.ensures, k5.level_of-d1.ensures, k6.level_of-d2.ensures, k7.level_of-d3.ensures)
