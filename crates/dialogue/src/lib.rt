@@ -163,7 +163,7 @@ fn print_whole(out: &mut [u8], at: usize, letter: u8, changed: Changed, rows: &[
         × (SumsFit (changed_answer changed) × (merges_counted (changed_answer changed) ≤ merges_most)) }
     ensures { (result ≤ at + longest_answer (length rows.now))
         × Printed out.old out.new at result
-        (changedLine letter (changedAnswer changed) ++ ticketLines (map ticketFrom (take (mergesCounted (changedAnswer changed)) rows.now))) }
+        (changed_line letter (changed_answer changed) ++ ticket_lines (map ticket_from (take (merges_counted (changed_answer changed)) rows.now))) }
 {
     let end = print_changed(out, at, letter, changed);
     print_tickets(out, end, rows, writer::merges(changed))

@@ -310,7 +310,7 @@ pub extern "C" fn mewilovang_format(
     p: u32,
 ) -> Formatted
     ensures { ◌≡◌ {A = Outcome Formatted} (record { answer = result; words = store.new })
-        (formattedOutcome (format_of store.old (record { b = b; w = w; d = d; g = g; h = h; p = p }))) }
+        (formatted_outcome (format_of store.old (record { b = b; w = w; d = d; g = g; h = h; p = p }))) }
 {
     format_reply(store::format(store, b, w, d, g, h, p))
 }
@@ -345,7 +345,7 @@ pub extern "C" fn mewilovang_stretch(
     payloads: &mut [u32],
 ) -> Stretched
     ensures { ◌≡◌ {A = StretchOutcome Stretched} (record { answer = result; keys = keys.new; pays = payloads.new })
-        (stretchedOutcome (stretchOf store.now first last keys.old payloads.old)) }
+        (stretched_outcome (stretch_of store.now first last keys.old payloads.old)) }
 {
     stretch_reply(store::stretch(store, first, last, keys, payloads))
 }

@@ -126,7 +126,7 @@ pub fn list_stretch(
 ) -> Stretched
     requires { Passed z s.now × ((first < 4294967296) × (last < 4294967296)) }
     ensures { ◌≡◌ {A = StretchOutcome StretchAnswer} (record { answer = stretch_answer result; keys = keys.new; pays = pays.new })
-        (filled (stretch first last (mapOf (rows (storeAt z s.now)))) keys.old pays.old) }
+        (filled (stretch first last (map_of (rows (store_at z s.now)))) keys.old pays.old) }
 {
     let levels = form::levels_of(s, z);
     let listed = walk::list_stretch(s, levels, first, last, keys, pays);

@@ -98,7 +98,7 @@ pub fn next(s: &[u32], k: u32) -> Nexted
 // (document 02, card 1).
 pub fn stretch(s: &[u32], first: u32, last: u32, keys: &mut [u32], pays: &mut [u32]) -> Stretched
     ensures { ◌≡◌ {A = StretchOutcome StretchAnswer} (record { answer = stretch_answer result; keys = keys.new; pays = pays.new })
-        (stretchOf s.now first last keys.old pays.old) }
+        (stretch_of s.now first last keys.old pays.old) }
 {
     match form::check(s) {
         Opened::Refused(n) => Stretched::Refused(n),

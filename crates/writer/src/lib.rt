@@ -48,7 +48,7 @@ pub enum Forecast {
 pub fn put_ready(s: &mut [u32], z: Layout, k: u32, v: u32, rows: &mut [[u32; 4]]) -> Changed
     requires { Passed z s.old }
     ensures { ◌≡◌ {A = Outcome ChangeAnswer} (record { answer = changed_answer result; words = s.new })
-        (changeOutcome z s.old (put z.geo (storeAt z s.old) k v))
+        (change_outcome z s.old (put z.geo (store_at z s.old) k v))
         × (rows.new ≡ laid (rows_of (tickets_of z.geo (merges_of (put z.geo (store_at z s.old) k v)))) rows.old) }
 {
     let was = is_live(reader::find_key(s, z, k as usize));
@@ -76,7 +76,7 @@ pub fn put_ready(s: &mut [u32], z: Layout, k: u32, v: u32, rows: &mut [[u32; 4]]
 pub fn delete_ready(s: &mut [u32], z: Layout, k: u32, rows: &mut [[u32; 4]]) -> Changed
     requires { Passed z s.old }
     ensures { ◌≡◌ {A = Outcome ChangeAnswer} (record { answer = changed_answer result; words = s.new })
-        (changeOutcome z s.old (delete z.geo (storeAt z s.old) k))
+        (change_outcome z s.old (delete z.geo (store_at z s.old) k))
         × (rows.new ≡ laid (rows_of (tickets_of z.geo (merges_of (delete z.geo (store_at z s.old) k)))) rows.old) }
 {
     let was = is_live(reader::find_key(s, z, k as usize));

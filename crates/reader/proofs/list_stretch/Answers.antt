@@ -1,0 +1,19 @@
+use native.Mathlib.Omega.{arith}
+use Rattle.form.proofs.Ready.{ready_sized, ready_levels}
+use Rattle.reader.proofs.Answering.{stretch_levels}
+use borrow.Author.Rules.{rules}
+use Rattle.reader.proofs.list_stretch.Goals as goal
+
+pub levels_of-levels-requires : goal.levels_of-levels-requires
+levels_of-levels-requires c = ready_sized _ _ c.requires.0
+
+pub list_stretch-listed-requires : goal.list_stretch-listed-requires
+list_stretch-listed-requires c = let a = c in (rw c.levels_of-levels.ensures (ready_levels _ _ a.requires.0), a.requires.1)
+
+pub overflow_cast-result : goal.overflow_cast-result
+overflow_cast-result c = omega (arith, c.list_stretch-listed.ensures.1)
+
+pub returns : goal.returns
+returns c =
+    let a = c in
+    rw (← stretch_levels a.args.s.now a.args.z a.requires.0 a.args.first a.args.last) (rw c.levels_of-levels.ensures at c.list_stretch-listed.ensures.0)

@@ -1,0 +1,5 @@
+use borrow.Author.Rules.{rules}
+use Rattle.reader.proofs.look_answer.Goals as goal
+
+pub returns : goal.returns
+returns c = rw (c.in-Here.is, c.if-m.false)
