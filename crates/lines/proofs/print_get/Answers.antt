@@ -1,0 +1,14 @@
+use native.Mathlib.Omega.{arith}
+use Rattle.lines.specs.Lines.{get_line}
+use Rattle.lines.proofs.Print.{printed_then}
+use borrow.Author.Rules.{rules}
+use Rattle.lines.proofs.print_get.Goals as goal
+
+pub returns : goal.returns
+unfolding get_line
+returns c =
+    let l = c.print_pair-reason_at.ensures in
+    let f1 = c.print_field-found_at.ensures in
+    let f2 = c.print_field-payload_at.ensures in
+    let f3 = c.print_field.ensures in
+    (omega arith, printed_then _ _ _ _ _ _ _ _ l.1 (printed_then _ _ _ _ _ _ _ _ f1.1 (printed_then _ _ _ _ _ _ _ _ f2.1 f3.1)))
