@@ -1,6 +1,6 @@
 -- Level 0's edits against the words of a store, for the calls.
-use Prim.Native.Nat.{ℕ, zero, suc, ◌+◌, ◌*◌, ◌^◌, ◌≤◌}
-use mathlib.Core.Path.{◌≡◌, sym, ap, ◌∙◌}
+use Prim.Native.Nat.{ℕ, zero, suc, ◌+◌, ◌*◌, ◌^◌, ◌≤◌, ◌<◌}
+use mathlib.Core.Path.{◌≡◌, sym, ap, ◌∙◌, subst}
 use mathlib.Core.Bool.{true}
 use mathlib.Core.List.{List, [], ◌∷◌, ◌++◌, map}
 use native.Mathlib.Nat.{add-zero}
@@ -51,6 +51,12 @@ held_ready z ws rs k n l o c r =
       unused = rw (c, s, pad_blank (top_capacity_of z.geo) rs) m;
       rises = rw (c, s, take-append_seam rs) r;
     }
+
+-- the first word of a piece that nothing is laid over
+set_front : (ps : List Piece) (p : Piece) (qs : List Piece) (ws : List ℕ) (x : ℕ) → 0 < length p.words → Every (Clear p.at 1) qs → set (lay_all (ps ++ (p ∷ qs)) ws) p.at x ≡ lay_all (ps ++ (piece p.at (set p.words 0 x) ∷ qs)) ws
+set_front ps p qs ws x h o =
+    subst (λ (a : ℕ). set (lay_all (ps ++ (p ∷ qs)) ws) a x ≡ lay_all (ps ++ (piece p.at (set p.words 0 x) ∷ qs)) ws) (add-zero p.at)
+    (set_piece ps p qs ws 0 x h (subst (λ (a : ℕ). Every (Clear a 1) qs) (sym (add-zero p.at)) o))
 
 -- level 0's pieces laid over others of level 0
 top_over : (z : Layout) (ws : List ℕ) (rs ss : List Rec) → Proper z → length ws ≡ z.length → length rs ≤ top_capacity_of z.geo → length ss ≤ top_capacity_of z.geo → lay_all (top_pieces z rs) (lay_all (top_pieces z ss) ws) ≡ lay_all (top_pieces z rs) ws
@@ -103,7 +109,7 @@ module _ (z : Layout) (t : Store) (ws : List ℕ) (k : Proper z) (f : Fits z.geo
   -- live, and nothing else
   pub set_live : (x : ℕ) → set us z.live x ≡ with_store z (record { live = x; cursor = t.cursor; top = t.top; levels = t.levels }) ws
   unfolding with_store pieces
-  set_live x = rw add-zero at (set_piece [] (piece z.live (t.live ∷ [])) (hand ∷ sizes (length t.top) ∷ counts ∷ (top_pieces z t.top ++ lists)) ws 0 x (omega arith) (rw add-zero (pieces_apart z t k f).0))
+  set_live x = set_front [] (piece z.live (t.live ∷ [])) (hand ∷ sizes (length t.top) ∷ counts ∷ (top_pieces z t.top ++ lists)) ws x (omega arith) (pieces_apart z t k f).0
 
   -- other records in level 0's words are the words with the store that has these records
   pub with_top_words : (rs : List Rec) → length rs ≤ top_capacity_of z.geo → with_top z us rs ≡ with_store z (record { live = t.live; cursor = t.cursor; top = rs; levels = t.levels }) ws
@@ -116,7 +122,7 @@ module _ (z : Layout) (t : Store) (ws : List ℕ) (k : Proper z) (f : Fits z.geo
       let m : length (lay_all tops xs) ≡ length ws = lay_all_length tops xs ∙ lay_all_length (head ++ (sizes (length rs) ∷ counts ∷ [])) ws in
       let d = (lists_stacked z t.levels 1 (omega arith) (room_fits z.geo t f)).0 in
       let e = (top_stacked z rs k l).1 in
-      ap (lay_all new) (rw add-zero at (set_piece head (sizes (length t.top)) (counts ∷ (tops ++ lists)) ws 0 (length rs) (omega arith) (rw add-zero (pieces_apart z t k f).1.1.0)))
+      ap (lay_all new) (set_front head (sizes (length t.top)) (counts ∷ (tops ++ lists)) ws (length rs) (omega arith) (pieces_apart z t k f).1.1.0)
       ∙ ap (lay_all new) (lay_all_append tops lists xs)
       ∙ lay_all_across lists new (lay_all tops xs) (rw m (pieces_in z t ws k f n).1.1.1.1.1.1.1) (top_within z k (lay_all tops xs) rs (m ∙ n) l)
       (every_turn (λ q. ending q ≤ z.lists) (λ q. Every (λ p. Clear p.at (length p.words) q) lists) new (λ q h. stacked_over lists (list_start z 1) q (omega (arith, lists_first z, h)) d) e)

@@ -1,0 +1,11 @@
+use Rattle.levels.specs.Store.{rows}
+use Rattle.levels.specs.Inside.{load}
+use Rattle.steps.specs.Running.{store_of}
+use Rattle.cascade.proofs.Rolling.{Turn}
+use Rattle.cascade.proofs.merge_below.Given as goal
+
+abbrev pub invariant-loop-z : goal.invariant-loop-z
+invariant-loop-z l = Turn 98304 l.z l.initial.s l.initial.lists l.initial.v l.initial.rows l.s l.lists l.v l.rows l.filed
+
+abbrev pub decreases-loop-z : goal.decreases-loop-z
+decreases-loop-z l = load (rows (store_of l.z l.s l.lists l.v))

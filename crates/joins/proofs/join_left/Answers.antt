@@ -1,0 +1,32 @@
+use native.Mathlib.Omega.{arith}
+use mathlib.Core.Path.{◌∙◌}
+use borrow.Author.Tests.{eq-eqb, ne_eqb, le-leb, lt-leb}
+use native.Mathlib.Nat.{le_refl}
+use Rattle.joins.specs.Joins.{left_joined}
+use Rattle.joins.proofs.Laws.{pull_able}
+use Rattle.sides.proofs.Laws.{last_low}
+use Rattle.joins.proofs.join_left.Goals as goal
+
+pub returns-then-n-eq0 : goal.returns-then-n-eq0
+unfolding left_joined
+returns-then-n-eq0 c = rw (eq-eqb _ _ c.if-n-eq0.true)
+
+pub overflow_add-e : goal.overflow_add-e
+overflow_add-e c =
+    let l = last_low c.args.z c.args.s.now c.args.out.now c.args.st.m c.requires.sized (λ i. (c.shared_slice_known-1.given i).fits) in
+    let e = c.last_size-e.ensures in
+    let f = c.requires.few in
+    omega arith
+
+pub pull_last-requires : goal.pull_last-requires
+pull_last-requires c =
+    let n = c.if-n-eq0.false in
+    pull_able c.args.z c.args.s.now c.args.out.now c.args.st c.args.st.buf.n c.requires (omega arith) (le_refl _) (rw (← c.last_size-e.ensures) c.if-e-n.true)
+
+pub returns-then-e-n : goal.returns-then-e-n
+unfolding left_joined
+returns-then-e-n c = let h = le-leb _ _ c.if-e-n.true in c.pull_last.ensures ∙ rw (ne_eqb _ _ c.if-n-eq0.false, ← c.last_size-e.ensures, h)
+
+pub returns : goal.returns
+unfolding left_joined
+returns c = let h = lt-leb _ _ c.if-e-n.false in rw (ne_eqb _ _ c.if-n-eq0.false, ← c.last_size-e.ensures, h)

@@ -1,0 +1,40 @@
+use Prim.Native.Nat.{◌-◌}
+use mathlib.Core.Path.{refl, ◌∙◌}
+use native.Mathlib.Omega.{arith}
+use Rattle.steps.proofs.Merging.{level_low, two_ready, two_few, two_words, two_merged}
+use Rattle.steps.proofs.merge_two.Goals as goal
+
+pub offset_bounds-ns-level : goal.offset_bounds-ns-level
+offset_bounds-ns-level c = let k = c.requires.0 in omega (arith, level_low _ _ _ _ k.proper k.facts, k.proper.valid.ranged.h_high)
+
+pub bounds-ns-level : goal.bounds-ns-level
+bounds-ns-level c = let k = c.requires.0 in omega (arith, level_low _ _ _ _ k.proper k.facts, k.proper.valid.ranged.h_high)
+
+pub offset_bounds-ns-level-2 : goal.offset_bounds-ns-level-2
+offset_bounds-ns-level-2 c = let k = c.requires.0 in omega (arith, level_low _ _ _ _ k.proper k.facts, k.proper.valid.ranged.h_high)
+
+pub bounds-ns-level-2 : goal.bounds-ns-level-2
+bounds-ns-level-2 c = let k = c.requires.0 in omega (arith, level_low _ _ _ _ k.proper k.facts, k.proper.valid.ranged.h_high)
+
+pub merge_pair-m-requires : goal.merge_pair-m-requires
+merge_pair-m-requires c = two_ready _ _ _ _ _ c.requires.0 _ c.requires.1.0 (c.args.level - 1) (omega (arith, c.requires.1.1))
+
+pub overflow_add-level : goal.overflow_add-level
+overflow_add-level c = let k = c.requires.0 in omega (arith, level_low _ _ _ _ k.proper k.facts, k.proper.valid.ranged.h_high)
+
+pub count-more-requires : goal.count-more-requires
+count-more-requires c =
+    let w = two_few _ _ _ _ _ c.requires.0 c.args.used.now c.requires.1.0 (c.args.level - 1) (omega (arith, c.requires.1.1)) _ _ _ _ c.merge_pair-m.ensures in
+    (c.requires.0.small, record { merges = omega arith; written = w; compacted = omega arith })
+
+pub relist-upper-requires : goal.relist-upper-requires
+relist-upper-requires c = let k = c.requires.0 in omega (arith, level_low _ _ _ _ k.proper k.facts, k.proper.valid.ranged.h_high)
+
+pub relist-requires : goal.relist-requires
+relist-requires c = let k = c.requires.0 in omega (arith, level_low _ _ _ _ k.proper k.facts, k.proper.valid.ranged.h_high)
+
+pub ticket-requires : goal.ticket-requires
+ticket-requires c = two_words _ _ _ _ _ c.requires.0 c.args.used.now c.requires.1.0 (c.args.level - 1) (omega (arith, c.requires.1.1)) _ _ _ _ c.merge_pair-m.ensures
+
+pub returns : goal.returns
+returns c = two_merged _ _ _ _ _ c.requires.0 c.args.used.now c.requires.1.0 (c.args.level - 1) (omega (arith, c.requires.1.1)) _ _ _ _ c.merge_pair-m.ensures _ _ _ _ c.count-more.ensures (c.relist.ensures ∙ rw c.relist-upper.ensures) c.ticket.ensures refl

@@ -1,0 +1,30 @@
+use borrow.Author.Tests.{le-leb, lt-leb}
+use native.Mathlib.Omega.{arith}
+use mathlib.Core.Path.{◌∙◌}
+use Rattle.stream.specs.Machine.{gathered}
+use Rattle.stream.proofs.gather.Goals as goal
+
+pub returns-then-bottom-head : goal.returns-then-bottom-head
+unfolding gathered
+returns-then-bottom-head c = rw c.if-bottom-head.true
+
+pub flush-requires : goal.flush-requires
+flush-requires c =
+    let s = c in
+    let p = c.push-more.ensures in
+    record { sized = s.requires.0.sized; cursor = s.requires.0.cursor; full = rw p (omega (arith, s.requires.1, s.requires.0.sized)); room = s.requires.0.room; count = s.requires.0.count; free = s.requires.0.free }
+
+pub returns-then-b-n : goal.returns-then-b-n
+unfolding gathered
+returns-then-b-n c =
+    let k = c in
+    let p = k.push-more.ensures in
+    let h = le-leb _ _ (rw p at k.if-b-n.true) in
+    c.flush.ensures ∙ rw (p, k.if-bottom-head.false, h)
+
+pub returns : goal.returns
+unfolding gathered
+returns c =
+    let p = c.push-more.ensures in
+    let h = lt-leb _ _ (rw p at c.if-b-n.false) in
+    rw (p, c.if-bottom-head.false, h)
