@@ -1,0 +1,19 @@
+use native.Mathlib.Omega.{arith}
+use Rattle.top.proofs.Words.{ready_bounds}
+use Rattle.writer.specs.Change.{with_entered}
+use Rattle.writer.proofs.Entering.{room_is, ready_live}
+use borrow.Author.Rules.{rules}
+use Rattle.writer.proofs.place_record.Goals as goal
+
+pub enter-requires : goal.enter-requires
+enter-requires c = let p = c.requires in (p.0, (p.1.0, room_is _ _ _ p.1.1))
+
+pub offset_bounds-s-spot : goal.offset_bounds-s-spot
+offset_bounds-s-spot c = omega (arith, ready_bounds _ _ c.requires.0, ready_live _ _ c.requires.0)
+
+pub bounds-s-spot : goal.bounds-s-spot
+bounds-s-spot c = omega (arith, c.enter.auto.s, ready_live _ _ c.requires.0)
+
+pub returns : goal.returns
+unfolding with_entered
+returns c = rw c.enter.ensures
