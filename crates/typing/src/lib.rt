@@ -2,8 +2,11 @@
 // the dialogue's; here bytes are only read, fed and written.
 #![tactic(auto)]
 
-ghost use Rattle.std.specs.Prelude.{◌≡◌, ◌*◌, ◌≤◌, length};
+ghost use Rattle.std.specs.Prelude.{◌≡◌, ◌*◌, ◌≤◌, length, OnOk};
+ghost use Rattle.std.specs.Io.{ReadsAtMost, WritesAtMost};
+ghost use Rattle.std.specs.Io.KnownBytes.{Appends, ReadConsumes, WriteAppends};
 ghost use Rattle.dialogue.specs.Said.{tickets_most, longest_answer};
+ghost use Rattle.typing.specs.Typed.{Answers, AnswersBegin, Begins};
 
 use dialogue::State;
 use std::io;
@@ -15,7 +18,10 @@ pub const LONGEST_LINE: usize = dialogue::LONGEST_LINE;
 pub const TICKETS_MOST: usize = dialogue::TICKETS_MOST;
 
 // One read. One that a signal interrupts before it moves a byte is made again.
-fn read_in<R: Read>(reader: &mut R, input: &mut [u8]) -> io::Result<usize> {
+fn read_in<R: Read>(reader: &mut R, input: &mut [u8]) -> io::Result<usize>
+    ensures bound { ReadsAtMost result input.new }
+    ensures bytes { ReadConsumes (R.remaining reader.old) (R.remaining reader.new) result input.new }
+{
     for _ in 0..u64::MAX {
         match reader.read(input) {
             Ok(n) => return Ok(n),
@@ -29,14 +35,47 @@ fn read_in<R: Read>(reader: &mut R, input: &mut [u8]) -> io::Result<usize> {
     reader.read(input)
 }
 
-// Writes all bytes, or says why it cannot. A write that a signal interrupts before it moves a byte is made again.
-fn write_out<W: Write>(writer: &mut W, bytes: &[u8]) -> io::Result<()> {
-    writer.write_all(bytes)
+// One write, likewise.
+fn write_some<W: Write>(writer: &mut W, bytes: &[u8]) -> io::Result<usize>
+    ensures bound { WritesAtMost result bytes.now }
+    ensures bytes { WriteAppends (W.contents writer.old) (W.contents writer.new) result bytes.now }
+{
+    for _ in 0..u64::MAX {
+        match writer.write(bytes) {
+            Ok(n) => return Ok(n),
+            Err(e) => {
+                if e.kind() != ErrorKind::Interrupted {
+                    return Err(e);
+                }
+            }
+        }
+    }
+    writer.write(bytes)
+}
+
+// Writes all bytes, or says why it cannot.
+fn write_out<W: Write>(writer: &mut W, bytes: &[u8]) -> io::Result<()>
+    ensures all { OnOk result (Appends (W.contents writer.old) (W.contents writer.new) bytes.now) }
+    ensures begun { Begins bytes.now (W.contents writer.old) (W.contents writer.new) }
+{
+    let mut from = 0;
+    for _ in 0..bytes.len() {
+        if from >= bytes.len() {
+            return Ok(());
+        }
+        let put = write_some(writer, &bytes[from..])?;
+        if put == 0 {
+            return Err(io::Error::from(ErrorKind::WriteZero));
+        }
+        from += put;
+    }
+    Ok(())
 }
 
 // The input is read, as many bytes at once as there is room for, until a read gives nothing; for each of them there must be room for
-// an answer. No contract can speak of what is read and written: this one says that both buffers come back whole, and nothing of their
-// bytes. A read that fails ends the program without an answer to the line that has begun, because half a line may say what the whole
+// an answer. Both buffers come back whole. Where the reader's bytes and the writer's are known, what is written is what the dialogue
+// says of the input: all of it if no read and no write fails, and else its beginning. The only errors are those of the reader and the
+// writer. A read that fails ends the program without an answer to the line that has begun, because half a line may say what the whole
 // line does not. Rattle wants a bound on every loop; this one is more reads than any run makes.
 pub fn run<R: Read, W: Write>(
     tickets: usize,
@@ -46,7 +85,9 @@ pub fn run<R: Read, W: Write>(
     out: &mut [u8],
 ) -> io::Result<()>
     requires { (tickets ≤ tickets_most) × ((1 ≤ length input.old) × (longest_answer tickets * length input.old ≤ length out.old)) }
-    ensures { (length input.new ≡ length input.old) × (length out.new ≡ length out.old) }
+    ensures whole { (length input.new ≡ length input.old) × (length out.new ≡ length out.old) }
+    ensures answers { OnOk result (Answers tickets (R.remaining reader.old) (W.contents writer.old) (W.contents writer.new)) }
+    ensures begun { AnswersBegin tickets (R.remaining reader.old) (W.contents writer.old) (W.contents writer.new) }
 {
     let mut space = [0u32; dialogue::BENCH_WORDS];
     let words: &mut [u32] = &mut space;
