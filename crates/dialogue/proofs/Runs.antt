@@ -52,7 +52,7 @@ abbrev pub parts_of : List FeedCall → List (List ℕ)
 parts_of cs = map (λ (c : FeedCall). c.part) cs
 
 -- the bytes that stand at the front of a buffer are those printed from place 0 on
-printed_front : (before after bs : List ℕ) (r : ℕ) → Printed before after 0 r bs → take r after ≡ bs
+pub printed_front : (before after bs : List ℕ) (r : ℕ) → Printed before after 0 r bs → take r after ≡ bs
 unfolding put_at
 printed_front before after bs r p = ap (take r) p.words ∙ take_at bs (drop (0 + length bs) before) r (sym (p.ends ∙ zero-add (length bs)))
 

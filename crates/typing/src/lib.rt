@@ -1,74 +1,108 @@
-// The call list programs' reading and writing: standard input to its end, and the answers to its lines to standard output. What is
-// printed is the dialogue's; here bytes are only read, fed and written.
+// The call list programs' reading and writing: the input to its end, and the answers to its lines to the output. What is printed is
+// the dialogue's; here bytes are only read, fed and written.
 #![tactic(auto)]
 
-ghost use Rattle.std.specs.Prelude.{◌≡◌, ◌*◌, ◌≤◌, length};
+ghost use Rattle.std.specs.Prelude.{◌≡◌, ◌*◌, ◌≤◌, length, OnOk};
+ghost use Rattle.std.specs.Io.{ReadsAtMost, WritesAtMost};
+ghost use Rattle.std.specs.Io.KnownBytes.{Appends, ReadConsumes, WriteAppends};
 ghost use Rattle.dialogue.specs.Said.{tickets_most, longest_answer};
+ghost use Rattle.typing.specs.Typed.{Answers, AnswersBegin, Begins};
 
 use dialogue::State;
-use libc::{EINTR, STDIN_FILENO, STDOUT_FILENO};
+use std::io;
+use std::io::{ErrorKind, Read, Write};
 
 // For the programs' buffers: no line that is printed has more bytes, and no program prints more tickets for a call.
 pub const LONGEST_LINE: usize = dialogue::LONGEST_LINE;
 
 pub const TICKETS_MOST: usize = dialogue::TICKETS_MOST;
 
-// Writes all bytes, or says why it cannot. A write that a signal interrupts before it moves a byte is made again.
-fn write_out(bytes: &[u8]) -> bool {
-    let mut from = 0;
-    let mut turns = u64::MAX;
-    while turns > 0 {
-        turns -= 1;
-        if from >= bytes.len() {
-            return true;
-        }
-        let put = libc::write(STDOUT_FILENO, &bytes[from..]);
-        if put <= 0 {
-            if (put < 0) & (os::errno() == EINTR) {
-                continue;
+// One read. One that a signal interrupts before it moves a byte is made again.
+fn read_in<R: Read>(reader: &mut R, input: &mut [u8]) -> io::Result<usize>
+    ensures bound { ReadsAtMost result input.new }
+    ensures bytes { ReadConsumes (R.remaining reader.old) (R.remaining reader.new) result input.new }
+{
+    for _ in 0..u64::MAX {
+        match reader.read(input) {
+            Ok(n) => return Ok(n),
+            Err(e) => {
+                if e.kind() != ErrorKind::Interrupted {
+                    return Err(e);
+                }
             }
-            os::fail(&[b'w', b'r', b'i', b't', b'e']);
-            return false;
         }
-        from += io::count(put, &bytes[from..]);
     }
-    false
+    reader.read(input)
+}
+
+// One write, likewise.
+fn write_some<W: Write>(writer: &mut W, bytes: &[u8]) -> io::Result<usize>
+    ensures bound { WritesAtMost result bytes.now }
+    ensures bytes { WriteAppends (W.contents writer.old) (W.contents writer.new) result bytes.now }
+{
+    for _ in 0..u64::MAX {
+        match writer.write(bytes) {
+            Ok(n) => return Ok(n),
+            Err(e) => {
+                if e.kind() != ErrorKind::Interrupted {
+                    return Err(e);
+                }
+            }
+        }
+    }
+    writer.write(bytes)
+}
+
+// Writes all bytes, or says why it cannot.
+fn write_out<W: Write>(writer: &mut W, bytes: &[u8]) -> io::Result<()>
+    ensures all { OnOk result (Appends (W.contents writer.old) (W.contents writer.new) bytes.now) }
+    ensures begun { Begins bytes.now (W.contents writer.old) (W.contents writer.new) }
+{
+    let mut from = 0;
+    for _ in 0..bytes.len() {
+        if from >= bytes.len() {
+            return Ok(());
+        }
+        let put = write_some(writer, &bytes[from..])?;
+        if put == 0 {
+            return Err(io::Error::from(ErrorKind::WriteZero));
+        }
+        from += put;
+    }
+    Ok(())
 }
 
 // The input is read, as many bytes at once as there is room for, until a read gives nothing; for each of them there must be room for
-// an answer. No contract can speak of what is read and written: this one says that both buffers come back whole, and nothing of their
-// bytes. A read that fails ends the program without an answer to the line that has begun, because half a line may say what the whole
+// an answer. Both buffers come back whole. Where the reader's bytes and the writer's are known, what is written is what the dialogue
+// says of the input: all of it if no read and no write fails, and else its beginning. The only errors are those of the reader and the
+// writer. A read that fails ends the program without an answer to the line that has begun, because half a line may say what the whole
 // line does not. Rattle wants a bound on every loop; this one is more reads than any run makes.
-pub fn run(tickets: usize, input: &mut [u8], out: &mut [u8])
+pub fn run<R: Read, W: Write>(
+    tickets: usize,
+    reader: &mut R,
+    writer: &mut W,
+    input: &mut [u8],
+    out: &mut [u8],
+) -> io::Result<()>
     requires { (tickets ≤ tickets_most) × ((1 ≤ length input.old) × (longest_answer tickets * length input.old ≤ length out.old)) }
-    ensures { (length input.new ≡ length input.old) × (length out.new ≡ length out.old) }
+    ensures whole { (length input.new ≡ length input.old) × (length out.new ≡ length out.old) }
+    ensures answers { OnOk result (Answers tickets (R.remaining reader.old) (W.contents writer.old) (W.contents writer.new)) }
+    ensures begun { AnswersBegin tickets (R.remaining reader.old) (W.contents writer.old) (W.contents writer.new) }
 {
     let mut space = [0u32; dialogue::BENCH_WORDS];
     let words: &mut [u32] = &mut space;
     let mut state = State::start(tickets);
-    let mut turns = u64::MAX;
-    while turns > 0 {
-        turns -= 1;
-        let got = libc::read(STDIN_FILENO, input);
-        if got < 0 {
-            if os::errno() == EINTR {
-                continue;
-            }
-            os::fail(&[b'r', b'e', b'a', b'd']);
-            return;
-        }
-        let n = io::count(got, input);
+    for _ in 0..u64::MAX {
+        let n = read_in(reader, input)?;
         if n == 0 {
             let last = dialogue::finish(words, state, out);
             let end = last.bytes;
-            write_out(&out[..end]);
-            return;
+            return write_out(writer, &out[..end]);
         }
         let fed = dialogue::feed(words, state, &input[..n], out);
         let end = fed.bytes;
-        if !write_out(&out[..end]) {
-            return;
-        }
+        write_out(writer, &out[..end])?;
         state = fed.state;
     }
+    Ok(())
 }
