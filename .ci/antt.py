@@ -6,6 +6,8 @@ closing bracket), or is a clause of the one before.
 import glob
 import re
 
+# What is written of the proof of a function F, in proofs/F/.
+PROOFS = ("/Answers.antt", "/Invariants.antt", "/Proof.antt")
 
 
 class Declaration:
@@ -64,6 +66,8 @@ class File:
         self.path = path
         _, self.crate, self.folder, rest = path.split("/", 3)
         self.module = rest.removesuffix(".antt")
+        # a proof of a function of src/, and no file of declarations
+        self.is_proof = self.folder == "proofs" and rest.endswith(PROOFS)
         text = re.sub(r"(?m)(^|\s)--( .*)?$", r"\1", open(path).read())
         self.uses, self.qualified = imports(text)
         self.declarations = declared(text.split("\n"))
@@ -92,6 +96,7 @@ def crates():
     for line in open("crates.txt"):
         line = line.split("#")[0].strip()
         if line:
+            # NAME, and then its kind (staticlib) and what rt is to know of it
             name, _, rest = line.partition(":")
-            uses[name] = rest.split()
+            uses[name.split()[0]] = rest.split()
     return uses

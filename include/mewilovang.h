@@ -5,7 +5,7 @@
  * you lend to each call. Keys and payloads are any 32-bit numbers. The library keeps nothing between calls, takes no
  * memory of its own but stack, reads no file and prints nothing: the words that you lend are the whole store.
  *
- * Link with target/staticlib/libmewilovang.a (x86-64 Linux). Of the C library it uses memcpy and memset alone.
+ * Link with crates/mewilovang/out/libmewilovang.a (x86-64 Linux). Of the C library it uses memcpy and memset alone.
  *
  *
  * WHAT YOU LEND

@@ -1,15 +1,15 @@
-// Links the archive that `rt staticlib mewilovang` leaves beside the crates.
+// Links the archive that `rt lib` leaves in the folder of the crate mewilovang.
 
 use std::env;
 use std::path::Path;
 
 fn main() {
     let here = env::var("CARGO_MANIFEST_DIR").expect("cargo names the package's folder");
-    let folder = Path::new(&here).join("../target/staticlib");
+    let folder = Path::new(&here).join("../crates/mewilovang/out");
     let archive = folder.join("libmewilovang.a");
     if !archive.exists() {
         panic!(
-            "{} is missing: run `rt staticlib mewilovang` first",
+            "{} is missing: run `rt lib` in crates/mewilovang first",
             archive.display()
         );
     }

@@ -65,7 +65,7 @@ fn history(
         .map(|step| format!("({})", list(&step.answer)))
         .collect();
     format!(
-        "\n-- {merges} merges\npub history-{number} : agrees (expand ({})) ({} ∷ []) ({} ∷ []) (expand ({})) ≡ true\nunfolding agrees perform\nhistory-{number} = refl\n",
+        "\n-- {merges} merges\npub history_{number} : agrees (expand ({})) ({} ∷ []) ({} ∷ []) (expand ({})) ≡ true\nunfolding agrees perform\nhistory_{number} = refl\n",
         list(&counted(&start)),
         acts.join(" ∷ "),
         answers.join(" ∷ "),
@@ -122,10 +122,10 @@ fn run(
 fn step(random: &mut Random, words: &mut [u32], line: Line) -> Step {
     let (act, (answer, merges)) = match line {
         Line::Put(key, payload) => (
-            format!("putKey {key} {payload}"),
+            format!("put_key {key} {payload}"),
             calls::put_listed(words, key, payload),
         ),
-        Line::Delete(key) => (format!("delKey {key}"), calls::delete_listed(words, key)),
+        Line::Delete(key) => (format!("del_key {key}"), calls::delete_listed(words, key)),
         Line::Get(key) => return reading(random, words, key),
         // A stream has none of these.
         Line::Format(_) => return reading(random, words, 0),
@@ -140,9 +140,9 @@ fn step(random: &mut Random, words: &mut [u32], line: Line) -> Step {
 /// What the put or delete of this line will do, for card 5.
 fn forecast(words: &[u32], line: &Line) -> Option<Step> {
     let (act, answer) = match *line {
-        Line::Put(key, _) => (format!("willPut {key}"), calls::will_put_merge(words, key)),
+        Line::Put(key, _) => (format!("will_put {key}"), calls::will_put_merge(words, key)),
         Line::Delete(key) => (
-            format!("willDelete {key}"),
+            format!("will_delete {key}"),
             calls::will_delete_merge(words, key),
         ),
         _ => return None,
@@ -178,7 +178,7 @@ fn stretch(random: &mut Random, words: &[u32]) -> Step {
     let mut keys: Vec<u32> = (601..).take(length).collect();
     let mut payloads: Vec<u32> = (801..).take(other).collect();
     let act = format!(
-        "stretchKeys {first} {last} ({}) ({})",
+        "stretch_keys {first} {last} ({}) ({})",
         list(&keys),
         list(&payloads)
     );
@@ -198,14 +198,14 @@ fn reading(random: &mut Random, words: &[u32], key: u32) -> Step {
         1 => {
             let answer = calls::look_up(words, key);
             (
-                format!("lookUpKey {key}"),
+                format!("look_up_key {key}"),
                 vec![answer.refusal, u32::from(answer.found), answer.payload],
             )
         }
         2 => {
             let answer = calls::next(words, key);
             (
-                format!("nextKey {key}"),
+                format!("next_key {key}"),
                 vec![
                     answer.refusal,
                     u32::from(answer.found),
@@ -217,7 +217,7 @@ fn reading(random: &mut Random, words: &[u32], key: u32) -> Step {
         _ => {
             let level = random.below(4) as u32;
             (
-                format!("showKey {level} {key}"),
+                format!("show_key {level} {key}"),
                 calls::show(words, level, key).to_vec(),
             )
         }
@@ -261,8 +261,6 @@ fn list(numbers: &[u32]) -> String {
 
 const HEAD: &str = "-- Short histories from stores that no call list reaches: the calls' definitions, computed, agree with the reference
 -- implementation in every answer and every word. Made by reference/src/bin/histories.rs; do not edit.
-use mathlib.Core.Path.{_≡_, refl}
-use mathlib.Core.Bool.{true}
-use mathlib.Core.List.{[], _∷_}
-use Rattle·words.specs.Bench.{check, lookUpKey, nextKey, showKey, putKey, delKey, stretchKeys, willPut, willDelete, perform, expand, agrees}
+use Rattle.std.specs.Prelude.{◌≡◌, refl, true, [], ◌∷◌}
+use Rattle.words.specs.Bench.{check, look_up_key, next_key, show_key, put_key, del_key, stretch_keys, will_put, will_delete, perform, expand, agrees}
 ";
