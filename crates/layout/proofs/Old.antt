@@ -1,5 +1,5 @@
 -- Document 01's form: it is proper, its parts follow each other without gap or overlap, and its length fits its type.
-use Prim.Native.Nat.{suc, ◌+◌, ◌-◌, ◌≤◌, ◌<◌}
+use Prim.Native.Nat.{suc, ◌+◌, ◌≤◌, ◌<◌}
 use mathlib.Core.Path.{◌≡◌, refl}
 use mathlib.Core.Logic.{inr}
 use native.Mathlib.Nat.{mul-le-mul_left}

@@ -20,7 +20,6 @@ use Rattle.words.specs.Stores.{keys_of, pays_of}
 use Rattle.words.specs.Form.{reason_of}
 use Rattle.words.specs.Calls.{StretchAnswer, StretchOutcome, over, filled, map_at, stretch_of}
 use Rattle.words.proofs.MapAfter.{map_rises}
-use Rattle.layout.specs.Layouts.{old}
 
 -- Of words that pass, "The list is the map's stretch cut at that length"; others are turned down, and no entry of an array changes.
 pub stretch_map : (ws : List ℕ) (first last : ℕ) (keys pays : List ℕ) → reason_of ws ≡ 0 → stretch_of ws first last keys pays ≡ filled (stretch first last (map_at ws)) keys pays

@@ -1,9 +1,6 @@
 use Rattle.chunks.proofs.Slots.{clean_zero, clean_start, clean_next, clean_end}
 use native.Mathlib.Omega.{arith}
-use Prim.Native.Nat.{◌≤◌, ◌+◌, ◌-◌}
-use mathlib.Core.Path.{◌≡◌, sym, ◌∙◌}
-use mathlib.Core.Bool.{◌&&◌}
-use Rattle.chunks.specs.Chunks.{clean_of}
+use mathlib.Core.Path.{sym, ◌∙◌}
 use borrow.Author.Rules.{rules}
 use Rattle.chunks.proofs.clean.Goals as goal
 

@@ -1,10 +1,7 @@
-use Rattle.chunks.proofs.Slots.{clean_zero, clean_start, clean_next, clean_end}
-use native.Mathlib.Omega.{arith}
 use Prim.Native.Nat.{◌≤◌, ◌+◌, ◌-◌}
-use mathlib.Core.Path.{◌≡◌, sym, ◌∙◌}
+use mathlib.Core.Path.{◌≡◌}
 use mathlib.Core.Bool.{◌&&◌}
 use Rattle.chunks.specs.Chunks.{clean_of}
-use borrow.Author.Rules.{rules}
 use Rattle.chunks.proofs.clean.Given as goal
 
 abbrev pub invariant-loop-j : goal.invariant-loop-j

@@ -1,5 +1,4 @@
 use Rattle.chunks.proofs.Slots.{rise_clean}
-use borrow.Author.Rules.{rules}
 use Rattle.chunks.proofs.rise_over.Goals as goal
 
 pub returns-then-clean : goal.returns-then-clean

@@ -1,8 +1,7 @@
 use Rattle.chunks.proofs.Slots.{rise_start, rise_end, rise_low, rise_two, rise_second, rise_last}
 use native.Mathlib.Omega.{arith}
-use Prim.Native.Nat.{ℕ, ◌≤◌, ◌+◌, ◌-◌}
-use mathlib.Core.Path.{◌≡◌, refl, sym, ◌∙◌}
-use Rattle.chunks.specs.Chunks.{rise_of}
+use Prim.Native.Nat.{◌+◌}
+use mathlib.Core.Path.{refl, sym, ◌∙◌}
 use borrow.Author.Rules.{rules}
 use Rattle.chunks.proofs.rise_plain.Goals as goal
 

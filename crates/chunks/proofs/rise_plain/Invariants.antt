@@ -1,9 +1,6 @@
-use Rattle.chunks.proofs.Slots.{rise_start, rise_end, rise_low, rise_two, rise_second, rise_last}
-use native.Mathlib.Omega.{arith}
 use Prim.Native.Nat.{ℕ, ◌≤◌, ◌+◌, ◌-◌}
-use mathlib.Core.Path.{◌≡◌, refl, sym, ◌∙◌}
+use mathlib.Core.Path.{◌≡◌}
 use Rattle.chunks.specs.Chunks.{rise_of}
-use borrow.Author.Rules.{rules}
 use Rattle.chunks.proofs.rise_plain.Given as goal
 
 abbrev pub invariant-loop-j : goal.invariant-loop-j

@@ -1,8 +1,6 @@
 use Rattle.chunks.proofs.Slots.{zeros_start, zeros_end, zeros_next, zeros_stop}
 use native.Mathlib.Omega.{arith}
-use Prim.Native.Nat.{◌≤◌, ◌+◌, ◌-◌}
-use mathlib.Core.Path.{◌≡◌, sym, ◌∙◌}
-use Rattle.chunks.specs.Chunks.{zeros_at}
+use mathlib.Core.Path.{sym, ◌∙◌}
 use borrow.Author.Rules.{rules}
 use Rattle.chunks.proofs.zeros.Goals as goal
 

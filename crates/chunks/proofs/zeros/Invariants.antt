@@ -1,9 +1,6 @@
-use Rattle.chunks.proofs.Slots.{zeros_start, zeros_end, zeros_next, zeros_stop}
-use native.Mathlib.Omega.{arith}
 use Prim.Native.Nat.{◌≤◌, ◌+◌, ◌-◌}
-use mathlib.Core.Path.{◌≡◌, sym, ◌∙◌}
+use mathlib.Core.Path.{◌≡◌}
 use Rattle.chunks.specs.Chunks.{zeros_at}
-use borrow.Author.Rules.{rules}
 use Rattle.chunks.proofs.zeros.Given as goal
 
 abbrev pub invariant-loop-i : goal.invariant-loop-i

@@ -2,7 +2,6 @@ use native.Mathlib.Omega.{arith}
 use Prim.Native.Nat.{◌+◌}
 use Rattle.directory.specs.Directory.{chunk_at}
 use Rattle.directory.proofs.Laws.{page_in}
-use borrow.Author.Rules.{rules}
 use Rattle.directory.proofs.chunk_at.Goals as goal
 
 pub overflow_add-x : goal.overflow_add-x

@@ -1,6 +1,5 @@
 use borrow.Author.Tests.{lt-leb, le-leb}
 use Rattle.directory.specs.Directory.{kept_of}
-use borrow.Author.Rules.{rules}
 use Rattle.directory.proofs.kept.Goals as goal
 
 pub returns-then-n-lt1 : goal.returns-then-n-lt1

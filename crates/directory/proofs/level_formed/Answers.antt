@@ -1,11 +1,10 @@
-use borrow.Author.Tests.{not-true, not-false}
 use mathlib.Core.Bool.{not}
 use native.Mathlib.Nat.{mul-le-mul}
 use native.Mathlib.Omega.{arith}
 use borrow.Author.Rules.{rules}
-use Prim.Native.Nat.{◌≤◌, ◌*◌, ◌-◌}
+use Prim.Native.Nat.{◌≤◌}
 use mathlib.Core.Path.{◌≡◌, sym, ap, ◌∙◌}
-use Rattle.directory.specs.Directory.{pass_of, level_formed}
+use Rattle.directory.specs.Directory.{level_formed}
 use Rattle.directory.proofs.Laws.{chunk_room, kept_count, pass_unkept, pass_broken, pass_next, pass_end_top, pass_end_listed, pass_start}
 use Rattle.directory.proofs.level_formed.Goals as goal
 

@@ -1,5 +1,4 @@
 use borrow.Author.Tests.{lt-ltb, le-ltb}
-use borrow.Author.Rules.{rules}
 use Rattle.directory.proofs.page_at.Goals as goal
 
 pub returns-then-left-width : goal.returns-then-left-width

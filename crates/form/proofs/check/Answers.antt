@@ -1,7 +1,6 @@
 use mathlib.Core.Path.{sym, ◌∙◌}
 use Rattle.layout.proofs.Opening.{opened_ready}
 use Rattle.form.proofs.Ready.{checked_opened, checked_passed, checked_broken}
-use borrow.Author.Rules.{rules}
 use Rattle.form.proofs.check.Goals as goal
 
 pub passes-requires : goal.passes-requires

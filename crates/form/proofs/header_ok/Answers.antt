@@ -1,7 +1,6 @@
 use native.Mathlib.Omega.{arith}
 use Rattle.layout.proofs.Laws.{fitted_count, fitted_hand, fitted_live, fitted_spots}
 use Rattle.form.proofs.Steps.{header_is}
-use borrow.Author.Rules.{rules}
 use Rattle.form.proofs.header_ok.Goals as goal
 
 pub word-live-requires : goal.word-live-requires

@@ -1,7 +1,6 @@
 use native.Mathlib.Omega.{arith}
 use Rattle.layout.proofs.Laws.{fitted_count}
 use Rattle.form.specs.Form.{level_of}
-use borrow.Author.Rules.{rules}
 use Rattle.form.proofs.level_of.Goals as goal
 
 pub word-n-requires : goal.word-n-requires

@@ -1,10 +1,6 @@
-use native.Mathlib.Omega.{arith}
 use Prim.Native.Nat.{◌≤◌, ◌+◌, ◌-◌}
-use mathlib.Core.Path.{◌≡◌, sym, ◌∙◌}
-use mathlib.Core.Bool.{false≢true}
+use mathlib.Core.Path.{◌≡◌}
 use Rattle.form.specs.Form.{fresh_of, mark_of}
-use Rattle.form.proofs.Steps.{fresh_high, fresh_used, fresh_next, mark_next, fresh_start, mark_start, fresh_end, mark_end}
-use borrow.Author.Rules.{rules}
 use Rattle.form.proofs.list_fresh.Given as goal
 
 abbrev pub invariant-loop-i : goal.invariant-loop-i

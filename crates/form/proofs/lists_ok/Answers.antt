@@ -1,8 +1,6 @@
 use native.Mathlib.Omega.{arith}
-use Prim.Native.Nat.{◌≤◌, ◌+◌, ◌-◌}
-use mathlib.Core.Path.{◌≡◌, sym, ◌∙◌}
-use borrow.Author.Tests.{not-true, not-false}
-use Rattle.form.specs.Form.{lists_ok, lists_from}
+use mathlib.Core.Path.{sym, ◌∙◌}
+use Rattle.form.specs.Form.{lists_ok}
 use Rattle.form.proofs.Steps.{list_room_lem, lists_unfresh, lists_unzero, lists_next, lists_start, lists_end}
 use borrow.Author.Rules.{rules}
 use Rattle.form.proofs.lists_ok.Goals as goal

@@ -2,8 +2,6 @@ use Rattle.layout.proofs.Laws.{fitted_live}
 use native.Mathlib.Omega.{arith}
 use mathlib.Core.Path.{◌≡◌, sym, ◌∙◌}
 use mathlib.Core.Bool.{true}
-use borrow.Author.Tests.{not-true, not-false}
-use borrow.Author.Rules.{rules}
 use Rattle.directory.specs.Directory.{level_formed}
 use Rattle.directory.proofs.Laws.{formed_all}
 use Rattle.form.specs.Form.{Headed, header_ok, lists_ok, spare_ok, top_of, level_of, passed}

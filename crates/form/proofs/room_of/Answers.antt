@@ -1,7 +1,6 @@
 use native.Mathlib.Omega.{arith}
 use borrow.Author.Tests.{le-leb, lt-leb}
 use Rattle.words.specs.Form.{room_of}
-use borrow.Author.Rules.{rules}
 use Rattle.form.proofs.room_of.Goals as goal
 
 pub returns-then-i-h : goal.returns-then-i-h

@@ -1,7 +1,5 @@
 use native.Mathlib.Omega.{arith}
-use borrow.Author.Tests.{not-true, not-false}
 use Rattle.form.proofs.Steps.{spare_in, spare_is}
-use borrow.Author.Rules.{rules}
 use Rattle.form.proofs.spare_ok.Goals as goal
 
 pub overflow_sub-left : goal.overflow_sub-left

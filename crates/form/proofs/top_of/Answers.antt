@@ -1,7 +1,6 @@
 use native.Mathlib.Omega.{arith}
 use Rattle.layout.proofs.Laws.{fitted_count}
 use Rattle.form.specs.Form.{top_of}
-use borrow.Author.Rules.{rules}
 use Rattle.form.proofs.top_of.Goals as goal
 
 pub word-records-requires : goal.word-records-requires

@@ -1,7 +1,6 @@
 use mathlib.Core.Path.{sym, ◌∙◌}
 use Rattle.geometry.proofs.Laws.{built_valid}
 use Rattle.layout.proofs.Opening.{fit_short, fit_broken, fit_other, fit_ready}
-use borrow.Author.Rules.{rules}
 use Rattle.layout.proofs.fit.Goals as goal
 
 pub returns-then-n-lt12 : goal.returns-then-n-lt12

@@ -1,6 +1,5 @@
 use Rattle.layout.specs.Opening.{opened_of}
 use Rattle.layout.proofs.Opening.{opened_short}
-use borrow.Author.Rules.{rules}
 use Rattle.layout.proofs.open.Goals as goal
 
 pub returns-then-s-lt12 : goal.returns-then-s-lt12

@@ -1,6 +1,5 @@
 use native.Mathlib.Omega.{arith}
 use native.Mathlib.Nat.{mul-le-mul}
-use borrow.Author.Rules.{rules}
 use Rattle.levels.proofs.is_wasteful.Goals as goal
 
 pub overflow_mul-slots : goal.overflow_mul-slots

@@ -2,7 +2,6 @@ use mathlib.Core.Path.{sym, ◌∙◌}
 use borrow.Author.Tests.{eq-eqb, ne_eqb}
 use Rattle.lines.specs.Machine.{after_digits}
 use Rattle.lines.proofs.Laws.{digit_low}
-use borrow.Author.Rules.{rules}
 use Rattle.lines.proofs.after_digits.Goals as goal
 
 pub returns-then-byte-eq32 : goal.returns-then-byte-eq32

@@ -1,6 +1,5 @@
 use borrow.Author.Tests.{eq-eqb, ne_eqb}
 use Rattle.lines.specs.Machine.{after_letter}
-use borrow.Author.Rules.{rules}
 use Rattle.lines.proofs.after_letter.Goals as goal
 
 pub returns-then-byte-eq32 : goal.returns-then-byte-eq32

@@ -1,9 +1,8 @@
 use mathlib.Core.Bool.{and-false}
 use mathlib.Core.Path.{sym, ◌∙◌}
-use borrow.Author.Tests.{lt-ltb, le-ltb, not-true, not-false}
+use borrow.Author.Tests.{lt-ltb, le-ltb}
 use Rattle.lines.specs.Machine.{after_space}
 use Rattle.lines.proofs.Laws.{digit_low}
-use borrow.Author.Rules.{rules}
 use Rattle.lines.proofs.after_space.Goals as goal
 
 pub returns-then-not-is_digit : goal.returns-then-not-is_digit

@@ -1,5 +1,4 @@
 use Rattle.lines.specs.Machine.{after_start}
-use borrow.Author.Rules.{rules}
 use Rattle.lines.proofs.after_start.Goals as goal
 
 pub returns-then-is_letter : goal.returns-then-is_letter

@@ -3,7 +3,6 @@ use Prim.Native.Nat.{◌+◌, ◌*◌, ◌<◌, ◌≤◌}
 use Rattle.lines.specs.Lines.{word_limit}
 use borrow.Author.Tests.{lt-ltb, le-ltb}
 use Rattle.lines.specs.Machine.{grown}
-use borrow.Author.Rules.{rules}
 use Rattle.lines.proofs.grow.Goals as goal
 
 pub returns-then-v-lt4294967296 : goal.returns-then-v-lt4294967296

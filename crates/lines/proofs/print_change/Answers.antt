@@ -1,7 +1,6 @@
 use native.Mathlib.Omega.{arith}
 use Rattle.lines.specs.Lines.{change_line}
 use Rattle.lines.proofs.Print.{printed_then}
-use borrow.Author.Rules.{rules}
 use Rattle.lines.proofs.print_change.Goals as goal
 
 pub returns : goal.returns

@@ -4,7 +4,6 @@ use lib.ListN.{length}
 use Rattle.lines.specs.Lines.{field}
 use Rattle.lines.proofs.Digits.{decimal_length}
 use Rattle.lines.proofs.Print.{printed_one, printed_then}
-use borrow.Author.Rules.{rules}
 use Rattle.lines.proofs.print_field.Goals as goal
 
 pub print_number-end-requires : goal.print_number-end-requires

@@ -1,7 +1,6 @@
 use native.Mathlib.Omega.{arith}
 use Rattle.lines.specs.Lines.{get_line}
 use Rattle.lines.proofs.Print.{printed_then}
-use borrow.Author.Rules.{rules}
 use Rattle.lines.proofs.print_get.Goals as goal
 
 pub returns : goal.returns

@@ -1,7 +1,6 @@
 use native.Mathlib.Omega.{arith}
 use Rattle.lines.proofs.Print.{printed_pair}
 use lib.ListN.{length-set}
-use borrow.Author.Rules.{rules}
 use Rattle.lines.proofs.print_pair.Goals as goal
 
 pub bounds-out-at-2 : goal.bounds-out-at-2

@@ -1,6 +1,5 @@
 use native.Mathlib.Omega.{arith}
 use Rattle.lines.specs.Lines.{unreadable_line}
-use borrow.Author.Rules.{rules}
 use Rattle.lines.proofs.print_unreadable.Goals as goal
 
 pub returns : goal.returns

@@ -3,7 +3,6 @@ use Rattle.geometry.proofs.Laws.{key_limit_word}
 use Rattle.layout.proofs.Laws.{fitted_spots}
 use Rattle.form.proofs.Ready.{ready_sized}
 use Rattle.reader.proofs.Answering.{facts_told}
-use borrow.Author.Rules.{rules}
 use Rattle.reader.proofs.facts_of.Goals as goal
 
 pub offset_bounds-s-six : goal.offset_bounds-s-six

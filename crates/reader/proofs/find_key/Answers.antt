@@ -1,7 +1,6 @@
 use native.Mathlib.Omega.{arith}
 use Rattle.form.proofs.Ready.{ready_sized, ready_levels}
 use Rattle.reader.proofs.Answering.{found_levels}
-use borrow.Author.Rules.{rules}
 use Rattle.reader.proofs.find_key.Goals as goal
 
 pub top_of-d0-requires : goal.top_of-d0-requires

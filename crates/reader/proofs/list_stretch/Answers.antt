@@ -1,7 +1,6 @@
 use native.Mathlib.Omega.{arith}
 use Rattle.form.proofs.Ready.{ready_sized, ready_levels}
 use Rattle.reader.proofs.Answering.{stretch_levels}
-use borrow.Author.Rules.{rules}
 use Rattle.reader.proofs.list_stretch.Goals as goal
 
 pub levels_of-levels-requires : goal.levels_of-levels-requires

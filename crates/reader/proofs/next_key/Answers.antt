@@ -5,7 +5,6 @@ use Rattle.walk.specs.Walk.{layered}
 use Rattle.form.specs.Form.{levels_of}
 use Rattle.form.proofs.Ready.{ready_sized, ready_levels}
 use Rattle.reader.proofs.Answering.{next_levels, next_at, next_nothing}
-use borrow.Author.Rules.{rules}
 use Rattle.reader.proofs.next_key.Goals as goal
 
 pub levels_of-levels-requires : goal.levels_of-levels-requires

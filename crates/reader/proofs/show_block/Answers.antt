@@ -2,7 +2,6 @@ use native.Mathlib.Omega.{arith}
 use mathlib.Core.Path.{sym, ◌∙◌}
 use Rattle.form.proofs.Ready.{ready_sized}
 use Rattle.reader.proofs.Answering.{ready_level, part_low, part_high, part_none, shown_in, shown_place, part_at}
-use borrow.Author.Rules.{rules}
 use Rattle.reader.proofs.show_block.Goals as goal
 
 pub returns-then-level-lt1 : goal.returns-then-level-lt1

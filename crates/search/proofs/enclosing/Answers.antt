@@ -1,6 +1,5 @@
 use Rattle.search.proofs.Laws.{rank_ready}
 use Rattle.search.proofs.Enclose.{enclosed_empty, enclosed_read}
-use borrow.Author.Rules.{rules}
 use Rattle.search.proofs.enclosing.Goals as goal
 
 pub returns-then-n-lt1 : goal.returns-then-n-lt1

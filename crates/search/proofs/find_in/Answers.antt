@@ -1,6 +1,5 @@
 use native.Mathlib.Omega.{arith}
 use Rattle.search.proofs.Laws.{empty_level, chunk_ready, rank_ready, level_here, level_absent}
-use borrow.Author.Rules.{rules}
 use Rattle.search.proofs.find_in.Goals as goal
 
 pub returns-then-n-lt1 : goal.returns-then-n-lt1

@@ -1,7 +1,5 @@
-use borrow.Author.Rules.{rules}
 use native.Mathlib.Omega.{arith}
-use Prim.Native.Nat.{◌≤◌, ◌<◌, ◌+◌, ◌-◌, ◌/◌}
-use Rattle.search.specs.Search.{first_at}
+use Prim.Native.Nat.{◌+◌, ◌-◌, ◌/◌}
 use Rattle.search.proofs.Laws.{chunk_ready, first_read, sought_one}
 use Rattle.search.proofs.seek_chunk.Goals as goal
 

@@ -1,10 +1,8 @@
-use Prim.Native.Nat.{◌-◌, ◌*◌, ◌%◌, ◌≤◌, ◌<◌, ℕ}
-use mathlib.Core.Path.{◌≡◌, refl, ap}
+use Prim.Native.Nat.{◌*◌, ◌%◌}
+use mathlib.Core.Path.{refl, ap}
 use native.Mathlib.Omega.{arith}
-use lib.ListN.{length, get_or, length-set}
-use borrow.Author.Rules.{rules}
+use lib.ListN.{length-set}
 use Rattle.chunks.specs.declared.Chunk.{Chunk}
-use Rattle.directory.specs.Directory.{chunk_at}
 use Rattle.directory.proofs.Laws.{chunk_room}
 use Rattle.shares.proofs.Rows.{filled_set, marks_show}
 use Rattle.shares.proofs.begin.Goals as goal

@@ -1,12 +1,7 @@
 use Prim.Native.Nat.{◌-◌, ◌*◌, ◌%◌, ◌≤◌, ◌<◌, ℕ}
-use mathlib.Core.Path.{◌≡◌, refl, ap}
-use native.Mathlib.Omega.{arith}
-use lib.ListN.{length, get_or, length-set}
-use borrow.Author.Rules.{rules}
-use Rattle.chunks.specs.declared.Chunk.{Chunk}
+use mathlib.Core.Path.{◌≡◌}
+use lib.ListN.{length, get_or}
 use Rattle.directory.specs.Directory.{chunk_at}
-use Rattle.directory.proofs.Laws.{chunk_room}
-use Rattle.shares.proofs.Rows.{filled_set, marks_show}
 use Rattle.shares.proofs.begin.Given as goal
 
 abbrev pub invariant-loop-i : goal.invariant-loop-i

@@ -1,11 +1,8 @@
 use Prim.Native.Nat.{◌-◌, ◌*◌, ◌≤◌}
-use mathlib.Core.Path.{◌≡◌, refl}
+use mathlib.Core.Path.{◌≡◌}
 use mathlib.Core.List.{◌∷◌, []}
-use native.Mathlib.Omega.{arith}
 use lib.ListN.{take, drop}
-use borrow.Author.Rules.{rules}
 use Rattle.shares.specs.Shadow.{known_in, number}
-use Rattle.shares.proofs.Bits.{compare_more}
 use Rattle.shares.proofs.bits_of.Given as goal
 
 abbrev pub invariant-loop-k : goal.invariant-loop-k

@@ -5,7 +5,6 @@ use Rattle.levels.specs.Map.{unmarked}
 use Rattle.levels.specs.Record.{Rec}
 use mathlib.Core.List.{List}
 use Rattle.shares.proofs.Levels.{levels_live, two_live}
-use borrow.Author.Rules.{rules}
 use Rattle.shares.proofs.count.Goals as goal
 
 pub under_one-requires : goal.under_one-requires

@@ -1,11 +1,10 @@
-use borrow.Author.Rules.{rules}
 use native.Mathlib.Omega.{arith}
-use Prim.Native.Nat.{◌+◌, ◌-◌, ◌≤◌}
+use Prim.Native.Nat.{◌+◌, ◌≤◌}
 use mathlib.Core.Path.{◌≡◌, refl}
 use lib.ListN.{length}
 use Rattle.words.specs.Stores.{word}
 use Rattle.search.specs.Search.{first_at}
-use Rattle.shares.proofs.Seating.{Passing, passing_start, passing_few, passing_step, passing_end, started_first}
+use Rattle.shares.proofs.Seating.{passing_start, passing_few, passing_step, passing_end, started_first}
 use Rattle.shares.proofs.fences.Goals as goal
 use Rattle.shares.proofs.fences.Goals.{After-word-k}
 

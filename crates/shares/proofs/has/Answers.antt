@@ -1,6 +1,4 @@
-use native.Mathlib.Omega.{arith}
-use Rattle.shares.proofs.Hiding.{has_is, used_some}
-use borrow.Author.Rules.{rules}
+use Rattle.shares.proofs.Hiding.{has_is}
 use Rattle.shares.proofs.has.Goals as goal
 
 pub returns : goal.returns

@@ -1,12 +1,7 @@
-use Prim.Native.Nat.{◌-◌, ◌≤◌, ◌<◌}
-use mathlib.Core.Path.{◌≡◌, refl, ◌∙◌}
+use mathlib.Core.Path.{refl, ◌∙◌}
 use native.Mathlib.Omega.{arith}
-use lib.ListN.{length}
-use Rattle.directory.specs.Directory.{chunk_at}
-use Rattle.shares.specs.Shadow.{Begun}
 use Rattle.shares.proofs.Seating.{asked_of}
-use Rattle.shares.proofs.Hiding.{Left, left_start, left_turn, left_end, begun_first, begun_next}
-use borrow.Author.Rules.{rules}
+use Rattle.shares.proofs.Hiding.{left_start, left_turn, left_end, begun_first, begun_next}
 use Rattle.shares.proofs.hide_by.Goals as goal
 
 pub loop-i-init : goal.loop-i-init

@@ -1,12 +1,9 @@
 use Prim.Native.Nat.{◌-◌, ◌≤◌, ◌<◌}
-use mathlib.Core.Path.{◌≡◌, refl, ◌∙◌}
-use native.Mathlib.Omega.{arith}
+use mathlib.Core.Path.{◌≡◌}
 use lib.ListN.{length}
 use Rattle.directory.specs.Directory.{chunk_at}
 use Rattle.shares.specs.Shadow.{Begun}
-use Rattle.shares.proofs.Seating.{asked_of}
-use Rattle.shares.proofs.Hiding.{Left, left_start, left_turn, left_end, begun_first, begun_next}
-use borrow.Author.Rules.{rules}
+use Rattle.shares.proofs.Hiding.{Left}
 use Rattle.shares.proofs.hide_by.Given as goal
 
 abbrev pub invariant-loop-i : goal.invariant-loop-i

@@ -1,16 +1,8 @@
-use Prim.Native.Nat.{◌+◌, ◌-◌, ◌≤◌}
-use mathlib.Core.Path.{◌≡◌, refl, sym, ◌∙◌}
-use native.Mathlib.Omega.{arith}
-use lib.ListN.{length, get_or, take, drop, length-set}
-use Rattle.words.specs.Stores.{word}
-use Rattle.words.proofs.Ranks.{keys_slots}
-use Rattle.search.specs.Search.{Sought}
+use Prim.Native.Nat.{◌-◌, ◌≤◌}
+use mathlib.Core.Path.{◌≡◌}
+use lib.ListN.{length, take, drop}
 use Rattle.shares.specs.Shares.{hide}
 use Rattle.shares.specs.Shadow.{shadow}
-use Rattle.shares.proofs.Shares.{hide_nil}
-use Rattle.shares.proofs.Seating.{started_first}
-use Rattle.shares.proofs.Hiding.{hide_turn}
-use borrow.Author.Rules.{rules}
 use Rattle.shares.proofs.hide_chunk.Given as goal
 
 abbrev pub invariant-loop-l : goal.invariant-loop-l

@@ -1,12 +1,8 @@
-use Prim.Native.Nat.{◌-◌, ◌≤◌, ◌<◌}
-use mathlib.Core.Path.{◌≡◌, refl}
+use mathlib.Core.Path.{refl}
 use native.Mathlib.Omega.{arith}
-use lib.ListN.{length, length-set}
-use Rattle.directory.specs.Directory.{chunk_at}
-use Rattle.shares.specs.Shadow.{keys_in, Begun}
+use lib.ListN.{length-set}
 use Rattle.shares.proofs.Seating.{asked_of}
-use Rattle.shares.proofs.Hiding.{Half, half_start, half_turn, half_end, meet_word, begun_first, begun_next}
-use borrow.Author.Rules.{rules}
+use Rattle.shares.proofs.Hiding.{half_start, half_turn, half_end, meet_word, begun_first, begun_next}
 use Rattle.shares.proofs.hide_met.Goals as goal
 
 pub loop-i-init : goal.loop-i-init

@@ -1,12 +1,9 @@
 use Prim.Native.Nat.{◌-◌, ◌≤◌, ◌<◌}
-use mathlib.Core.Path.{◌≡◌, refl}
-use native.Mathlib.Omega.{arith}
-use lib.ListN.{length, length-set}
+use mathlib.Core.Path.{◌≡◌}
+use lib.ListN.{length}
 use Rattle.directory.specs.Directory.{chunk_at}
 use Rattle.shares.specs.Shadow.{keys_in, Begun}
-use Rattle.shares.proofs.Seating.{asked_of}
-use Rattle.shares.proofs.Hiding.{Half, half_start, half_turn, half_end, meet_word, begun_first, begun_next}
-use borrow.Author.Rules.{rules}
+use Rattle.shares.proofs.Hiding.{Half}
 use Rattle.shares.proofs.hide_met.Given as goal
 
 abbrev pub invariant-loop-i : goal.invariant-loop-i

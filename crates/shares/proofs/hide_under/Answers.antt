@@ -1,6 +1,5 @@
 use mathlib.Core.Path.{sym}
 use Rattle.shares.proofs.Levels.{no_chunks_hide, no_chunks_shadow}
-use borrow.Author.Rules.{rules}
 use Rattle.shares.proofs.hide_under.Goals as goal
 
 pub returns-then-m-lt1 : goal.returns-then-m-lt1

@@ -1,6 +1,5 @@
 use mathlib.Core.Path.{sym, ◌∙◌}
 use Rattle.shares.proofs.Levels.{within_of}
-use borrow.Author.Rules.{rules}
 use Rattle.shares.proofs.live.Goals as goal
 
 pub count-requires : goal.count-requires

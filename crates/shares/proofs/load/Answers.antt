@@ -1,4 +1,3 @@
-use borrow.Author.Rules.{rules}
 use native.Mathlib.Omega.{arith}
 use Rattle.shares.proofs.Seating.{front_is}
 use Rattle.shares.proofs.load.Goals as goal

@@ -1,14 +1,12 @@
-use Prim.Native.Nat.{◌+◌, ◌-◌, ◌*◌, ◌≤◌}
+use Prim.Native.Nat.{◌+◌, ◌-◌, ◌≤◌}
 use mathlib.Core.Path.{◌≡◌}
 use native.Mathlib.Omega.{arith}
-use lib.ListN.{length, get_or, take, drop}
+use lib.ListN.{length, get_or}
 use Rattle.words.specs.Stores.{word}
 use Rattle.words.proofs.Ranks.{keys_slots}
 use Rattle.search.specs.Search.{Sought}
-use Rattle.shares.specs.Shadow.{known_in, number, keys_in}
 use Rattle.shares.proofs.Seating.{asked_of}
 use Rattle.shares.proofs.Hiding.{no_bits, meet_turn}
-use borrow.Author.Rules.{rules}
 use Rattle.shares.proofs.meet_chunk.Goals as goal
 use Rattle.shares.proofs.meet_chunk.Goals.{In-loop-l}
 

@@ -1,14 +1,7 @@
-use Prim.Native.Nat.{◌+◌, ◌-◌, ◌*◌, ◌≤◌}
+use Prim.Native.Nat.{◌-◌, ◌*◌, ◌≤◌}
 use mathlib.Core.Path.{◌≡◌}
-use native.Mathlib.Omega.{arith}
-use lib.ListN.{length, get_or, take, drop}
-use Rattle.words.specs.Stores.{word}
-use Rattle.words.proofs.Ranks.{keys_slots}
-use Rattle.search.specs.Search.{Sought}
+use lib.ListN.{take, drop}
 use Rattle.shares.specs.Shadow.{known_in, number, keys_in}
-use Rattle.shares.proofs.Seating.{asked_of}
-use Rattle.shares.proofs.Hiding.{no_bits, meet_turn}
-use borrow.Author.Rules.{rules}
 use Rattle.shares.proofs.meet_chunk.Given as goal
 
 abbrev pub invariant-loop-l : goal.invariant-loop-l

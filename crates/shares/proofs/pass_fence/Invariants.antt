@@ -1,7 +1,5 @@
-use borrow.Author.Rules.{rules}
-use native.Mathlib.Omega.{arith}
 use Prim.Native.Nat.{◌-◌}
-use Rattle.shares.proofs.Seating.{Counting, counting_start, counting_room, counting_step, counting_end}
+use Rattle.shares.proofs.Seating.{Counting}
 use Rattle.shares.proofs.pass_fence.Given as goal
 
 abbrev pub invariant-loop-l : goal.invariant-loop-l

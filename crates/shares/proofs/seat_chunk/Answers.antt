@@ -1,4 +1,3 @@
-use borrow.Author.Rules.{rules}
 use mathlib.Core.Path.{refl}
 use Rattle.shares.proofs.Seating.{chunk_seated}
 use Rattle.shares.proofs.seat_chunk.Goals as goal

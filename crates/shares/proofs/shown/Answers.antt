@@ -1,8 +1,5 @@
-use Prim.Native.Nat.{◌-◌, ◌*◌, ◌≤◌}
 use mathlib.Core.Path.{◌≡◌, refl}
 use native.Mathlib.Omega.{arith}
-use lib.ListN.{length}
-use borrow.Author.Rules.{rules}
 use Rattle.levels.specs.Map.{unmarked}
 use Rattle.shares.specs.Shadow.{shadow_from}
 use Rattle.shares.proofs.Rows.{Counts, counts_of_lem}

@@ -1,11 +1,8 @@
 use Prim.Native.Nat.{◌-◌, ◌*◌, ◌≤◌}
-use mathlib.Core.Path.{◌≡◌, refl}
-use native.Mathlib.Omega.{arith}
+use mathlib.Core.Path.{◌≡◌}
 use lib.ListN.{length}
-use borrow.Author.Rules.{rules}
 use Rattle.levels.specs.Map.{unmarked}
 use Rattle.shares.specs.Shadow.{shadow_from}
-use Rattle.shares.proofs.Rows.{Counts, counts_of_lem}
 use Rattle.shares.proofs.shown.Given as goal
 
 abbrev pub invariant-loop-i : goal.invariant-loop-i

@@ -1,4 +1,3 @@
-use borrow.Author.Rules.{rules}
 use Rattle.shares.proofs.slots_with.Goals as goal
 
 pub returns-then-n-eq16 : goal.returns-then-n-eq16

@@ -1,7 +1,6 @@
 use mathlib.Core.Path.{◌∙◌, ap}
 use native.Mathlib.Omega.{arith}
 use Rattle.shares.specs.Shares.{hide}
-use borrow.Author.Rules.{rules}
 use Rattle.shares.proofs.under_three.Goals as goal
 
 pub hide_under-requires : goal.hide_under-requires

@@ -1,8 +1,6 @@
-use Prim.Native.Nat.{◌-◌, ◌≤◌}
 use mathlib.Core.Path.{◌≡◌, refl, sym}
 use native.Mathlib.Omega.{arith}
-use lib.ListN.{length, length-set, take, drop}
-use Rattle.slices.specs.Slices.{put_at}
+use lib.ListN.{length-set}
 use Rattle.slices.proofs.Put.{put_none, down_more}
 use Rattle.slices.proofs.copy_down.Goals as goal
 

@@ -1,8 +1,5 @@
-use Prim.Native.Nat.{◌-◌, ◌≤◌}
 use mathlib.Core.Path.{◌≡◌, refl}
 use native.Mathlib.Omega.{arith}
-use lib.ListN.{take, drop}
-use borrow.Author.Rules.{rules}
 use Rattle.slices.specs.Ranks.{count_below}
 use Rattle.slices.proofs.Ranks.{count_more}
 use Rattle.slices.proofs.count_few.Goals as goal

@@ -1,10 +1,7 @@
 use Prim.Native.Nat.{◌-◌, ◌≤◌}
-use mathlib.Core.Path.{◌≡◌, refl}
-use native.Mathlib.Omega.{arith}
+use mathlib.Core.Path.{◌≡◌}
 use lib.ListN.{take, drop}
-use borrow.Author.Rules.{rules}
 use Rattle.slices.specs.Ranks.{count_below}
-use Rattle.slices.proofs.Ranks.{count_more}
 use Rattle.slices.proofs.count_few.Given as goal
 
 abbrev pub invariant-loop-i : goal.invariant-loop-i

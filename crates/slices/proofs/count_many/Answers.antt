@@ -1,7 +1,5 @@
 use native.Mathlib.Omega.{arith}
-use lib.ListN.{take, drop}
-use borrow.Author.Rules.{rules}
-use Rattle.slices.proofs.Ranks.{Narrowed, search_room, search_turn}
+use Rattle.slices.proofs.Ranks.{search_room, search_turn}
 use Rattle.slices.proofs.count_many.Goals as goal
 
 pub loop-left-init : goal.loop-left-init

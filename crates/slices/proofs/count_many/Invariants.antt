@@ -1,7 +1,5 @@
-use native.Mathlib.Omega.{arith}
 use lib.ListN.{take, drop}
-use borrow.Author.Rules.{rules}
-use Rattle.slices.proofs.Ranks.{Narrowed, search_room, search_turn}
+use Rattle.slices.proofs.Ranks.{Narrowed}
 use Rattle.slices.proofs.count_many.Given as goal
 
 abbrev pub invariant-loop-left : goal.invariant-loop-left

@@ -1,5 +1,4 @@
 use Rattle.slices.proofs.Ranks.{search_found, search_above}
-use borrow.Author.Rules.{rules}
 use Rattle.slices.proofs.rank_of.Goals as goal
 
 pub returns-then-below-n : goal.returns-then-below-n

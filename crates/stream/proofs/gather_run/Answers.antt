@@ -14,10 +14,13 @@ pub overflow_add-buf-then-not-bottom-t-2 : goal.overflow_add-buf-then-not-bottom
 overflow_add-buf-then-not-bottom-t-2 c = let l = c.loop-k in let a = c.args in omega (arith, marks_fit l.buf.marks l.buf.n (a.run.next.head.marks / 2 ^ (a.run.from + l.k) % 2) (omega arith) (let h = l.invariant.1.few in omega (arith, c.requires.1.room, c.requires.0.sized.b_high)) l.invariant.1.bits)
 
 pub loop-k-preserved : goal.loop-k-preserved
-loop-k-preserved c = let l = c.loop-k in (omega arith, held_next _ _ _ _ _ l.k l.buf _ l.invariant.1 (elim c.if-not-bottom-t.branch [
-      then-not-bottom-t w ↦ w.buf-is ∙ stored _ l.buf _ _ _ (omega arith) (let h = l.invariant.1.few in omega arith) (ap not w.if-not-bottom-t.true)
+loop-k-preserved c = let l = c.loop-k in (
+  omega arith,
+  held_next _ _ _ _ _ l.k l.buf _ l.invariant.1 (elim c.if-not-bottom-t.branch [
+    | then-not-bottom-t w ↦ w.buf-is ∙ stored _ l.buf _ _ _ (omega arith) (let h = l.invariant.1.few in omega arith) (ap not w.if-not-bottom-t.true)
     | else-not-bottom-t w ↦ w.buf-is ∙ dropped _ l.buf _ _ _ (ap not w.if-not-bottom-t.false)
-    ]))
+  ]),
+)
 
 pub flush-requires : goal.flush-requires
 flush-requires c =

@@ -1,11 +1,8 @@
 use native.Mathlib.Omega.{arith}
 use Prim.Native.Nat.{◌+◌, ◌<◌}
 use mathlib.Core.Path.{refl}
-use lib.ListN.{length}
 use borrow.Author.Tests.{ltb-true}
-use borrow.Author.Rules.{rules}
 use Rattle.levels.proofs.Basics.{and_left}
-use Rattle.walk.specs.Walk.{rest, Copies}
 use Rattle.walk.proofs.Four.{skims_few}
 use Rattle.walk.proofs.Between.{copies_start, copies_step, copies_last, shorter_step, shorter_last, copies_in}
 use Rattle.walk.proofs.copy_below.Goals as goal

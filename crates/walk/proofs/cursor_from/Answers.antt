@@ -3,7 +3,6 @@ use mathlib.Core.Path.{refl}
 use native.Mathlib.Omega.{arith}
 use Rattle.search.proofs.Laws.{rank_ready}
 use Rattle.walk.proofs.From.{SlotRoom, slot_room, from_slot, from_after, from_none}
-use borrow.Author.Rules.{rules}
 use Rattle.walk.proofs.cursor_from.Goals as goal
 use Rattle.walk.proofs.cursor_from.Goals.{Else-count-slot}
 

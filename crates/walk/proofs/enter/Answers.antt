@@ -1,5 +1,4 @@
 use Rattle.walk.proofs.From.{from_all}
-use borrow.Author.Rules.{rules}
 use Rattle.walk.proofs.enter.Goals as goal
 
 pub returns : goal.returns

@@ -1,6 +1,5 @@
 use native.Mathlib.Omega.{arith}
 use mathlib.Core.Path.{refl, sym}
-use borrow.Author.Rules.{rules}
 use Rattle.walk.proofs.Listing.{entered_full_left, entered_full_right, entered_kept}
 use Rattle.walk.proofs.Between.{bit_high}
 use Rattle.walk.proofs.list_one.Goals as goal

@@ -1,7 +1,6 @@
 use native.Mathlib.Omega.{arith}
 use Rattle.walk.proofs.Listing.{smaller_min}
 use Rattle.walk.proofs.Ends.{walked_few, walked_stretch}
-use borrow.Author.Rules.{rules}
 use Rattle.walk.proofs.list_stretch.Goals as goal
 
 pub enter-from-requires : goal.enter-from-requires

@@ -1,6 +1,5 @@
 use native.Mathlib.Omega.{arith}
 use Rattle.walk.proofs.Ends.{next_none, next_some}
-use borrow.Author.Rules.{rules}
 use Rattle.walk.proofs.next_from.Goals as goal
 
 pub enter-from-requires : goal.enter-from-requires

@@ -1,7 +1,6 @@
 use native.Mathlib.Omega.{arith}
 use mathlib.Core.Path.{refl}
 use Rattle.walk.proofs.Rest.{chunk_alive, refill_chunk, refill_none}
-use borrow.Author.Rules.{rules}
 use Rattle.walk.proofs.refill.Goals as goal
 
 pub offset_bounds-s-k : goal.offset_bounds-s-k

@@ -2,7 +2,6 @@ use native.Mathlib.Omega.{arith}
 use Prim.Native.Nat.{◌+◌}
 use mathlib.Core.Path.{refl, sym, ◌∙◌}
 use Rattle.walk.proofs.Rest.{past_other, past_hit, more_last, more_chunk, step_chunk}
-use borrow.Author.Rules.{rules}
 use Rattle.walk.proofs.step.Goals as goal
 
 pub returns-then-key-k : goal.returns-then-key-k

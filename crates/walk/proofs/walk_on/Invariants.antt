@@ -1,9 +1,6 @@
-use native.Mathlib.Omega.{arith}
-use Prim.Native.Nat.{◌<◌}
 use Rattle.walk.specs.Walk.{rest}
-use Rattle.walk.proofs.Four.{load, upper_pay_in}
-use Rattle.walk.proofs.Listing.{written_long}
-use Rattle.walk.proofs.Walking.{Walking, Passing, walking_start, walking_few, bound_high, passing, walking_turn, walking_end, walking_most}
+use Rattle.walk.proofs.Four.{load}
+use Rattle.walk.proofs.Walking.{Walking}
 use Rattle.walk.proofs.walk_on.Given as goal
 
 abbrev pub invariant-loop-d0 : goal.invariant-loop-d0

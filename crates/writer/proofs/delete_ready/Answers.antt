@@ -1,7 +1,6 @@
 use native.Mathlib.Omega.{arith}
 use Rattle.writer.proofs.Entering.{holds_live, live_some}
 use Rattle.writer.proofs.Changing.{live_is, delete_over, delete_none}
-use borrow.Author.Rules.{rules}
 use Rattle.writer.proofs.delete_ready.Goals as goal
 
 pub offset_bounds-s-at : goal.offset_bounds-s-at

@@ -1,6 +1,5 @@
 use mathlib.Core.Path.{sym, ◌∙◌}
 use Rattle.writer.proofs.Entering.{holds_ready, full_store, all_ready, none_entered, all_entered, none_filed, all_filed, room_at_lem}
-use borrow.Author.Rules.{rules}
 use Rattle.writer.proofs.enter_record.Goals as goal
 
 pub locate-at-requires : goal.locate-at-requires

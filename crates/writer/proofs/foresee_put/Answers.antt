@@ -1,7 +1,6 @@
 use mathlib.Core.Path.{sym, ap, ◌∙◌}
 use mathlib.Core.Bool.{true, false}
 use Rattle.writer.proofs.Foreseeing.{put_by}
-use borrow.Author.Rules.{rules}
 use Rattle.writer.proofs.foresee_put.Goals as goal
 
 pub returns-then-is_full : goal.returns-then-is_full

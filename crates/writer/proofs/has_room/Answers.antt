@@ -1,5 +1,4 @@
 use native.Mathlib.Omega.{arith}
-use borrow.Author.Rules.{rules}
 use Rattle.top.proofs.Words.{ready_bounds}
 use Rattle.writer.specs.Change.{room_at}
 use Rattle.writer.proofs.has_room.Goals as goal

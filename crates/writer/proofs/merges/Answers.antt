@@ -1,6 +1,5 @@
 use native.Mathlib.Omega.{arith}
 use Rattle.writer.proofs.Changing.{done_few}
-use borrow.Author.Rules.{rules}
 use Rattle.writer.proofs.merges.Goals as goal
 
 pub overflow_add-result : goal.overflow_add-result

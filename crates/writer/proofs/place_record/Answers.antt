@@ -2,7 +2,6 @@ use native.Mathlib.Omega.{arith}
 use Rattle.top.proofs.Words.{ready_bounds}
 use Rattle.writer.specs.Change.{with_entered}
 use Rattle.writer.proofs.Entering.{room_is, ready_live}
-use borrow.Author.Rules.{rules}
 use Rattle.writer.proofs.place_record.Goals as goal
 
 pub enter-requires : goal.enter-requires

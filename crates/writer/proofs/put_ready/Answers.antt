@@ -1,7 +1,6 @@
 use native.Mathlib.Omega.{arith}
 use Rattle.writer.proofs.Entering.{holds_ranged, holds_live, live_small}
 use Rattle.writer.proofs.Changing.{live_is, put_over, put_turned, put_added}
-use borrow.Author.Rules.{rules}
 use Rattle.writer.proofs.put_ready.Goals as goal
 
 pub offset_bounds-s-at : goal.offset_bounds-s-at

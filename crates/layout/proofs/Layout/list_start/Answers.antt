@@ -3,7 +3,6 @@ use native.Mathlib.Omega.{arith}
 use Rattle.geometry.proofs.Bounds.{capacity_sum_high}
 use Rattle.layout.specs.Layouts.{list_start}
 use Rattle.layout.proofs.Laws.{lists_before, places_before}
-use borrow.Author.Rules.{rules}
 use Rattle.layout.proofs.Layout.list_start.Goals as goal
 
 pub overflow_add-result : goal.overflow_add-result

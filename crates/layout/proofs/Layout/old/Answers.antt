@@ -2,7 +2,6 @@ use native.Mathlib.Omega.{arith}
 use Rattle.geometry.proofs.Laws.{flash_capacity_high}
 use Rattle.geometry.proofs.Bounds.{capacity_zero_high, top_capacity_high, place_offset_high}
 use Rattle.layout.specs.Layouts.{old}
-use borrow.Author.Rules.{rules}
 use Rattle.layout.proofs.Layout.old.Goals as goal
 
 pub overflow_add-keys : goal.overflow_add-keys

@@ -2,7 +2,6 @@ use native.Mathlib.Omega.{arith}
 use Rattle.geometry.proofs.Bounds.{place_offset_high}
 use Rattle.layout.specs.Layouts.{place_start}
 use Rattle.layout.proofs.Laws.{places_before}
-use borrow.Author.Rules.{rules}
 use Rattle.layout.proofs.Layout.place_start.Goals as goal
 
 pub overflow_mul-before : goal.overflow_mul-before

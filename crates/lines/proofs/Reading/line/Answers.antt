@@ -1,5 +1,4 @@
 use Rattle.lines.specs.Machine.{line_after}
-use borrow.Author.Rules.{rules}
 use Rattle.lines.proofs.Reading.line.Goals as goal
 
 pub returns-in-Start : goal.returns-in-Start

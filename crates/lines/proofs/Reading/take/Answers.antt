@@ -1,5 +1,4 @@
 use Rattle.lines.specs.Machine.{step}
-use borrow.Author.Rules.{rules}
 use Rattle.lines.proofs.Reading.take.Goals as goal
 
 pub returns-in-Start : goal.returns-in-Start
