@@ -12,8 +12,8 @@ bounds-used-q c = rw c.place_after-q.ensures (omega (arith, c.requires.0, after_
 
 pub loop-q-preserved : goal.loop-q-preserved
 loop-q-preserved c =
-    let n = search_on _ _ c.args.cursor c.requires.1 c.requires.2 c.loop-q.k c.loop-q.invariant.0 c.loop-q.invariant.1.0 c.loop-q.invariant.1.1 (rw (← c.place_after-q.ensures) c.if-not-used-q.false) in
+    let n = search_on _ _ c.args.cursor c.requires.1 c.requires.2 c.loop-q.k c.loop-q.invariant.0 c.loop-q.invariant.1.0 c.loop-q.invariant.1.1 (cc) in
     (omega arith, n)
 
 pub returns : goal.returns
-returns c = c.place_after-q.ensures ∙ search_here _ _ c.args.cursor c.requires.1 c.loop-q.k c.loop-q.invariant.0 c.loop-q.invariant.1.0 c.loop-q.invariant.1.1 (rw (← c.place_after-q.ensures) c.if-not-used-q.true)
+returns c = c.place_after-q.ensures ∙ search_here _ _ c.args.cursor c.requires.1 c.loop-q.k c.loop-q.invariant.0 c.loop-q.invariant.1.0 c.loop-q.invariant.1.1 (cc)

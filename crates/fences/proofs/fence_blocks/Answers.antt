@@ -19,7 +19,7 @@ pub loop-i-init : goal.loop-i-init
 loop-i-init c = (omega arith, (refl, (refl, (sym (fill_none _ _), sym (fill_none _ _)))))
 
 pub overflow_cast-place : goal.overflow_cast-place
-overflow_cast-place c = omega (arith, c.shared_slice_known-in-loop-i-1.given c.loop-i.i)
+overflow_cast-place c = omega (arith, c.type_inv.list c.loop-i.i)
 
 pub place_start-at-requires : goal.place_start-at-requires
 place_start-at-requires c = (c.requires.0.proper, omega (arith, c.requires.0.proper.valid.places_high, (c.requires.1.1.1.1 _ c.loop-i-test.true).inside))
@@ -31,7 +31,7 @@ pub bounds-s-at : goal.bounds-s-at
 bounds-s-at c = omega (arith, room (goal.at.bounds-s-at c).After-place_start-at)
 
 pub overflow_cast-count : goal.overflow_cast-count
-overflow_cast-count c = omega (arith, c.shared_slice_known-in-loop-i-2-1.given c.place_start-at.result)
+overflow_cast-count c = omega (arith, c.type_inv.s c.place_start-at.result)
 
 pub overflow_add-firsts : goal.overflow_add-firsts
 overflow_add-firsts c = omega (arith, room (goal.at.overflow_add-firsts c).After-place_start-at)

@@ -23,10 +23,10 @@ word-size-requires c = rw (c.place_start-at.ensures, c.listed-q.ensures) (omega 
 
 pub overflow_add-e : goal.overflow_add-e
 overflow_add-e c =
-    let l = last_low c.args.z c.args.s.now c.args.out.now c.args.st.m c.requires.lefts.sized (λ i. (c.shared_slice_known-1.given i).fits) in
+    let l = last_low c.args.z c.args.s.now c.args.out.now c.args.st.m c.requires.lefts.sized (λ i. (c.type_inv.s i).fits) in
     let e = c.last_size-e.ensures in
     let f = c.word-size.ensures.0 in
-    let g = (c.shared_slice_known-1.given c.place_start-at.result).fits in
+    let g = (c.type_inv.s c.place_start-at.result).fits in
     omega arith
 
 pub pull_last-v-requires : goal.pull_last-v-requires
@@ -64,7 +64,7 @@ returns-then-n-eq0 c =
 pub overflow_add-n : goal.overflow_add-n
 overflow_add-n c =
     let f = c.word-size.ensures.0 in
-    let g = (c.shared_slice_known-1.given c.place_start-at.result).fits in
+    let g = (c.type_inv.s c.place_start-at.result).fits in
     omega arith
 
 pub take_after-requires-then-n-size : goal.take_after-requires-then-n-size

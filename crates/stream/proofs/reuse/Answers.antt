@@ -4,22 +4,22 @@ use mathlib.Core.Path.{ap}
 use Rattle.stream.specs.Machine.{reused, append, Memory}
 use Rattle.stream.proofs.Laws.{flushed_m}
 use Rattle.stream.proofs.reuse.Goals as goal
-use Rattle.stream.proofs.reuse.Goals.{After-s-1}
+use Rattle.stream.proofs.reuse.Goals.{After-flush-v}
 
 -- the list has room for one more
-low : (c : After-s-1) → c.flush-v.result.m < 4096
+low : (c : After-flush-v) → c.flush-v.result.m < 4096
 low c =
     let s = c in
     rw (ap (λ (a : Memory). a.st.m) c.flush-v.ensures) (omega (arith, flushed_m s.args.z (record { words = s.args.s.now; used = s.args.used.now; out = s.args.out.now; st = s.args.st }), s.requires.1))
 
 pub offset_bounds-out-m : goal.offset_bounds-out-m
-offset_bounds-out-m c = let h = low (goal.at.offset_bounds-out-m c).After-s-1 in omega arith
+offset_bounds-out-m c = let h = low (goal.at.offset_bounds-out-m c).After-flush-v in omega arith
 
 pub bounds-out-m : goal.bounds-out-m
-bounds-out-m c = let h = low (goal.at.bounds-out-m c).After-s-1 in omega arith
+bounds-out-m c = let h = low (goal.at.bounds-out-m c).After-flush-v in omega arith
 
 pub overflow_add-v : goal.overflow_add-v
-overflow_add-v c = let h = low (goal.at.overflow_add-v c).After-s-1 in omega arith
+overflow_add-v c = let h = low (goal.at.overflow_add-v c).After-flush-v in omega arith
 
 pub returns : goal.returns
 unfolding reused
