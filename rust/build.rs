@@ -1,4 +1,4 @@
-// Links the archive that `rt lib` leaves in the folder of the crate mewilovang.
+// Links the archive that `rt lib --cpu=x86-64` leaves in the folder of the crate mewilovang.
 
 use std::env;
 use std::path::Path;
@@ -9,7 +9,7 @@ fn main() {
     let archive = folder.join("libmewilovang.a");
     if !archive.exists() {
         panic!(
-            "{} is missing: run `rt lib` in crates/mewilovang first",
+            "{} is missing: run `rt lib --cpu=x86-64` in crates/mewilovang first",
             archive.display()
         );
     }
