@@ -18,6 +18,7 @@
 ghost use Rattle.std.specs.Prelude.{◌≤◌, length};
 
 use reader::{Looked, Nexted};
+use std::io::{Read, Write};
 use store::Formatted;
 
 // The longest store, in words.
@@ -27,9 +28,9 @@ const ROOM: usize = 4096;
 const COMMANDS: u32 = 1000000;
 
 // The next word of the input, or 0 at its end.
-fn word() -> u32 {
+fn word(input: &mut impl Read) -> u32 {
     let mut bytes = [0u8; 4];
-    io::read_full(0, &mut bytes);
+    let _ = input.read_exact(&mut bytes);
     joined(&bytes)
 }
 
@@ -54,31 +55,30 @@ fn bounded(value: u32, most: usize) -> usize
 }
 
 // All words of a part from the input.
-fn fill(s: &mut [u32]) {
+fn fill(input: &mut impl Read, s: &mut [u32]) {
     for i in 0..s.len() {
-        s[i] = word();
+        s[i] = word(input);
     }
 }
 
 // Command l: the new number of words.
-fn load(s: &mut [u32]) -> usize
+fn load(input: &mut impl Read, s: &mut [u32]) -> usize
     ensures { result ≤ length s.old }
 {
-    let n = bounded(word(), s.len());
-    let start = bounded(word(), n);
-    let count = bounded(word(), n - start);
-    fill(&mut s[start..start + count]);
+    let n = bounded(word(input), s.len());
+    let start = bounded(word(input), n);
+    let count = bounded(word(input), n - start);
+    fill(input, &mut s[start..start + count]);
     n
 }
 
 // A line: the letter and the numbers.
-fn print(letter: u8, numbers: &[u32]) {
-    io::write_all(1, &[letter]);
-    for i in 0..numbers.len() {
-        io::write_all(1, b" ");
-        io::print_decimal(1, numbers[i] as u64);
+fn print(output: &mut impl Write, letter: u8, numbers: &[u32]) {
+    let _ = output.write_all(&[letter]);
+    for n in numbers {
+        let _ = write!(output, " {n}");
     }
-    io::write_all(1, b"\n");
+    let _ = output.write_all(b"\n");
 }
 
 // A number that every word, their order and their count matter to.
@@ -91,78 +91,86 @@ fn checksum(s: &[u32]) -> u32 {
 }
 
 // Command g, and n and f below: an answer's number and values in a line.
-fn look_up(s: &[u32], key: u32) {
+fn look_up(output: &mut impl Write, s: &[u32], key: u32) {
     match store::look_up(s, key) {
-        Looked::Found(payload) => print(b'g', &[0, 1, payload]),
-        Looked::Absent => print(b'g', &[0, 0, 0]),
-        Looked::Refused(n) => print(b'g', &[n, 0, 0]),
+        Looked::Found(payload) => print(output, b'g', &[0, 1, payload]),
+        Looked::Absent => print(output, b'g', &[0, 0, 0]),
+        Looked::Refused(n) => print(output, b'g', &[n, 0, 0]),
     }
 }
 
-fn next(s: &[u32], key: u32) {
+fn next(output: &mut impl Write, s: &[u32], key: u32) {
     match store::next(s, key) {
-        Nexted::At(at, payload) => print(b'n', &[0, 1, at, payload]),
-        Nexted::Nothing => print(b'n', &[0, 0, 0, 0]),
-        Nexted::Refused(n) => print(b'n', &[n, 0, 0, 0]),
+        Nexted::At(at, payload) => print(output, b'n', &[0, 1, at, payload]),
+        Nexted::Nothing => print(output, b'n', &[0, 0, 0, 0]),
+        Nexted::Refused(n) => print(output, b'n', &[n, 0, 0, 0]),
     }
 }
 
-fn format(s: &mut [u32]) {
-    let b = word();
-    let w = word();
-    let d = word();
-    let g = word();
-    let h = word();
-    let p = word();
+fn format(input: &mut impl Read, output: &mut impl Write, s: &mut [u32]) {
+    let b = word(input);
+    let w = word(input);
+    let d = word(input);
+    let g = word(input);
+    let h = word(input);
+    let p = word(input);
     match store::format(s, b, w, d, g, h, p) {
-        Formatted::Done(limit) => print(b'f', &[0, limit]),
-        Formatted::Refused(n) => print(b'f', &[n, 0]),
+        Formatted::Done(limit) => print(output, b'f', &[0, limit]),
+        Formatted::Refused(n) => print(output, b'f', &[n, 0]),
     }
 }
 
 // Any command but l.
-fn answer(s: &mut [u32], command: u32) {
+fn answer(input: &mut impl Read, output: &mut impl Write, s: &mut [u32], command: u32) {
     if command == b'c' as u32 {
-        return print(b'c', &[store::check(s)]);
+        return print(output, b'c', &[store::check(s)]);
     }
     if command == b'g' as u32 {
-        return look_up(s, word());
+        return look_up(output, s, word(input));
     }
     if command == b'n' as u32 {
-        return next(s, word());
+        return next(output, s, word(input));
     }
     if command == b's' as u32 {
-        let level = word();
-        return print(b's', store::show(s, level, word()));
+        let level = word(input);
+        return print(output, b's', store::show(s, level, word(input)));
     }
     if command == b'f' as u32 {
-        return format(s);
+        return format(input, output, s);
     }
     if command == b'w' as u32 {
-        print(b'w', &[checksum(s)]);
+        print(output, b'w', &[checksum(s)]);
     }
 }
 
 // One command: the number of words after it.
-fn perform(s: &mut [u32], n: usize, command: u32) -> usize
+fn perform(
+    input: &mut impl Read,
+    output: &mut impl Write,
+    s: &mut [u32],
+    n: usize,
+    command: u32,
+) -> usize
     requires { n ≤ length s.old }
     ensures { result ≤ length s.old }
 {
     if command == b'l' as u32 {
-        return load(s);
+        return load(input, s);
     }
-    answer(&mut s[0..n], command);
+    answer(input, output, &mut s[0..n], command);
     n
 }
 
-fn main() {
+fn main(rt: HostRuntime) {
+    let mut input = rt.stdin();
+    let mut output = rt.stdout();
     let mut words = [0u32; ROOM];
     let mut n: usize = 0;
     for _ in 0..COMMANDS {
-        let command = word();
+        let command = word(&mut input);
         if command == 0 {
             return;
         }
-        n = perform(&mut words, n, command);
+        n = perform(&mut input, &mut output, &mut words, n, command);
     }
 }
