@@ -4,7 +4,7 @@ use Rattle.std.proofs.Math.Option.{some}
 use Rattle.std.proofs.lemmas.List.Edits.{sets}
 use Rattle.geometry.specs.Geometry.{capacity_of}
 use Rattle.geometry.specs.Room.{places_most}
-use Rattle.levels.specs.Basics.{if◌then◌else◌, member}
+use Rattle.levels.specs.Basics.{if◌then◌otherwise◌, member}
 use Rattle.levels.specs.Record.{Rec}
 use Rattle.levels.specs.Place.{after}
 use Rattle.layout.specs.declared.Layout.{Layout}
@@ -35,7 +35,7 @@ start_of z place = z.base + place * (2 + 2 * z.b)
 
 -- the place k steps after the cursor, going round at p
 unfoldable pub after_by : ℕ → ℕ → ℕ → ℕ
-after_by p cursor k = if ltb (cursor + k) p then cursor + k else cursor + k - p
+after_by p cursor k = if ltb (cursor + k) p then cursor + k otherwise cursor + k - p
 
 -- a place is not marked as in use
 abbrev pub Free : List Bool → ℕ → Type 0

@@ -6,7 +6,7 @@ use mathlib.Core.List.{List, [], ◌∷◌, ◌++◌, append_assoc}
 use native.Mathlib.Omega.{arith}
 use lib.Dec.{eqb}
 use lib.ListN.{length, set, length-set}
-use Rattle.levels.specs.Basics.{if◌then◌else◌, total}
+use Rattle.levels.specs.Basics.{if◌then◌otherwise◌, total}
 use Rattle.levels.specs.Store.{Store, rows}
 use Rattle.levels.specs.Call.{Merge, merge_level, after_merge, after_merges, deepest_over, merges_below}
 use Rattle.levels.specs.Count.{blocks_merged, total_into, total_compacted, counts_of}
@@ -43,8 +43,8 @@ use Rattle.layout.specs.declared.Layout.{Layout}
 pub counts_cons : (m : Merge) (ms : List Merge) (j : ℕ) → counts_of j (m ∷ ms) ≡ plus (step_counts m j) (counts_of j ms)
 unfolding counts_of
 counts_cons m ms j =
-    let f : ℕ = if eqb (suc m.level) j then 1 else 0 in
-    let h : ℕ = if eqb (suc m.level) j then blocks_merged m else 0 in
+    let f : ℕ = if eqb (suc m.level) j then 1 otherwise 0 in
+    let h : ℕ = if eqb (suc m.level) j then blocks_merged m otherwise 0 in
     let x : f + total_into j (λ m. 1) ms ≡ f + 0 + total_into j (λ m. 1) ms = omega arith in
     let y : h + total_into j blocks_merged ms ≡ h + 0 + total_into j blocks_merged ms = omega arith in
     let c : ℕ = total_compacted j m.compactions in
@@ -57,7 +57,7 @@ pub step_low : (z : Layout) (e : Store) (m : Merge) → Proper z → MergeFacts 
 unfolding counts_of
 step_low z e m v f j = pick (eqb (suc m.level) j)
   where
-    pick : (b : Bool) → ((if b then 1 else 0) + 0 ≤ 16384) × ((if b then blocks_merged m else 0) + 0 ≤ 16384) × (total_compacted j m.compactions + 0 ≤ 16384)
+    pick : (b : Bool) → ((if b then 1 otherwise 0) + 0 ≤ 16384) × ((if b then blocks_merged m otherwise 0) + 0 ≤ 16384) × (total_compacted j m.compactions + 0 ≤ 16384)
     pick true = (omega arith, omega (arith, merge_written z.geo e m v.valid f, f.room, v.valid.places_high), omega (arith, compacted_most z.geo e j m.compactions v.valid f.five.facts, merge_short z.geo e m f))
     pick false = (omega arith, omega arith, omega (arith, compacted_most z.geo e j m.compactions v.valid f.five.facts, merge_short z.geo e m f))
 

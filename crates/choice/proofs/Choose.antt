@@ -9,7 +9,7 @@ use lib.Dec.{leb, ltb}
 use lib.ListN.{length, get_or, take, drop, length-map}
 use lib.Seq.{take-suc, take_all, length-take-le}
 use borrow.Author.Tests.{leb-true, leb-false, ltb-true, ltb-false, lt-leb, lt-ltb, le-ltb}
-use Rattle.levels.specs.Basics.{if◌then◌else◌}
+use Rattle.levels.specs.Basics.{if◌then◌otherwise◌}
 use Rattle.levels.specs.Choose.{Least, least, least_of}
 use Rattle.levels.proofs.Lists.{get_d_map_in}
 use Rattle.levels.proofs.Choice.{IsLeast, least_of_is}
@@ -32,15 +32,15 @@ overlaps_at w above under i p h =
 
 -- a number before a list, and one behind it that has index n
 abbrev ahead : ℕ → Least → Least
-ahead q r = if leb q r.value then record { at = 0; value = q } else record { at = suc r.at; value = r.value }
+ahead q r = if leb q r.value then record { at = 0; value = q } otherwise record { at = suc r.at; value = r.value }
 
 abbrev behind : ℕ → ℕ → Least → Least
-behind n p r = if ltb p r.value then record { at = n; value = p } else r
+behind n p r = if ltb p r.value then record { at = n; value = p } otherwise r
 
 ahead_one : (q n p : ℕ) → ahead q (record { at = n; value = p }) ≡ behind (suc n) p (record { at = 0; value = q })
 ahead_one q n p = go (leb q p) refl
   where
-    go : (t : Bool) → leb q p ≡ t → (if t then record { at = 0; value = q } else record { at = suc n; value = p }) ≡ behind (suc n) p (record { at = 0; value = q })
+    go : (t : Bool) → leb q p ≡ t → (if t then record { at = 0; value = q } otherwise record { at = suc n; value = p }) ≡ behind (suc n) p (record { at = 0; value = q })
     go true e = rw (le-ltb p q (leb-true q p e))
     go false e = rw (lt-ltb p q (leb-false q p e))
 
@@ -48,7 +48,7 @@ ahead_behind : (q n p : ℕ) (r : Least) → ahead q (behind n p r) ≡ behind (
 ahead_behind q n p r = go (ltb p r.value) (leb q r.value) refl refl
   where
     go : (t u : Bool) → ltb p r.value ≡ t → leb q r.value ≡ u
-        → ahead q (if t then record { at = n; value = p } else r) ≡ behind (suc n) p (if u then record { at = 0; value = q } else record { at = suc r.at; value = r.value })
+        → ahead q (if t then record { at = n; value = p } otherwise r) ≡ behind (suc n) p (if u then record { at = 0; value = q } otherwise record { at = suc r.at; value = r.value })
     go true true e d = ahead_one q n p
     go true false e d =
         let l = ltb-true p r.value e in
@@ -71,7 +71,7 @@ module _ (w : ℕ) (above under : List Fence) where
   choice_behind : (n p : ℕ) (r : Least) → choice_by (behind n p r) ≡ fewer (choice_by r) (choice_by (record { at = n; value = p }))
   choice_behind n p r = go (ltb p r.value)
     where
-      go : (t : Bool) → choice_by (if t then record { at = n; value = p } else r) ≡ (if t then choice_by (record { at = n; value = p }) else choice_by r)
+      go : (t : Bool) → choice_by (if t then record { at = n; value = p } otherwise r) ≡ (if t then choice_by (record { at = n; value = p }) otherwise choice_by r)
       go true = refl
       go false = refl
 

@@ -5,7 +5,7 @@ use mathlib.Core.Bool.{Bool, true, false}
 use mathlib.Core.List.{List, [], ◌∷◌, map}
 use lib.Dec.{leb}
 use lib.ListN.{length, take, length-map}
-use Rattle.levels.specs.Basics.{if◌then◌else◌}
+use Rattle.levels.specs.Basics.{if◌then◌otherwise◌}
 use Rattle.levels.specs.Record.{Level, records, rising, last_key}
 use Rattle.levels.specs.Choose.{Least, runs, lo_of, hi_of, count_meets, overlap, choose}
 use Rattle.choice.specs.Fences.{fence_of, fences_of, Ordered, fence_runs, low_of, high_of, count_over, fence_overlap, overlaps_of, choose_fences, choice_of, with_stretch}
@@ -21,7 +21,7 @@ runs_fences w [] = refl
 runs_fences w (b ∷ bs) = rw (length-map bs fence_of) (go (leb w (suc (length bs))) (runs_fences w bs))
   where
     go : (t : Bool) → fence_runs w (map fence_of bs) ≡ map (map fence_of) (runs w bs)
-        → (if t then take w (map fence_of (b ∷ bs)) ∷ fence_runs w (map fence_of bs) else []) ≡ map (map fence_of) (if t then take w (b ∷ bs) ∷ runs w bs else [])
+        → (if t then take w (map fence_of (b ∷ bs)) ∷ fence_runs w (map fence_of bs) otherwise []) ≡ map (map fence_of) (if t then take w (b ∷ bs) ∷ runs w bs otherwise [])
     go true ih = rw (map_take fence_of w (b ∷ bs), ih)
     go false ih = refl
 

@@ -8,7 +8,7 @@ use native.Mathlib.Omega.{arith}
 use lib.Dec.{leb, ltb}
 use lib.ListN.{length, get_or, take, drop, length-map, length-drop}
 use borrow.Author.Tests.{leb-true}
-use Rattle.levels.specs.Basics.{if◌then◌else◌}
+use Rattle.levels.specs.Basics.{if◌then◌otherwise◌}
 use Rattle.levels.proofs.Choice.{run_of, runs_of}
 use Rattle.choice.specs.declared.Stretch.{Stretch}
 use Rattle.choice.specs.Fences.{Fence, Ordered, fence_runs, low_of, high_of, first_keys, last_keys, stretch_of}
@@ -36,7 +36,7 @@ moves_in end at (s ∷ ss) = (end s - at) + moves_in end (end s) ss
 -- the comparisons of an end at a run: one for each move, and one with the key that ends them, if one does
 unfoldable pub comparisons_of : ℕ → List ℕ → ℕ
 comparisons_of bound [] = 0
-comparisons_of bound (k ∷ ks) = suc (if ltb k bound then comparisons_of bound ks else 0)
+comparisons_of bound (k ∷ ks) = suc (if ltb k bound then comparisons_of bound ks otherwise 0)
 
 -- the comparisons of keys that both ends make in all
 unfoldable pub comparisons_from : Stretch → List Fence → List (List Fence) → ℕ
@@ -109,7 +109,7 @@ module _ (w : ℕ) (p : 1 ≤ w) (under : List Fence) (u : Ordered 0 under) wher
       run = take w (f ∷ fs)
 
       go : (t : Bool) → leb w (suc (length fs)) ≡ t → pass_from (stretch_of run under) under (fence_runs w fs) ≡ map (λ (r : List Fence). stretch_of r under) (fence_runs w fs)
-          → pass_from at under (if t then run ∷ fence_runs w fs else []) ≡ map (λ (r : List Fence). stretch_of r under) (if t then run ∷ fence_runs w fs else [])
+          → pass_from at under (if t then run ∷ fence_runs w fs otherwise []) ≡ map (λ (r : List Fence). stretch_of r under) (if t then run ∷ fence_runs w fs otherwise [])
       go true e ih =
           rw (at_stretch run under at _ (at_run (low_of run) (high_of run) under at u (q (leb-true w (suc (length fs)) e)))) (ap (λ r. stretch_of run under ∷ r) ih)
       go false e ih = refl
@@ -130,7 +130,7 @@ unfolding comparisons_of moves_of
 comparisons_moves bound [] = omega arith
 comparisons_moves bound (k ∷ ks) = go (ltb k bound) (comparisons_moves bound ks)
   where
-    go : (t : Bool) → comparisons_of bound ks ≤ suc (moves_of bound ks) → suc (if t then comparisons_of bound ks else 0) ≤ suc (if t then suc (moves_of bound ks) else 0)
+    go : (t : Bool) → comparisons_of bound ks ≤ suc (moves_of bound ks) → suc (if t then comparisons_of bound ks otherwise 0) ≤ suc (if t then suc (moves_of bound ks) otherwise 0)
     go true ih = omega arith
     go false ih = omega arith
 

@@ -8,7 +8,7 @@ use lib.Dec.{leb, ltb}
 use lib.ListN.{length, take, drop}
 use borrow.Author.Tests.{leb-true, leb-false, ltb-true, ltb-false}
 use Rattle.slices.specs.Ranks.{Rising, count_below}
-use Rattle.levels.specs.Basics.{if◌then◌else◌}
+use Rattle.levels.specs.Basics.{if◌then◌otherwise◌}
 use Rattle.choice.specs.Fences.{Fence, Ordered, low_of, high_of, count_over, fence_overlap, count_at_most, first_keys, last_keys, stretch_of}
 use Rattle.slices.proofs.Ranks.{count_in, count_out, count_none, rising_weak}
 
@@ -35,7 +35,7 @@ overlap_is lo hi low (f ∷ fs) o =
 
     go : (t u : Bool) → leb lo f.last ≡ t → leb f.first hi ≡ u
         → count_over lo hi fs ≡ count_at_most hi (first_keys fs) - count_below lo (last_keys fs)
-        → (if t && u then suc (count_over lo hi fs) else count_over lo hi fs) ≡ count_at_most hi (first_keys (f ∷ fs)) - count_below lo (last_keys (f ∷ fs))
+        → (if t && u then suc (count_over lo hi fs) otherwise count_over lo hi fs) ≡ count_at_most hi (first_keys (f ∷ fs)) - count_below lo (last_keys (f ∷ fs))
     go true true e d ih =
         let p = leb-true lo f.last e in
         let q = leb-true f.first hi d in

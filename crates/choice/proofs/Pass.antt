@@ -10,7 +10,7 @@ use lib.ListN.{length, get_or, take, drop, length-drop}
 use lib.Seq.{drop-cons, length-take-le, get_or-take}
 use borrow.Author.Tests.{ltb-true, ltb-false, lt-ltb, le-ltb}
 use Rattle.slices.specs.Ranks.{Rising, count_below}
-use Rattle.levels.specs.Basics.{if◌then◌else◌}
+use Rattle.levels.specs.Basics.{if◌then◌otherwise◌}
 use Rattle.choice.specs.declared.Stretch.{Stretch}
 use Rattle.choice.specs.Fences.{Fence, Ordered, low_of, high_of, first_keys, last_keys, stretch_of}
 use Rattle.choice.specs.Pass.{moves_of, move_on, AtRun, NotPast}
@@ -24,7 +24,7 @@ unfolding moves_of
 moves_high bound [] = omega arith
 moves_high bound (k ∷ ks) = go (ltb k bound) (moves_high bound ks)
   where
-    go : (t : Bool) → moves_of bound ks ≤ length ks → (if t then suc (moves_of bound ks) else 0) ≤ suc (length ks)
+    go : (t : Bool) → moves_of bound ks ≤ length ks → (if t then suc (moves_of bound ks) otherwise 0) ≤ suc (length ks)
     go true ih = omega arith
     go false ih = omega arith
 
@@ -56,7 +56,7 @@ unfolding moves_of count_below
 moves_count bound low [] r = refl
 moves_count bound low (k ∷ ks) r = go (ltb k bound) refl (moves_count bound (suc k) ks r.1)
   where
-    go : (t : Bool) → ltb k bound ≡ t → moves_of bound ks ≡ count_below bound ks → (if t then suc (moves_of bound ks) else 0) ≡ count_below bound (k ∷ ks)
+    go : (t : Bool) → ltb k bound ≡ t → moves_of bound ks ≡ count_below bound ks → (if t then suc (moves_of bound ks) otherwise 0) ≡ count_below bound (k ∷ ks)
     go true e ih = rw (count_in bound k ks (ltb-true k bound e)) (ap suc ih)
     go false e ih = sym (count_none bound k (k ∷ ks) (omega arith, r.1) (ltb-false k bound e))
 

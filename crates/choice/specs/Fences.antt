@@ -1,7 +1,7 @@
 -- Step 1 of a merge over key fences: the choice of the run needs the first and the last key of each block, and no words of the places.
 use Rattle.std.specs.Prelude.{ℕ, suc, ◌+◌, ◌-◌, ◌≤◌, ◌&&◌, List, [], ◌∷◌, map, leb, ltb, length, take, drop, get_or}
 use Rattle.slices.specs.Ranks.{count_below}
-use Rattle.levels.specs.Basics.{if◌then◌else◌, each}
+use Rattle.levels.specs.Basics.{if◌then◌otherwise◌, each}
 use Rattle.levels.specs.Record.{Block, first_key, last_key}
 use Rattle.levels.specs.Choose.{Least, least_of}
 use Rattle.choice.specs.declared.Choice.{Choice}
@@ -40,7 +40,7 @@ pub record Fenced (firsts lasts : List ℕ) (i n : ℕ) : Type 0 where
 -- the runs of w neighbours, lowest keys first
 unfoldable pub fence_runs : ℕ → List Fence → List (List Fence)
 fence_runs w [] = []
-fence_runs w (f ∷ fs) = if leb w (suc (length fs)) then take w (f ∷ fs) ∷ fence_runs w fs else []
+fence_runs w (f ∷ fs) = if leb w (suc (length fs)) then take w (f ∷ fs) ∷ fence_runs w fs otherwise []
 
 -- first and last key of a run
 unfoldable pub low_of : List Fence → ℕ
@@ -55,7 +55,7 @@ high_of (f ∷ e ∷ fs) = high_of (e ∷ fs)
 -- the number of blocks that a run from key lo to key hi overlaps
 unfoldable pub count_over : ℕ → ℕ → List Fence → ℕ
 count_over lo hi [] = 0
-count_over lo hi (f ∷ fs) = if leb lo f.last && leb f.first hi then suc (count_over lo hi fs) else count_over lo hi fs
+count_over lo hi (f ∷ fs) = if leb lo f.last && leb f.first hi then suc (count_over lo hi fs) otherwise count_over lo hi fs
 
 unfoldable pub fence_overlap : List Fence → List Fence → ℕ
 fence_overlap under run = count_over (low_of run) (high_of run) under
@@ -101,4 +101,4 @@ run_over i y = record { first = i; overlap = y.end - y.start; below = y }
 
 -- Card 4, "ties included": a later run replaces the choice so far only if it overlaps fewer.
 abbrev pub fewer : Choice → Choice → Choice
-fewer best later = if ltb later.overlap best.overlap then later else best
+fewer best later = if ltb later.overlap best.overlap then later otherwise best

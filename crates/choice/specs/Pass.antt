@@ -2,14 +2,14 @@
 -- Here is a step of it; the whole pass is `pass_of` of proofs/Once.
 use Rattle.std.specs.Prelude.{ℕ, suc, ◌+◌, ◌≤◌, ◌≡◌, List, [], ◌∷◌, ltb, drop}
 use Rattle.slices.specs.Ranks.{count_below}
-use Rattle.levels.specs.Basics.{if◌then◌else◌}
+use Rattle.levels.specs.Basics.{if◌then◌otherwise◌}
 use Rattle.choice.specs.declared.Stretch.{Stretch}
 use Rattle.choice.specs.Fences.{Fence, count_at_most, first_keys, last_keys}
 
 -- An end moves forward over keys that are below a bound, one by one, up to the first that is not: how many moves that is.
 unfoldable pub moves_of : ℕ → List ℕ → ℕ
 moves_of bound [] = 0
-moves_of bound (k ∷ ks) = if ltb k bound then suc (moves_of bound ks) else 0
+moves_of bound (k ∷ ks) = if ltb k bound then suc (moves_of bound ks) otherwise 0
 
 -- Both ends move on to a run from key lo to key hi: the lower one over the blocks that end below it, the upper one over those that do not start above it.
 unfoldable pub move_on : ℕ → ℕ → List Fence → Stretch → Stretch

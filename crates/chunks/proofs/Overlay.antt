@@ -8,7 +8,7 @@ use native.Mathlib.Decide.{ℕ_discrete}
 use lib.Dec.{eqb}
 use lib.ListN.{length}
 use borrow.Author.Tests.{eq-eqb, ne_eqb}
-use Rattle.levels.specs.Basics.{if◌then◌else◌}
+use Rattle.levels.specs.Basics.{if◌then◌otherwise◌}
 use Rattle.levels.specs.Record.{Rec}
 use Rattle.levels.specs.Map.{overlay, into, unmarked}
 use Rattle.chunks.specs.Peel.{past, live_bit}
@@ -18,7 +18,7 @@ use Rattle.levels.proofs.Overlay.{into_below, into_same, into_above, Way, way}
 -- the first record, where its key is k
 unfoldable pub taken : ℕ → List Rec → List Rec
 taken k [] = []
-taken k (r ∷ rs) = if eqb r.key k then r ∷ [] else []
+taken k (r ∷ rs) = if eqb r.key k then r ∷ [] otherwise []
 
 -- the first of two lists that has something
 abbrev pub or_list : List Rec → List Rec → List Rec
@@ -103,7 +103,7 @@ unfolding taken past
 taken_past k [] = refl
 taken_past k (x ∷ xs) = go (eqb x.key k)
   where
-    go : (t : Bool) → x ∷ xs ≡ (if t then x ∷ [] else []) ++ (if t then xs else (x ∷ xs))
+    go : (t : Bool) → x ∷ xs ≡ (if t then x ∷ [] otherwise []) ++ (if t then xs otherwise (x ∷ xs))
     go true = refl
     go false = refl
 

@@ -7,7 +7,7 @@ use native.Mathlib.Numerals.{add-one}
 use native.Mathlib.Omega.{arith}
 use borrow.Author.Tests.{le-leb, lt-leb, eq-eqb, ne_eqb}
 use lib.Dec.{leb, eqb}
-use Rattle.levels.specs.Basics.{if◌then◌else◌}
+use Rattle.levels.specs.Basics.{if◌then◌otherwise◌}
 use Rattle.levels.specs.Record.{Rec, rising, clean_tombstones}
 use Rattle.words.specs.Stores.{word, slots_at}
 use Rattle.words.proofs.Slots.{shift_suc}
@@ -93,13 +93,13 @@ clean_zero ws v zero = refl
 clean_zero ws v (suc n) = clean_zero ws (suc v) n
 
 -- the pass is one over the payloads and mark bits, and then one over the keys
-pub rise_clean : (ws : List ℕ) (m k v n low : ℕ) → rise_of ws m k v n low ≡ (if clean_of ws m v n then rise_of ws 0 k v n low else Broken)
+pub rise_clean : (ws : List ℕ) (m k v n low : ℕ) → rise_of ws m k v n low ≡ (if clean_of ws m v n then rise_of ws 0 k v n low otherwise Broken)
 unfolding rise_of clean_of
 rise_clean ws m k v zero low = refl
 rise_clean ws m k v (suc n) low =
     rw (rise_clean ws (m / 2) (suc k) (suc v) n (suc (word ws k))) (go (leb low (word ws k)) (eqb (m % 2) 1 && not (eqb (word ws v) 0)) (clean_of ws (m / 2) (suc v) n) (rise_of ws 0 (suc k) (suc v) n (suc (word ws k))))
   where
-    go : (a d c : Bool) (x : Rise) → (if a && not d then (if c then x else Broken) else Broken) ≡ (if not d && c then (if a && true then x else Broken) else Broken)
+    go : (a d c : Bool) (x : Rise) → (if a && not d then (if c then x otherwise Broken) otherwise Broken) ≡ (if not d && c then (if a && true then x otherwise Broken) otherwise Broken)
     go true true c x = refl
     go false true c x = refl
     go true false c x = refl
@@ -112,13 +112,13 @@ next_low low [] = low
 next_low low (r ∷ rs) = next_low (suc r.key) rs
 
 -- the pass says: keys rise strictly, payloads of tombstones are 0, and no bit is set past the count
-pub rise_is : (ws : List ℕ) (m k v n low : ℕ) → rise_of ws m k v n low ≡ (if rising low (slots_at ws m k v n) && (clean_tombstones (slots_at ws m k v n) && eqb (m / 2 ^ n) 0) then To (next_low low (slots_at ws m k v n)) else Broken)
+pub rise_is : (ws : List ℕ) (m k v n low : ℕ) → rise_of ws m k v n low ≡ (if rising low (slots_at ws m k v n) && (clean_tombstones (slots_at ws m k v n) && eqb (m / 2 ^ n) 0) then To (next_low low (slots_at ws m k v n)) otherwise Broken)
 unfolding rise_of slots_at next_low
 rise_is ws m k v zero low = let e : m / 2 ^ 0 ≡ m = omega arith in rw e
 rise_is ws m k v (suc n) low =
     rw (shift_suc m n, rise_is ws (m / 2) (suc k) (suc v) n (suc (word ws k))) (go (leb low (word ws k)) (eqb (m % 2) 1) (eqb (word ws v) 0) _ _ _ _)
   where
-    go : (a t z c d e : Bool) (x : Rise) → (if a && not (t && not z) then (if c && (d && e) then x else Broken) else Broken) ≡ (if (a && c) && (((not t || z) && d) && e) then x else Broken)
+    go : (a t z c d e : Bool) (x : Rise) → (if a && not (t && not z) then (if c && (d && e) then x otherwise Broken) otherwise Broken) ≡ (if (a && c) && (((not t || z) && d) && e) then x otherwise Broken)
     go false t z c d e x = refl
     go true false z c d e x = refl
     go true true true c d e x = refl

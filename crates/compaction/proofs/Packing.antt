@@ -5,7 +5,7 @@ use mathlib.Core.Bool.{Bool, true, false}
 use mathlib.Core.List.{List, [], ◌∷◌, ◌++◌, reverse_aux}
 use lib.Dec.{leb}
 use lib.ListN.{length}
-use Rattle.levels.specs.Basics.{if◌then◌else◌}
+use Rattle.levels.specs.Basics.{if◌then◌otherwise◌}
 use Rattle.levels.specs.Record.{Rec, Level, new, pack}
 use Rattle.levels.specs.Merge.{Out, flush, gather}
 use Rattle.levels.specs.Well.{Sized}
@@ -37,7 +37,7 @@ kept_packed B (r ∷ rs) buffer done = go (leb B (suc (length buffer))) refl (ke
   where
     go : (t : Bool) → leb B (suc (length buffer)) ≡ t → Makes B rs (record { buffer = []; done = new (buffer ++ (r ∷ [])) ∷ done }) (reverse_aux (pack B [] rs) (new (buffer ++ (r ∷ [])) ∷ done))
         → Makes B rs (record { buffer = buffer ++ (r ∷ []); done = done }) (reverse_aux (pack B (buffer ++ (r ∷ [])) rs) done)
-        → Makes B rs (if t then record { buffer = []; done = new (buffer ++ (r ∷ [])) ∷ done } else record { buffer = buffer ++ (r ∷ []); done = done }) (reverse_aux (pack B buffer (r ∷ rs)) done)
+        → Makes B rs (if t then record { buffer = []; done = new (buffer ++ (r ∷ [])) ∷ done } otherwise record { buffer = buffer ++ (r ∷ []); done = done }) (reverse_aux (pack B buffer (r ∷ rs)) done)
     go true e full more = rw (e, pack) full
     go false e full more = rw (e, pack) more
 

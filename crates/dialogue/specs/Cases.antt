@@ -2,7 +2,7 @@
 -- Several short lists, because a refusal prints the names of the cases that fail only if that takes at most 200,000 steps.
 use Rattle.std.specs.Prelude.{ℕ, ◌≡◌, refl, Bool, List, [], ◌∷◌, ◌++◌}
 use Prim.Native.String.{String}
-use Rattle.levels.specs.Basics.{if◌then◌else◌}
+use Rattle.levels.specs.Basics.{if◌then◌otherwise◌}
 use Rattle.levels.specs.Bench.{same_numbers}
 use Rattle.levels.specs.Count.{above_of, under_of, run_of, overlap_of}
 use Rattle.levels.specs.Put.{merges_of}
@@ -41,7 +41,7 @@ name_of (keeps name lines line) = name
 -- The names of the cases that do not hold: a refusal of the theorem prints them.
 unfoldable pub failing : List Case → List String
 failing [] = []
-failing (c ∷ cs) = if holds c then failing cs else (name_of c ∷ failing cs)
+failing (c ∷ cs) = if holds c then failing cs otherwise (name_of c ∷ failing cs)
 
 -- document 01's example
 unfoldable pub example_cases : List Case

@@ -11,7 +11,7 @@ use native.Mathlib.Omega.{arith}
 use borrow.Author.Tests.{leb-true}
 use lib.Dec.{eqb}
 use lib.ListN.{length, length-append}
-use Rattle.levels.specs.Basics.{if◌then◌else◌}
+use Rattle.levels.specs.Basics.{if◌then◌otherwise◌}
 use Rattle.levels.specs.Record.{rising, clean_tombstones}
 use Rattle.levels.specs.Waste.{wasteful}
 use Rattle.words.specs.Stores.{word}
@@ -44,7 +44,7 @@ module _ (d : Directory) (ws : List ℕ) (w : Within d ws) (i : ℕ) (h : i < d.
   unfolding chunk_at
   chunk_room = go d.top refl
     where
-      go : (t : Bool) → d.top ≡ t → ((if t then page_of (word ws (d.list + i)) d i else block_of ws d.width (start_of ws d i)).keys + d.width ≤ length ws) × ((if t then page_of (word ws (d.list + i)) d i else block_of ws d.width (start_of ws d i)).pays + d.width ≤ length ws)
+      go : (t : Bool) → d.top ≡ t → ((if t then page_of (word ws (d.list + i)) d i otherwise block_of ws d.width (start_of ws d i)).keys + d.width ≤ length ws) × ((if t then page_of (word ws (d.list + i)) d i otherwise block_of ws d.width (start_of ws d i)).pays + d.width ≤ length ws)
       go true t = let p = page_end d.width i d.chunks h in (omega (arith, w.page_keys t), omega (arith, w.page_pays t))
       go false t = let p = w.blocks t i h in (omega arith, omega arith)
 
@@ -98,7 +98,7 @@ shuffle true true false z t q y = refl
 shuffle true true true false t q y = refl
 shuffle true true true true t q y = refl
 
-on_pick : (b : Bool) (x : ℕ) (f : ℕ → Bool) → on_rise (if b then To x else Broken) f ≡ (b && f x)
+on_pick : (b : Bool) (x : ℕ) (f : ℕ → Bool) → on_rise (if b then To x otherwise Broken) f ≡ (b && f x)
 on_pick true x f = refl
 on_pick false x f = refl
 

@@ -1,6 +1,6 @@
 -- Directories: the chunks of a level, its records, and the rules that it keeps.
 use Rattle.std.specs.Prelude.{ℕ, zero, suc, ◌+◌, ◌-◌, ◌*◌, ◌≤◌, ◌<◌, ◌≡◌, Bool, true, false, not, ◌&&◌, ◌||◌, List, [], ◌++◌, ltb, leb, eqb, length}
-use Rattle.levels.specs.Basics.{if◌then◌else◌}
+use Rattle.levels.specs.Basics.{if◌then◌otherwise◌}
 use Rattle.levels.specs.Record.{Rec}
 use Rattle.levels.specs.Waste.{wasteful}
 use Rattle.levels.specs.Rising.{Rising}
@@ -17,7 +17,7 @@ page_of m d i = record {
   marks = m;
   keys = d.base + i * d.width;
   pays = d.pays + i * d.width;
-  count = if ltb (d.records - i * d.width) d.width then d.records - i * d.width else d.width;
+  count = if ltb (d.records - i * d.width) d.width then d.records - i * d.width otherwise d.width;
 }
 
 -- the block of `width` slots that starts at a word
@@ -29,7 +29,7 @@ abbrev pub start_of : List ℕ → Directory → ℕ → ℕ
 start_of ws d i = d.base + word ws (d.list + i) * (2 + 2 * d.width)
 
 unfoldable pub chunk_at : List ℕ → Directory → ℕ → Chunk
-chunk_at ws d i = if d.top then page_of (word ws (d.list + i)) d i else block_of ws d.width (start_of ws d i)
+chunk_at ws d i = if d.top then page_of (word ws (d.list + i)) d i otherwise block_of ws d.width (start_of ws d i)
 
 -- the records of the n chunks from chunk i on
 unfoldable pub records_from : List ℕ → Directory → ℕ → ℕ → List Rec

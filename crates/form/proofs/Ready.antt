@@ -6,7 +6,7 @@ use mathlib.Core.List.{List}
 use native.Mathlib.Omega.{arith}
 use lib.ListN.{length}
 use borrow.Author.Tests.{eq-eqb, ne_eqb}
-use Rattle.levels.specs.Basics.{if◌then◌else◌, or_else}
+use Rattle.levels.specs.Basics.{if◌then◌otherwise◌, or_else}
 use Rattle.levels.specs.Map.{find, view, decides}
 use Rattle.levels.specs.Store.{rows}
 use Rattle.words.specs.Stores.{geometry_at, store_at, layout_at}
@@ -25,13 +25,13 @@ use Rattle.layout.specs.declared.Layout.{Layout}
 use Rattle.words.specs.Passed.{Passed}
 
 -- "4. The form check finds a breach": all that is left to find of a store that is ready
-pub ready_reason : (ws : List ℕ) (z : Layout) → opened_of ws ≡ Ready z → reason_of ws ≡ (if formed z ws then 0 else 4)
+pub ready_reason : (ws : List ℕ) (z : Layout) → opened_of ws ≡ Ready z → reason_of ws ≡ (if formed z ws then 0 otherwise 4)
 unfolding reason_of
 ready_reason ws z e =
     let q = ap (λ (y : Layout). formed y ws) (opened_ready ws z e).layout in
     rw (q, eq-eqb (size_reason (length ws) (geometry_at ws)) 0 (opened_none ws z e), reason_of) (either (formed (layout_at ws) ws))
   where
-    either : (t : Bool) → ◌≡◌ {A = ℕ} (elim t [ true ↦ 0 | false ↦ 4 ]) (if t then 0 else 4)
+    either : (t : Bool) → ◌≡◌ {A = ℕ} (elim t [ true ↦ 0 | false ↦ 4 ]) (if t then 0 otherwise 4)
     either true = refl
     either false = refl
 

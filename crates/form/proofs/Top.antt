@@ -11,7 +11,7 @@ use lib.Dec.{ltb, eqb}
 use lib.ListN.{length, take, drop, drop_of_length-le}
 use lib.Seq.{take_all, take-nil, drop-nil}
 use Rattle.geometry.specs.Geometry.{capacity_of}
-use Rattle.levels.specs.Basics.{if◌then◌else◌, all}
+use Rattle.levels.specs.Basics.{if◌then◌otherwise◌, all}
 use Rattle.levels.specs.Record.{Rec, rising, clean_tombstones}
 use Rattle.levels.proofs.Every.{all_joined}
 use Rattle.words.specs.Stores.{word, slots_at, page_slots, top_slots, top_recs, top_count_at}
@@ -30,7 +30,7 @@ use Rattle.layout.specs.declared.Layout.{Layout}
 
 -- the smaller of two numbers
 abbrev pub least : ℕ → ℕ → ℕ
-least r b = if ltb r b then r else b
+least r b = if ltb r b then r otherwise b
 
 least_is : (P : ℕ → Type 0) (r b : ℕ) → (r < b → P r) → (b ≤ r → P b) → P (least r b)
 least_is P r b f k = dite (dec_lt r b) (λ y. rw (lt-ltb r b y) (f y)) (λ n. let l : b ≤ r = omega arith in rw (le-ltb r b l) (k l))

@@ -13,7 +13,7 @@ use Rattle.blocks.specs.Blocks.{start_of, pushed, empty_buffer}
 use Rattle.joins.specs.Joins.{Clean, appended, joined, Pullable, pulled, Lefts, rested_out}
 use Rattle.stream.specs.declared.Progress.{Progress}
 use Rattle.sides.specs.Sides.{last_size}
-use Rattle.levels.specs.Basics.{if◌then◌else◌}
+use Rattle.levels.specs.Basics.{if◌then◌otherwise◌}
 use borrow.Author.Tests.{eqb-false}
 use lib.Dec.{eqb}
 
@@ -61,7 +61,7 @@ pub last_pull : (z : Offsets) (xs out : List ℕ) (m n : ℕ) → 1 ≤ n → la
 unfolding last_size
 last_pull z xs out m n l h = go (eqb m 0) refl h
   where
-    go : (t : Bool) → eqb m 0 ≡ t → (if t then z.b else get_or xs (start_of z (get_or out (m - 1) 0)) 0) + n ≤ z.b → (1 ≤ m) × (get_or xs (start_of z (get_or out (m - 1) 0)) 0 ≡ (if t then z.b else get_or xs (start_of z (get_or out (m - 1) 0)) 0))
+    go : (t : Bool) → eqb m 0 ≡ t → (if t then z.b otherwise get_or xs (start_of z (get_or out (m - 1) 0)) 0) + n ≤ z.b → (1 ≤ m) × (get_or xs (start_of z (get_or out (m - 1) 0)) 0 ≡ (if t then z.b otherwise get_or xs (start_of z (get_or out (m - 1) 0)) 0))
     go true e h = absurd (omega arith)
     go false e h = (omega (arith, eqb-false m 0 e), refl)
 

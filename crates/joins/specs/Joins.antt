@@ -1,6 +1,6 @@
 -- Step 4 of a merge as a machine: leftovers join the block before them and the block after Y.
 use Rattle.std.specs.Prelude.{ℕ, zero, suc, ◌+◌, ◌-◌, ◌/◌, ◌%◌, ◌^◌, ◌≤◌, ◌<◌, List, leb, eqb, get_or, set}
-use Rattle.levels.specs.Basics.{if◌then◌else◌}
+use Rattle.levels.specs.Basics.{if◌then◌otherwise◌}
 use Rattle.blocks.specs.declared.Offsets.{Offsets}
 use Rattle.blocks.specs.declared.Buffer.{Buffer}
 use Rattle.blocks.specs.Blocks.{Sized, start_of, pushed, empty_buffer}
@@ -62,8 +62,8 @@ pub record Lefts (z : Offsets) (xs out : List ℕ) (w : Progress) : Type 0 where
 unfoldable pub left_joined : Offsets → List ℕ → List ℕ → Progress → Progress
 left_joined z xs out w =
     if eqb w.buf.n 0 then w
-    else if leb (last_size z xs out w.m + w.buf.n) z.b then pulled z xs out w
-    else w
+    otherwise if leb (last_size z xs out w.m + w.buf.n) z.b then pulled z xs out w
+    otherwise w
 
 -- the block after Y, at place q, goes into the buffer
 unfoldable pub after_taken : Offsets → List ℕ → ℕ → Progress → Progress
@@ -91,9 +91,9 @@ after_joined z xs out ys w end =
     let q = get_or ys w.y.i 0 in
     let size = get_or xs (start_of z q) 0 in
     if leb end w.y.i then w
-    else if eqb w.buf.n 0 then (if leb (last_size z xs out w.m + size) z.b then after_taken z xs q (pulled z xs out w) else w)
-    else if leb (w.buf.n + size) z.b then after_taken z xs q w
-    else w
+    otherwise if eqb w.buf.n 0 then (if leb (last_size z xs out w.m + size) z.b then after_taken z xs q (pulled z xs out w) otherwise w)
+    otherwise if leb (w.buf.n + size) z.b then after_taken z xs q w
+    otherwise w
 
 -- n entries of a list from `from` on, at m on
 unfoldable pub rested_out : List ℕ → ℕ → List ℕ → ℕ → ℕ → List ℕ

@@ -10,7 +10,7 @@ use lib.ListN.{length, length-append}
 use Rattle.geometry.specs.declared.Geometry.{Geometry}
 use Rattle.geometry.specs.Geometry.{Valid, capacity_of, top_capacity_of, flash_capacity_of, capacity_sum}
 use Rattle.geometry.proofs.Laws.{capacity_doubles, flash_capacity_below}
-use Rattle.levels.specs.Basics.{if◌then◌else◌, is_some, total}
+use Rattle.levels.specs.Basics.{if◌then◌otherwise◌, is_some, total}
 use Rattle.levels.specs.Record.{Level, records}
 use Rattle.levels.specs.Map.{find}
 use Rattle.levels.specs.Waste.{needs_compact}
@@ -34,7 +34,7 @@ into_most : (j c : ℕ) (f : Merge → ℕ) (ms : List Merge) → Every (λ m. f
 into_most j c f [] h = omega arith
 into_most j c f (m ∷ ms) h = pick (eqb (suc m.level) j) (into_most j c f ms h.1)
   where
-    pick : (t : Bool) → total_into j f ms ≤ c * length ms → (if t then f m else 0) + total_into j f ms ≤ c * suc (length ms)
+    pick : (t : Bool) → total_into j f ms ≤ c * length ms → (if t then f m otherwise 0) + total_into j f ms ≤ c * suc (length ms)
     pick true q = omega (arith, h.0)
     pick false q = omega arith
 
@@ -46,7 +46,7 @@ pub compacted_most : (g : Geometry) (e : Store) (j : ℕ) (cs : List Compaction)
 compacted_most g e j [] v f = omega arith
 compacted_most g e j (c ∷ cs) v f = pick (eqb c.level j) (compacted_most g e j cs v f.1)
   where
-    pick : (t : Bool) → total_compacted j cs ≤ 8191 * length cs → (if t then blocks_compacted c else 0) + total_compacted j cs ≤ 8191 * suc (length cs)
+    pick : (t : Bool) → total_compacted j cs ≤ 8191 * length cs → (if t then blocks_compacted c otherwise 0) + total_compacted j cs ≤ 8191 * suc (length cs)
     pick true q = omega (arith, compaction_newly g e c f.0, f.0.room, v.places_high)
     pick false q = omega arith
 

@@ -7,7 +7,7 @@ use native.Mathlib.Omega.{arith}
 use lib.Dec.{leb}
 use lib.ListN.{length, get_or, take, drop, length-map}
 use borrow.Author.Tests.{leb-true, leb-false, le-leb}
-use Rattle.levels.specs.Basics.{if◌then◌else◌}
+use Rattle.levels.specs.Basics.{if◌then◌otherwise◌}
 use Rattle.levels.specs.Record.{Level}
 use Rattle.levels.specs.Choose.{Least, least, least_of, runs, overlap, choose}
 use Rattle.levels.proofs.Lists.{get_d_map_in}
@@ -49,7 +49,7 @@ least_of_is (q ∷ qs) h = least_is q qs
 
 -- "A run is W(i) neighbours of level i": run i begins with entry i, and there are as many as fit. Of a list of anything, F giving its runs: `runs` does, and
 -- so does the choice by fences.
-module _ {A : Type 0} (w : ℕ) (F : List A → List (List A)) (none : F [] ≡ []) (more : (x : A) (xs : List A) → F (x ∷ xs) ≡ (if leb w (suc (length xs)) then take w (x ∷ xs) ∷ F xs else []))
+module _ {A : Type 0} (w : ℕ) (F : List A → List (List A)) (none : F [] ≡ []) (more : (x : A) (xs : List A) → F (x ∷ xs) ≡ (if leb w (suc (length xs)) then take w (x ∷ xs) ∷ F xs otherwise []))
     (p : 1 ≤ w) where
   pub run_of : (xs : List A) (i : ℕ) → i + w ≤ length xs → get_or (F xs) i [] ≡ take w (drop i xs)
   run_of [] i h = absurd (omega arith)
@@ -61,7 +61,7 @@ module _ {A : Type 0} (w : ℕ) (F : List A → List (List A)) (none : F [] ≡ 
   runs_of (x ∷ xs) = rw (more x xs) (go (leb w (suc (length xs))) refl (runs_of xs))
     where
       go : (t : Bool) → leb w (suc (length xs)) ≡ t → length (F xs) ≡ suc (length xs) - w
-          → length (if t then take w (x ∷ xs) ∷ F xs else []) ≡ suc (length (x ∷ xs)) - w
+          → length (if t then take w (x ∷ xs) ∷ F xs otherwise []) ≡ suc (length (x ∷ xs)) - w
       go true e ih = omega (arith, leb-true w (suc (length xs)) e)
       go false e ih = omega (arith, leb-false w (suc (length xs)) e)
 

@@ -8,7 +8,7 @@ use lib.Dec.{leb, ltb}
 use lib.Seq.{drop-drop}
 use lib.ListN.{length, length-append, take, drop, length-take, length-drop, take-append-drop}
 use borrow.Author.Tests.{leb-false, ltb-true, ltb-false, le-leb, lt-leb}
-use Rattle.levels.specs.Basics.{if◌then◌else◌}
+use Rattle.levels.specs.Basics.{if◌then◌otherwise◌}
 use Rattle.levels.specs.Record.{Rec, Block, Level, records, first_key, last_key}
 use Rattle.levels.specs.Choose.{lo_of, hi_of, meets, count_meets, overlap, Cut, below, not_above, cut_at}
 use Rattle.levels.specs.Rising.{Rising, Below}
@@ -62,7 +62,7 @@ run_length w first above under h = length-take w (drop first above) ∙ omega (a
 -- "A run overlaps a block of level i + 1 if ..": the blocks that keys lo to hi overlap
 abbrev pub overlapped : ℕ → ℕ → Level → Level
 overlapped lo hi [] = []
-overlapped lo hi (b ∷ bs) = if meets lo hi b then b ∷ overlapped lo hi bs else overlapped lo hi bs
+overlapped lo hi (b ∷ bs) = if meets lo hi b then b ∷ overlapped lo hi bs otherwise overlapped lo hi bs
 
 -- their number is the overlap
 pub overlapped_length : (lo hi : ℕ) (l : Level) → length (overlapped lo hi l) ≡ count_meets lo hi l
@@ -70,7 +70,7 @@ overlapped_length lo hi [] = refl
 overlapped_length lo hi (b ∷ bs) = go (meets lo hi b) (overlapped_length lo hi bs)
   where
     go : (t : Bool) → length (overlapped lo hi bs) ≡ count_meets lo hi bs
-        → length (if t then b ∷ overlapped lo hi bs else overlapped lo hi bs) ≡ (if t then suc (count_meets lo hi bs) else count_meets lo hi bs)
+        → length (if t then b ∷ overlapped lo hi bs otherwise overlapped lo hi bs) ≡ (if t then suc (count_meets lo hi bs) otherwise count_meets lo hi bs)
     go true ih = ap suc ih
     go false ih = ih
 
@@ -80,7 +80,7 @@ overlapped_out lo hi b bs h = rw (lt-leb lo (last_key b.recs) h)
 overlapped_over : (lo hi : ℕ) (b : Block) (bs : Level) → hi < first_key b.recs → overlapped lo hi (b ∷ bs) ≡ overlapped lo hi bs
 overlapped_over lo hi b bs h = go (leb lo (last_key b.recs)) (lt-leb (first_key b.recs) hi h)
   where
-    go : (t : Bool) → leb (first_key b.recs) hi ≡ false → (if t && leb (first_key b.recs) hi then b ∷ overlapped lo hi bs else overlapped lo hi bs) ≡ overlapped lo hi bs
+    go : (t : Bool) → leb (first_key b.recs) hi ≡ false → (if t && leb (first_key b.recs) hi then b ∷ overlapped lo hi bs otherwise overlapped lo hi bs) ≡ overlapped lo hi bs
     go true e = rw e
     go false e = refl
 
@@ -92,7 +92,7 @@ not_above_lem : (lo hi k : ℕ) (l : Level) → Ordered k l → lo ≤ k → not
 not_above_lem lo hi k [] o h = refl
 not_above_lem lo hi k (b ∷ bs) o h = go (leb (first_key b.recs) hi) refl (not_above_lem lo hi (suc (last_key b.recs)) bs o.2 (omega arith))
   where
-    go : (t : Bool) → leb (first_key b.recs) hi ≡ t → not_above hi bs ≡ overlapped lo hi bs → (if t then b ∷ not_above hi bs else []) ≡ overlapped lo hi (b ∷ bs)
+    go : (t : Bool) → leb (first_key b.recs) hi ≡ t → not_above hi bs ≡ overlapped lo hi bs → (if t then b ∷ not_above hi bs otherwise []) ≡ overlapped lo hi (b ∷ bs)
     go true e ih = rw (e, le-leb lo (last_key b.recs) (omega arith)) (ap (λ (k : Level). b ∷ k) ih)
     go false e ih =
         sym (overlapped_over lo hi b bs (leb-false (first_key b.recs) hi e) ∙ overlapped_none lo hi (suc (last_key b.recs)) bs o.2 (omega (arith, leb-false (first_key b.recs) hi e)))
@@ -101,7 +101,7 @@ not_above_lem lo hi k (b ∷ bs) o h = go (leb (first_key b.recs) hi) refl (not_
 not_above_first : (lo hi k : ℕ) (b : Block) (bs : Level) → Ordered k (b ∷ bs) → lo ≤ last_key b.recs → not_above hi (b ∷ bs) ≡ overlapped lo hi (b ∷ bs)
 not_above_first lo hi k b bs o h = go (leb (first_key b.recs) hi) refl
   where
-    go : (t : Bool) → leb (first_key b.recs) hi ≡ t → (if t then b ∷ not_above hi bs else []) ≡ overlapped lo hi (b ∷ bs)
+    go : (t : Bool) → leb (first_key b.recs) hi ≡ t → (if t then b ∷ not_above hi bs otherwise []) ≡ overlapped lo hi (b ∷ bs)
     go true e = rw (e, le-leb lo (last_key b.recs) h) (ap (λ (k : Level). b ∷ k) (not_above_lem lo hi (suc (last_key b.recs)) bs o.2 (omega arith)))
     go false e =
         sym (overlapped_over lo hi b bs (leb-false (first_key b.recs) hi e) ∙ overlapped_none lo hi (suc (last_key b.recs)) bs o.2 (omega (arith, leb-false (first_key b.recs) hi e)))
@@ -111,7 +111,7 @@ over_is lo hi k [] o = refl
 over_is lo hi k (b ∷ bs) o = go (ltb (last_key b.recs) lo) refl (over_is lo hi (suc (last_key b.recs)) bs o.2)
   where
     go : (t : Bool) → ltb (last_key b.recs) lo ≡ t → not_above hi (drop (length (below lo bs)) bs) ≡ overlapped lo hi bs
-        → not_above hi (drop (length (if t then b ∷ below lo bs else [])) (b ∷ bs)) ≡ overlapped lo hi (b ∷ bs)
+        → not_above hi (drop (length (if t then b ∷ below lo bs otherwise [])) (b ∷ bs)) ≡ overlapped lo hi (b ∷ bs)
     go true e ih = ih ∙ sym (overlapped_out lo hi b bs (ltb-true (last_key b.recs) lo e))
     go false e ih = not_above_first lo hi k b bs o (ltb-false (last_key b.recs) lo e)
 
@@ -164,7 +164,7 @@ before_below B lo k (b ∷ bs) s h =
     let e = block_ends k b.recs (records bs) s.0 h in
     go (ltb (last_key b.recs) lo) refl e.1 (before_below B lo (suc (last_key b.recs)) bs s.2 e.2)
   where
-    go : (t : Bool) → ltb (last_key b.recs) lo ≡ t → Below (suc (last_key b.recs)) b.recs → Below lo (records (below lo bs)) → Below lo (records (if t then b ∷ below lo bs else []))
+    go : (t : Bool) → ltb (last_key b.recs) lo ≡ t → Below (suc (last_key b.recs)) b.recs → Below lo (records (below lo bs)) → Below lo (records (if t then b ∷ below lo bs otherwise []))
     go true e c ih = below_append lo b.recs (records (below lo bs)) (below_more (suc (last_key b.recs)) lo b.recs (ltb-true (last_key b.recs) lo e) c) ih
     go false e c ih = tt
 
@@ -174,7 +174,7 @@ behind_rising B hi k [] s h = tt
 behind_rising B hi k (b ∷ bs) s h = go (leb (first_key b.recs) hi) refl (behind_rising B hi k bs s.2 (rising_right k b.recs (records bs) h))
   where
     go : (t : Bool) → leb (first_key b.recs) hi ≡ t → Rising (suc hi) (records (drop (length (not_above hi bs)) bs))
-        → Rising (suc hi) (records (drop (length (if t then b ∷ not_above hi bs else [])) (b ∷ bs)))
+        → Rising (suc hi) (records (drop (length (if t then b ∷ not_above hi bs otherwise [])) (b ∷ bs)))
     go true e ih = ih
     go false e ih = rising_from (suc hi) (first_key b.recs) (records (b ∷ bs)) (leb-false (first_key b.recs) hi e) (first_rising k b bs s.0 h)
 

@@ -10,7 +10,7 @@ use native.Mathlib.Decide.{ℕ_discrete, dec_lt}
 use lib.Dec.{leb, eqb}
 use lib.ListN.{length}
 use borrow.Author.Tests.{eqb-true, le-leb, lt-leb, leb-false}
-use Rattle.levels.specs.Basics.{if◌then◌else◌, member}
+use Rattle.levels.specs.Basics.{if◌then◌otherwise◌, member}
 use Rattle.levels.specs.Place.{after, free_after, Allocation, first_free}
 use Rattle.levels.specs.Taking.{round, FirstFree}
 
@@ -27,7 +27,7 @@ free_on n P used p e = rw (e, free_after)
 pub after_inside : (P p : ℕ) → 1 ≤ P → after P p < P
 after_inside P p h = go (leb P (suc p)) refl
   where
-    go : (t : Bool) → leb P (suc p) ≡ t → (if t then 0 else suc p) < P
+    go : (t : Bool) → leb P (suc p) ≡ t → (if t then 0 otherwise suc p) < P
     go true e = omega arith
     go false e = leb-false P (suc p) e
 
@@ -50,13 +50,13 @@ free_after_lem (suc n) P used p k q l f = go (member (after P p) used) refl k l 
 
 abbrev remove : ℕ → List ℕ → List ℕ
 remove x [] = []
-remove x (y ∷ ys) = if eqb x y then ys else y ∷ remove x ys
+remove x (y ∷ ys) = if eqb x y then ys otherwise y ∷ remove x ys
 
 remove_length : (x : ℕ) (ys : List ℕ) → member x ys ≡ true → suc (length (remove x ys)) ≡ length ys
 remove_length x [] e = cc
 remove_length x (y ∷ ys) e = go (eqb x y) e (remove_length x ys)
   where
-    go : (t : Bool) → (t || member x ys) ≡ true → (member x ys ≡ true → suc (length (remove x ys)) ≡ length ys) → suc (length (if t then ys else y ∷ remove x ys)) ≡ suc (length ys)
+    go : (t : Bool) → (t || member x ys) ≡ true → (member x ys ≡ true → suc (length (remove x ys)) ≡ length ys) → suc (length (if t then ys otherwise y ∷ remove x ys)) ≡ suc (length ys)
     go true e ih = refl
     go false e ih = omega (arith, ih e)
 
@@ -64,7 +64,7 @@ remove_keeps : (x z : ℕ) (ys : List ℕ) → z ≢ x → member z ys ≡ true 
 remove_keeps x z [] n e = e
 remove_keeps x z (y ∷ ys) n e = go (eqb x y) (eqb z y) refl refl e (remove_keeps x z ys n)
   where
-    go : (s t : Bool) → eqb x y ≡ s → eqb z y ≡ t → (t || member z ys) ≡ true → (member z ys ≡ true → member z (remove x ys) ≡ true) → member z (if s then ys else y ∷ remove x ys) ≡ true
+    go : (s t : Bool) → eqb x y ≡ s → eqb z y ≡ t → (t || member z ys) ≡ true → (member z ys ≡ true → member z (remove x ys) ≡ true) → member z (if s then ys otherwise y ∷ remove x ys) ≡ true
     go true true p q e ih = absurd (n (eqb-true z y q ∙ sym (eqb-true x y p)))
     go true false p q e ih = e
     go false true p q e ih = rw q

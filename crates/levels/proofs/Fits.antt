@@ -12,7 +12,7 @@ use borrow.Author.Tests.{ltb-false}
 use Rattle.geometry.specs.declared.Geometry.{Geometry}
 use Rattle.geometry.specs.Geometry.{Valid, capacity_of, capacity_sum, key_limit_of}
 use Rattle.geometry.proofs.Laws.{capacity_sum_first}
-use Rattle.levels.specs.Basics.{if◌then◌else◌, total, ceil_div}
+use Rattle.levels.specs.Basics.{if◌then◌otherwise◌, total, ceil_div}
 use Rattle.levels.specs.Record.{Rec, Level, records, has_tombstone}
 use Rattle.levels.specs.Map.{into, overlay, view, unmarked, map_of, live_count}
 use Rattle.levels.specs.Waste.{wasteful}
@@ -23,10 +23,10 @@ use Rattle.levels.proofs.Levels.{sized_most}
 
 -- 1 for a tombstone; 1 for a record that is none
 abbrev dead : Rec → ℕ
-dead r = if r.tombstone then 1 else 0
+dead r = if r.tombstone then 1 otherwise 0
 
 abbrev alive : Rec → ℕ
-alive r = if r.tombstone then 0 else 1
+alive r = if r.tombstone then 0 otherwise 1
 
 -- the tombstones of a list
 abbrev pub tombstones : List Rec → ℕ
@@ -36,7 +36,7 @@ tombstones (r ∷ rs) = dead r + tombstones rs
 dead_alive : (r : Rec) → dead r + alive r ≡ 1
 dead_alive r = go r.tombstone
   where
-    go : (t : Bool) → (if t then 1 else 0) + (if t then 0 else 1) ≡ 1
+    go : (t : Bool) → (if t then 1 otherwise 0) + (if t then 0 otherwise 1) ≡ 1
     go true = refl
     go false = refl
 
@@ -44,7 +44,7 @@ dead_alive r = go r.tombstone
 unmarked_count : (r : Rec) (rs : List Rec) → length (unmarked (r ∷ rs)) ≡ alive r + length (unmarked rs)
 unmarked_count r rs = go r.tombstone refl
   where
-    go : (t : Bool) → r.tombstone ≡ t → length (unmarked (r ∷ rs)) ≡ (if t then 0 else 1) + length (unmarked rs)
+    go : (t : Bool) → r.tombstone ≡ t → length (unmarked (r ∷ rs)) ≡ (if t then 0 otherwise 1) + length (unmarked rs)
     go true e = ap length (unmarked_drop r rs e) ∙ omega arith
     go false e = ap length (unmarked_keep r rs e) ∙ omega arith
 

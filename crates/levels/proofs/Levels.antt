@@ -6,7 +6,7 @@ use mathlib.Core.List.{List, [], ◌∷◌, ◌++◌, append_assoc}
 use native.Mathlib.Omega.{arith}
 use lib.ListN.{length, length-append, take, drop}
 use borrow.Author.Tests.{ltb-true, lt-ltb}
-use Rattle.levels.specs.Basics.{if◌then◌else◌}
+use Rattle.levels.specs.Basics.{if◌then◌otherwise◌}
 use Rattle.levels.specs.Record.{Rec, Block, Level, size, records, first_key, last_key}
 use Rattle.levels.specs.Waste.{pair_rule}
 use Rattle.levels.specs.Well.{Sized, Apart, Pairs, Well}
@@ -100,7 +100,7 @@ pub data Prefix : Level → Level → Type 0 where
   empty : {l : Level} → Prefix [] l
   more : {b : Block} {k l : Level} → Prefix k l → Prefix (b ∷ k) (b ∷ l)
 
-pub prefix_if : (t : Bool) {b : Block} {k l : Level} → Prefix k l → Prefix (if t then b ∷ k else []) (b ∷ l)
+pub prefix_if : (t : Bool) {b : Block} {k l : Level} → Prefix k l → Prefix (if t then b ∷ k otherwise []) (b ∷ l)
 prefix_if true p = more p
 prefix_if false p = empty
 

@@ -7,7 +7,7 @@ use native.Mathlib.Omega.{arith}
 use lib.Dec.{leb, ltb, eqb}
 use lib.ListN.{length, length-append}
 use borrow.Author.Tests.{ltb-true, ltb-false, eqb-true, eqb-false}
-use Rattle.levels.specs.Basics.{if◌then◌else◌, iterate}
+use Rattle.levels.specs.Basics.{if◌then◌otherwise◌, iterate}
 use Rattle.levels.specs.Record.{Rec, Block, Level, size, new, placed, records, first_key, last_key, has_tombstone}
 use Rattle.levels.specs.Map.{into, overlay, unmarked}
 use Rattle.levels.specs.Merge.{Out, State, ends_below, may_follow, reusable, flush, rest, head_rec, reuse, keep, gather, from_upper, from_lower, from_both, step_on, step, join_left, join, stream, merge, close}
@@ -43,7 +43,7 @@ reuse_recs b o = simp (append-nil, flush_recs)
 keep_recs : (B : ℕ) (r : Rec) (o : Out) → out_recs (keep B r o) ≡ out_recs o ++ (r ∷ [])
 keep_recs B r o = go (leb B (suc (length o.buffer)))
   where
-    go : (t : Bool) → out_recs (if t then record { buffer = []; done = new (o.buffer ++ (r ∷ [])) ∷ o.done } else record { buffer = o.buffer ++ (r ∷ []); done = o.done }) ≡ out_recs o ++ (r ∷ [])
+    go : (t : Bool) → out_recs (if t then record { buffer = []; done = new (o.buffer ++ (r ∷ [])) ∷ o.done } otherwise record { buffer = o.buffer ++ (r ∷ []); done = o.done }) ≡ out_recs o ++ (r ∷ [])
     go true = simp (append-nil, append_assoc)
     go false = simp append_assoc
 
@@ -53,7 +53,7 @@ unfolding unmarked
 gather_recs B false r o = keep_recs B r o
 gather_recs B true r o = go r.tombstone
   where
-    go : (t : Bool) → out_recs (if t then o else keep B r o) ≡ out_recs o ++ elim t [ true ↦ [] | false ↦ r ∷ [] ]
+    go : (t : Bool) → out_recs (if t then o otherwise keep B r o) ≡ out_recs o ++ elim t [ true ↦ [] | false ↦ r ∷ [] ]
     go true = sym (append-nil (out_recs o))
     go false = keep_recs B r o
 
@@ -162,7 +162,7 @@ module _ (B : ℕ) (bottom : Bool) where
   upper_outcome x xs lower o f g h a = go (reusable B bottom o lower x) refl
     where
       go : (t : Bool) → reusable B bottom o lower x ≡ t
-          → outcome bottom (if t then record { upper = xs; lower = lower; out = reuse x o } else record { upper = rest (x ∷ xs); lower = lower; out = gather B bottom (head_rec x) o })
+          → outcome bottom (if t then record { upper = xs; lower = lower; out = reuse x o } otherwise record { upper = rest (x ∷ xs); lower = lower; out = gather B bottom (head_rec x) o })
           ≡ out_recs o ++ kept bottom (overlay (records (x ∷ xs)) (records lower))
       go true e =
           let c = reusable_says B bottom o lower x e in
@@ -177,7 +177,7 @@ module _ (B : ℕ) (bottom : Bool) where
   lower_outcome y ys upper o f g h a = go (reusable B bottom o upper y) refl
     where
       go : (t : Bool) → reusable B bottom o upper y ≡ t
-          → outcome bottom (if t then record { upper = upper; lower = ys; out = reuse y o } else record { upper = upper; lower = rest (y ∷ ys); out = gather B bottom (head_rec y) o })
+          → outcome bottom (if t then record { upper = upper; lower = ys; out = reuse y o } otherwise record { upper = upper; lower = rest (y ∷ ys); out = gather B bottom (head_rec y) o })
           ≡ out_recs o ++ kept bottom (overlay (records upper) (records (y ∷ ys)))
       go true e =
           let c = reusable_says B bottom o upper y e in
@@ -214,7 +214,7 @@ module _ (B : ℕ) (bottom : Bool) where
       go (x ∷ xs) (y ∷ ys) o fu fl ru rl = split (ltb (first_key y.recs) (first_key x.recs)) (eqb (first_key y.recs) (first_key x.recs)) refl refl
         where
           split : (s t : Bool) → ltb (first_key y.recs) (first_key x.recs) ≡ s → eqb (first_key y.recs) (first_key x.recs) ≡ t
-              → outcome bottom (if s then from_lower B bottom y ys (x ∷ xs) o else if t then from_both B bottom x xs (y ∷ ys) o else from_upper B bottom x xs (y ∷ ys) o)
+              → outcome bottom (if s then from_lower B bottom y ys (x ∷ xs) o otherwise if t then from_both B bottom x xs (y ∷ ys) o otherwise from_upper B bottom x xs (y ∷ ys) o)
               ≡ out_recs o ++ kept bottom (overlay (records (x ∷ xs)) (records (y ∷ ys)))
           split true t d e = lower_outcome y ys (x ∷ xs) o fl.0 fu rl (head_ahead (head_rec y).key x xs fu.0 (omega (arith, head_key y fl.0, ltb-true (first_key y.recs) (first_key x.recs) d)))
           split false true d e = both_outcome x xs y ys o fu.0 fl.0 (omega (arith, head_key x fu.0, head_key y fl.0, eqb-true (first_key y.recs) (first_key x.recs) e))

@@ -7,7 +7,7 @@ use native.Mathlib.Omega.{arith}
 use lib.Dec.{leb, ltb, eqb}
 use lib.ListN.{length, length-append}
 use borrow.Author.Tests.{leb-true, leb-false, ltb-true}
-use Rattle.levels.specs.Basics.{if◌then◌else◌, iterate}
+use Rattle.levels.specs.Basics.{if◌then◌otherwise◌, iterate}
 use Rattle.levels.specs.Record.{Rec, Block, Level, size, new, records, first_key}
 use Rattle.levels.specs.Merge.{Out, State, apart, may_follow, reusable, flush, rest, head_rec, reuse, gather, from_upper, from_lower, from_both, step_on, step, join_left, join, stream, merge, close}
 use Rattle.levels.specs.Well.{Sized, Apart, Pairs, Well}
@@ -40,7 +40,7 @@ pub gather_good : (B : ℕ) (bottom : Bool) (r : Rec) (o : Out) → Good B o →
 gather_good B bottom r o g = go (bottom && r.tombstone) (leb B (suc (length o.buffer))) refl
   where
     go : (s t : Bool) → leb B (suc (length o.buffer)) ≡ t
-        → Good B (if s then o else if t then record { buffer = []; done = new (o.buffer ++ (r ∷ [])) ∷ o.done } else record { buffer = o.buffer ++ (r ∷ []); done = o.done })
+        → Good B (if s then o otherwise if t then record { buffer = []; done = new (o.buffer ++ (r ∷ [])) ∷ o.done } otherwise record { buffer = o.buffer ++ (r ∷ []); done = o.done })
     go true t e = g
     go false true e =
         let n = length_snoc o.buffer r in
@@ -80,7 +80,7 @@ turned s = record { upper = s.lower; lower = s.upper; out = s.out }
 pub lower_step : (P : State → Type 0) → ((s : State) → P s → P (turned s)) → (B : ℕ) (bottom : Bool) (y : Block) (ys u : Level) (o : Out) → P (from_upper B bottom y ys u o) → P (from_lower B bottom y ys u o)
 lower_step P turn B bottom y ys u o = go (reusable B bottom o u y) (record { upper = ys; lower = u; out = reuse y o }) (record { upper = rest (y ∷ ys); lower = u; out = gather B bottom (head_rec y) o })
   where
-    go : (t : Bool) (a b : State) → P (if t then a else b) → P (if t then turned a else turned b)
+    go : (t : Bool) (a b : State) → P (if t then a otherwise b) → P (if t then turned a otherwise turned b)
     go true a b p = turn a p
     go false a b p = turn b p
 
@@ -94,7 +94,7 @@ module _ (B : ℕ) (bottom : Bool) (o : Out) (g : Good B o) where
   upper_keeps : (x : Block) (xs l : Level) → Sized B (x ∷ xs) → Sized B l → Keeps B (from_upper B bottom x xs l o)
   upper_keeps x xs l su sl = go (reusable B bottom o l x) refl
     where
-      go : (t : Bool) → reusable B bottom o l x ≡ t → Keeps B (if t then record { upper = xs; lower = l; out = reuse x o } else record { upper = rest (x ∷ xs); lower = l; out = gather B bottom (head_rec x) o })
+      go : (t : Bool) → reusable B bottom o l x ≡ t → Keeps B (if t then record { upper = xs; lower = l; out = reuse x o } otherwise record { upper = rest (x ∷ xs); lower = l; out = gather B bottom (head_rec x) o })
       go true e = record { sized_u = su.2; sized_l = sl; good = reuse_good B x o su.0 su.1 (reusable_says B bottom o l x e).3 g }
       go false e = record { sized_u = rest_sized B (x ∷ xs) su; sized_l = sl; good = gather_good B bottom (head_rec x) o g }
 
@@ -127,7 +127,7 @@ left_well B [] done h w = w
 left_well B (r ∷ rs) [] h w = record { pairs = (tt, tt); sized = (omega arith, omega arith, tt) }
 left_well B (r ∷ rs) (e ∷ es) h w = go (leb (size e + length (r ∷ rs)) B) refl
   where
-    go : (t : Bool) → leb (size e + length (r ∷ rs)) B ≡ t → Well B (if t then new (e.recs ++ (r ∷ rs)) ∷ es else new (r ∷ rs) ∷ e ∷ es)
+    go : (t : Bool) → leb (size e + length (r ∷ rs)) B ≡ t → Well B (if t then new (e.recs ++ (r ∷ rs)) ∷ es otherwise new (r ∷ rs) ∷ e ∷ es)
     go true d = let n = length-append e.recs (r ∷ rs) in
         well_grow B e (new (e.recs ++ (r ∷ rs))) es (omega arith) (omega (arith, leb-true (size e + length (r ∷ rs)) B d)) w
     go false d = record { pairs = (leb-false (size e + length (r ∷ rs)) B d, w.pairs); sized = (omega arith, omega arith, w.sized) }
@@ -147,7 +147,7 @@ join_well B (e ∷ es) (a ∷ bs) w v = go (leb (size e + size a) B) refl
     both : Block
     both = new (e.recs ++ a.recs)
 
-    go : (t : Bool) → leb (size e + size a) B ≡ t → Well B (if t then reverse_aux es (new (e.recs ++ a.recs) ∷ bs) else reverse_aux (e ∷ es) (a ∷ bs))
+    go : (t : Bool) → leb (size e + size a) B ≡ t → Well B (if t then reverse_aux es (new (e.recs ++ a.recs) ∷ bs) otherwise reverse_aux (e ∷ es) (a ∷ bs))
     go true d = let n = length-append e.recs a.recs in let m = leb-true (size e + size a) B d in
         reverse_well B both es bs (well_grow B e both es (omega arith) (omega arith) w) (well_grow B a both bs (omega arith) (omega arith) v)
     go false d = reverse_well B e es (a ∷ bs) w (record { pairs = (omega (arith, leb-false (size e + size a) B d), v.pairs); sized = (w.sized.0, w.sized.1, v.sized) })

@@ -11,7 +11,7 @@ use borrow.Author.Tests.{lt-ltb, le-ltb, eqb-true, eqb-false, eq-eqb, ne_eqb}
 use Rattle.geometry.specs.declared.Geometry.{Geometry}
 use Rattle.geometry.specs.Geometry.{Valid, top_capacity_of, window_of}
 use Rattle.geometry.proofs.Laws.{window_first}
-use Rattle.levels.specs.Basics.{if◌then◌else◌, is_some, total}
+use Rattle.levels.specs.Basics.{if◌then◌otherwise◌, is_some, total}
 use Rattle.levels.specs.Map.{find}
 use Rattle.levels.specs.Store.{Store}
 use Rattle.levels.specs.Call.{Merge}
@@ -55,10 +55,10 @@ one_first g [] a b = record { first = tt; later = tt }
 one_first g (m ∷ ms) a b = record { first = ap suc a; later = every_turn (Deepest g) (λ (x : Merge). suc x.level ≢ 1) ms (λ x d e. omega (arith, e, d.listed)) b }
 
 -- a level 0 of c records that is full and has not the key, against one that has it or has room: n is the most that it takes
-pub full_without : (has : Bool) (c n : ℕ) → c ≤ n → ◌≡◌ {A = ℕ} (if eqb c n && not has then 1 else 0) (if has || ltb c n then 0 else 1)
+pub full_without : (has : Bool) (c n : ℕ) → c ≤ n → ◌≡◌ {A = ℕ} (if eqb c n && not has then 1 otherwise 0) (if has || ltb c n then 0 otherwise 1)
 full_without has c n h = go has (eqb c n) refl
   where
-    go : (has t : Bool) → eqb c n ≡ t → ◌≡◌ {A = ℕ} (if t && not has then 1 else 0) (if has || ltb c n then 0 else 1)
+    go : (has t : Bool) → eqb c n ≡ t → ◌≡◌ {A = ℕ} (if t && not has then 1 otherwise 0) (if has || ltb c n then 0 otherwise 1)
     go true true e = refl
     go true false e = refl
     go false true e = rw (le-ltb c n (omega (arith, eqb-true c n e)))
@@ -69,10 +69,10 @@ module _ (g : Geometry) (s : Store) (v : Valid g) (f : Fits g s) (o : Sound g s)
   call_one_first = one_first g (merges_for g s k) (first_out g s v f o k) (later_deepest g s v f o k)
 
   -- "exactly one if level 0 holds K(0) × B records and the key isn't among them, and none otherwise"
-  pub call_one : total_into 1 (λ m. 1) (merges_for g s k) ≡ (if eqb (length s.top) (top_capacity_of g) && not (is_some (find k s.top)) then 1 else 0)
+  pub call_one : total_into 1 (λ m. 1) (merges_for g s k) ≡ (if eqb (length s.top) (top_capacity_of g) && not (is_some (find k s.top)) then 1 otherwise 0)
   call_one = go (is_some (find k s.top) || ltb (length s.top) (top_capacity_of g)) refl ∙ sym (full_without (is_some (find k s.top)) (length s.top) (top_capacity_of g) f.top_fits)
     where
-      go : (t : Bool) → (is_some (find k s.top) || ltb (length s.top) (top_capacity_of g)) ≡ t → total_into 1 (λ m. 1) (merges_for g s k) ≡ (if t then 0 else 1)
+      go : (t : Bool) → (is_some (find k s.top) || ltb (length s.top) (top_capacity_of g)) ≡ t → total_into 1 (λ m. 1) (merges_for g s k) ≡ (if t then 0 otherwise 1)
       go true e = empty_none (merges_for g s k) (for_none g s k e)
       go false e = let m = for_full g s k e ∙ from_is g s in ap (total_into 1 (λ (x : Merge). 1)) m ∙ filled_one _ _ (subst OneFirst m call_one_first)
 

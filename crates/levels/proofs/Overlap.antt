@@ -14,7 +14,7 @@ use borrow.Author.Tests.{leb-true, leb-false, lt-leb}
 use Rattle.geometry.specs.declared.Geometry.{Geometry}
 use Rattle.geometry.specs.Geometry.{Ranged, capacity_of, window_of}
 use Rattle.geometry.proofs.Laws.{capacity_windows, window_low}
-use Rattle.levels.specs.Basics.{if◌then◌else◌, ceil_div}
+use Rattle.levels.specs.Basics.{if◌then◌otherwise◌, ceil_div}
 use Rattle.levels.specs.Record.{Block, Level, first_key, last_key}
 use Rattle.levels.specs.Choose.{meets, count_meets, lo_of, hi_of, overlap, choose, overlap_bound}
 use Rattle.levels.proofs.Levels.{Ordered}
@@ -27,14 +27,14 @@ count_out lo hi b bs h = rw (lt-leb lo (last_key b.recs) h)
 pub count_over_lem : (lo hi : ℕ) (b : Block) (bs : Level) → hi < first_key b.recs → count_meets lo hi (b ∷ bs) ≡ count_meets lo hi bs
 count_over_lem lo hi b bs h = go (leb lo (last_key b.recs)) (lt-leb (first_key b.recs) hi h)
   where
-    go : (t : Bool) → leb (first_key b.recs) hi ≡ false → (if t && leb (first_key b.recs) hi then suc (count_meets lo hi bs) else count_meets lo hi bs) ≡ count_meets lo hi bs
+    go : (t : Bool) → leb (first_key b.recs) hi ≡ false → (if t && leb (first_key b.recs) hi then suc (count_meets lo hi bs) otherwise count_meets lo hi bs) ≡ count_meets lo hi bs
     go true e = rw e
     go false e = refl
 
 count_most : (lo hi : ℕ) (b : Block) (bs : Level) → count_meets lo hi (b ∷ bs) ≤ suc (count_meets lo hi bs)
 count_most lo hi b bs = go (meets lo hi b)
   where
-    go : (t : Bool) → (if t then suc (count_meets lo hi bs) else count_meets lo hi bs) ≤ suc (count_meets lo hi bs)
+    go : (t : Bool) → (if t then suc (count_meets lo hi bs) otherwise count_meets lo hi bs) ≤ suc (count_meets lo hi bs)
     go true = omega arith
     go false = omega arith
 
@@ -50,7 +50,7 @@ count_none lo hi k (b ∷ bs) o h = count_over_lem lo hi b bs (omega arith) ∙ 
 -- the blocks from the first that ends above hi
 abbrev past : ℕ → Level → Level
 past hi [] = []
-past hi (b ∷ bs) = if leb (last_key b.recs) hi then past hi bs else b ∷ bs
+past hi (b ∷ bs) = if leb (last_key b.recs) hi then past hi bs otherwise b ∷ bs
 
 ordered_from : (low k : ℕ) (bs : Level) → low ≤ k → Ordered k bs → Ordered low bs
 ordered_from low k [] h o = tt
@@ -60,7 +60,7 @@ past_ordered : (hi low : ℕ) (bs : Level) → Ordered low bs → Ordered low (p
 past_ordered hi low [] o = tt
 past_ordered hi low (b ∷ bs) o = go (leb (last_key b.recs) hi) (past_ordered hi low bs (ordered_from low (suc (last_key b.recs)) bs (omega arith) o.2))
   where
-    go : (t : Bool) → Ordered low (past hi bs) → Ordered low (if t then past hi bs else b ∷ bs)
+    go : (t : Bool) → Ordered low (past hi bs) → Ordered low (if t then past hi bs otherwise b ∷ bs)
     go true p = p
     go false p = o
 
@@ -70,7 +70,7 @@ count_past hi lo' hi' [] h = refl
 count_past hi lo' hi' (b ∷ bs) h = go (leb (last_key b.recs) hi) refl (count_past hi lo' hi' bs h)
   where
     go : (t : Bool) → leb (last_key b.recs) hi ≡ t → count_meets lo' hi' (past hi bs) ≡ count_meets lo' hi' bs
-        → count_meets lo' hi' (if t then past hi bs else b ∷ bs) ≡ count_meets lo' hi' (b ∷ bs)
+        → count_meets lo' hi' (if t then past hi bs otherwise b ∷ bs) ≡ count_meets lo' hi' (b ∷ bs)
     go true e ih = ih ∙ sym (count_out lo' hi' b bs (omega (arith, leb-true (last_key b.recs) hi e)))
     go false e ih = refl
 
@@ -80,7 +80,7 @@ count_split lo hi k [] o = omega arith
 count_split lo hi k (b ∷ bs) o = go (leb (last_key b.recs) hi) refl (count_split lo hi (suc (last_key b.recs)) bs o.2)
   where
     go : (t : Bool) → leb (last_key b.recs) hi ≡ t → count_meets lo hi bs + length (past hi bs) ≤ suc (length bs)
-        → count_meets lo hi (b ∷ bs) + length (if t then past hi bs else b ∷ bs) ≤ suc (length (b ∷ bs))
+        → count_meets lo hi (b ∷ bs) + length (if t then past hi bs otherwise b ∷ bs) ≤ suc (length (b ∷ bs))
     go true e ih = omega (arith, count_most lo hi b bs)
     go false e ih = omega (arith, count_most lo hi b bs, count_none lo hi (suc (last_key b.recs)) bs o.2 (omega (arith, leb-false (last_key b.recs) hi e)))
 

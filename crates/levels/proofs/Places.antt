@@ -9,7 +9,7 @@ use native.Mathlib.Omega.{arith}
 use lib.Dec.{ltb, eqb}
 use lib.ListN.{length, get_or, set}
 use borrow.Author.Tests.{eqb-true, eq-eqb, lt-ltb, not-true}
-use Rattle.levels.specs.Basics.{if◌then◌else◌, all, total, member}
+use Rattle.levels.specs.Basics.{if◌then◌otherwise◌, all, total, member}
 use Rattle.levels.specs.Record.{Level}
 use Rattle.levels.specs.Place.{Allocation, places_of, in_use, newly_used, distinct}
 use Rattle.levels.specs.Taking.{Changed, Takes}
@@ -20,13 +20,13 @@ use Rattle.levels.proofs.Fresh.{weights}
 
 -- weights of a place: is it p; is it not in a list; is it not below P
 abbrev pub hit : ℕ → ℕ → ℕ
-hit p q = if eqb p q then 1 else 0
+hit p q = if eqb p q then 1 otherwise 0
 
 abbrev pub outside : List ℕ → ℕ → ℕ
-outside ps q = if member q ps then 0 else 1
+outside ps q = if member q ps then 0 otherwise 1
 
 abbrev pub beyond : ℕ → ℕ → ℕ
-beyond P q = if ltb q P then 0 else 1
+beyond P q = if ltb q P then 0 otherwise 1
 
 -- a sum over two lists end to end
 pub total_append : (f : ℕ → ℕ) (ps qs : List ℕ) → total f (ps ++ qs) ≡ total f ps + total f qs
@@ -73,7 +73,7 @@ pub times_none : (p : ℕ) (qs : List ℕ) → member p qs ≡ false → total (
 times_none p [] e = refl
 times_none p (q ∷ qs) e = go (eqb p q) e (times_none p qs)
   where
-    go : (t : Bool) → (t || member p qs) ≡ false → (member p qs ≡ false → total (hit p) qs ≡ 0) → (if t then 1 else 0) + total (hit p) qs ≡ 0
+    go : (t : Bool) → (t || member p qs) ≡ false → (member p qs ≡ false → total (hit p) qs ≡ 0) → (if t then 1 otherwise 0) + total (hit p) qs ≡ 0
     go true e ih = absurd (true≢false e)
     go false e ih = omega (arith, ih e)
 
@@ -81,7 +81,7 @@ pub times_some : (p : ℕ) (qs : List ℕ) → member p qs ≡ true → 1 ≤ to
 times_some p [] e = absurd (true≢false (sym e))
 times_some p (q ∷ qs) e = go (eqb p q) e (times_some p qs)
   where
-    go : (t : Bool) → (t || member p qs) ≡ true → (member p qs ≡ true → 1 ≤ total (hit p) qs) → 1 ≤ (if t then 1 else 0) + total (hit p) qs
+    go : (t : Bool) → (t || member p qs) ≡ true → (member p qs ≡ true → 1 ≤ total (hit p) qs) → 1 ≤ (if t then 1 otherwise 0) + total (hit p) qs
     go true e ih = omega arith
     go false e ih = omega (arith, ih e)
 
@@ -90,7 +90,7 @@ pub distinct_times : (qs : List ℕ) → distinct qs ≡ true → (p : ℕ) → 
 distinct_times [] e p = omega arith
 distinct_times (q ∷ qs) e p = go (eqb p q) refl (distinct_times qs (and_right (not (member q qs)) _ e) p)
   where
-    go : (t : Bool) → eqb p q ≡ t → total (hit p) qs ≤ 1 → (if t then 1 else 0) + total (hit p) qs ≤ 1
+    go : (t : Bool) → eqb p q ≡ t → total (hit p) qs ≤ 1 → (if t then 1 otherwise 0) + total (hit p) qs ≤ 1
     go true d ih =
         let n : member p qs ≡ false = rw (eqb-true p q d) (not-true (member q qs) (and_left (not (member q qs)) _ e)) in
         omega (arith, times_none p qs n)
@@ -109,7 +109,7 @@ pub inside_total : (P : ℕ) (qs : List ℕ) → all (λ (p : ℕ). ltb p P) qs 
 inside_total P [] e = refl
 inside_total P (q ∷ qs) e = go (ltb q P) (and_left (ltb q P) _ e) (inside_total P qs (and_right (ltb q P) _ e))
   where
-    go : (t : Bool) → t ≡ true → total (beyond P) qs ≡ 0 → (if t then 0 else 1) + total (beyond P) qs ≡ 0
+    go : (t : Bool) → t ≡ true → total (beyond P) qs ≡ 0 → (if t then 0 otherwise 1) + total (beyond P) qs ≡ 0
     go true d ih = omega arith
     go false d ih = absurd (true≢false (sym d))
 
@@ -117,7 +117,7 @@ pub total_inside : (P : ℕ) (qs : List ℕ) → total (beyond P) qs ≡ 0 → a
 total_inside P [] e = refl
 total_inside P (q ∷ qs) e = go (ltb q P) (omega (arith, e)) (total_inside P qs (omega (arith, e)))
   where
-    go : (t : Bool) → ◌≡◌ {A = ℕ} (if t then 0 else 1) 0 → all (λ (p : ℕ). ltb p P) qs ≡ true → (t && all (λ (p : ℕ). ltb p P) qs) ≡ true
+    go : (t : Bool) → ◌≡◌ {A = ℕ} (if t then 0 otherwise 1) 0 → all (λ (p : ℕ). ltb p P) qs ≡ true → (t && all (λ (p : ℕ). ltb p P) qs) ≡ true
     go true d ih = ih
     go false d ih = absurd (omega (arith, d))
 
@@ -127,7 +127,7 @@ unfolding newly_used
 newly_total start [] = refl
 newly_total start (p ∷ ps) = go (member p start) (newly_total start ps)
   where
-    go : (t : Bool) → newly_used start ps ≡ total (outside start) ps → elim t [ true ↦ newly_used start ps | false ↦ suc (newly_used start ps) ] ≡ (if t then 0 else 1) + total (outside start) ps
+    go : (t : Bool) → newly_used start ps ≡ total (outside start) ps → elim t [ true ↦ newly_used start ps | false ↦ suc (newly_used start ps) ] ≡ (if t then 0 otherwise 1) + total (outside start) ps
     go true ih = omega arith
     go false ih = omega arith
 
@@ -146,7 +146,7 @@ outside_self : (rs qs : List ℕ) → ((p : ℕ) → member p rs ≡ true → me
 outside_self [] qs h = refl
 outside_self (r ∷ rs) qs h = go (member r qs) (h r (member_head r rs)) (outside_self rs qs (λ p e. h p (member_more p r rs e)))
   where
-    go : (t : Bool) → t ≡ true → total (outside qs) rs ≡ 0 → (if t then 0 else 1) + total (outside qs) rs ≡ 0
+    go : (t : Bool) → t ≡ true → total (outside qs) rs ≡ 0 → (if t then 0 otherwise 1) + total (outside qs) rs ≡ 0
     go true d ih = omega arith
     go false d ih = absurd (true≢false (sym d))
 
@@ -165,7 +165,7 @@ pub takes_outside : (P : ℕ) (a : Allocation) (start ps : List ℕ) → Takes P
 takes_outside P a start [] t h = refl
 takes_outside P a start (p ∷ ps) t h = go (member p start) refl (takes_outside P (record { used = p ∷ a.used; cursor = p }) start ps t.1 (λ q e. member_more q p a.used (h q e)))
   where
-    go : (s : Bool) → member p start ≡ s → total (outside start) ps ≡ length ps → (if s then 0 else 1) + total (outside start) ps ≡ suc (length ps)
+    go : (s : Bool) → member p start ≡ s → total (outside start) ps ≡ length ps → (if s then 0 otherwise 1) + total (outside start) ps ≡ suc (length ps)
     go true e ih = absurd (true≢false (sym (h p e) ∙ t.0.free))
     go false e ih = omega arith
 
@@ -173,7 +173,7 @@ pub takes_apart : (P : ℕ) (a : Allocation) (ps : List ℕ) → Takes P a ps �
 takes_apart P a [] t p e = refl
 takes_apart P a (q ∷ ps) t p e = go (eqb p q) refl (takes_apart P (record { used = q ∷ a.used; cursor = q }) ps t.1 p (member_more p q a.used e))
   where
-    go : (s : Bool) → eqb p q ≡ s → total (hit p) ps ≡ 0 → (if s then 1 else 0) + total (hit p) ps ≡ 0
+    go : (s : Bool) → eqb p q ≡ s → total (hit p) ps ≡ 0 → (if s then 1 otherwise 0) + total (hit p) ps ≡ 0
     go true d ih = absurd (true≢false (sym e ∙ rw (eqb-true p q d) t.0.free))
     go false d ih = omega arith
 
@@ -181,7 +181,7 @@ pub takes_once : (P : ℕ) (a : Allocation) (ps : List ℕ) → Takes P a ps →
 takes_once P a [] t p = omega arith
 takes_once P a (q ∷ ps) t p = go (eqb p q) refl (takes_once P (record { used = q ∷ a.used; cursor = q }) ps t.1 p)
   where
-    go : (s : Bool) → eqb p q ≡ s → total (hit p) ps ≤ 1 → (if s then 1 else 0) + total (hit p) ps ≤ 1
+    go : (s : Bool) → eqb p q ≡ s → total (hit p) ps ≤ 1 → (if s then 1 otherwise 0) + total (hit p) ps ≤ 1
     go true d ih =
         let m : member p (q ∷ a.used) ≡ true = subst (λ (x : ℕ). member x (q ∷ a.used) ≡ true) (sym (eqb-true p q d)) (member_head q a.used) in
         omega (arith, takes_apart P (record { used = q ∷ a.used; cursor = q }) ps t.1 p m)

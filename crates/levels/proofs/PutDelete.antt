@@ -12,7 +12,7 @@ use lib.ListN.{length}
 use borrow.Author.Tests.{ltb-true, eqb-true, eqb-false, eq-eqb}
 use Rattle.geometry.specs.declared.Geometry.{Geometry}
 use Rattle.geometry.specs.Geometry.{Valid, key_limit_of, top_capacity_of}
-use Rattle.levels.specs.Basics.{if◌then◌else◌, or_else, is_some}
+use Rattle.levels.specs.Basics.{if◌then◌otherwise◌, or_else, is_some}
 use Rattle.levels.specs.Record.{Rec, records, clean_tombstones}
 use Rattle.levels.specs.Map.{find, decides, present, look_up, is_live, map_of, live_count, first_from, next}
 use Rattle.levels.specs.Store.{Store, rows}
@@ -31,7 +31,7 @@ use Rattle.levels.proofs.Insert.{insert_rising, find_insert, find_insert_other, 
 
 -- live afterwards
 abbrev pub live_put : Bool → ℕ → ℕ
-live_put was n = if was then n else suc n
+live_put was n = if was then n otherwise suc n
 
 -- a record laid over all rows: at its key it decides, at every other key what decided before
 over_same : (r : Rec) (top : List Rec) (ls : List (List Rec)) → look_up r.key (insert r top ∷ ls) ≡ present (some r)
@@ -203,10 +203,10 @@ delete_still g s k e = go (is_live k (rows s)) refl
     go false p = ap merges_of (delete_absent g s k p)
 
 -- one key's lookup, and every other key's, in one
-pick : (j k : ℕ) (ms ls : List (List Rec)) (a : Option Rec) → look_up k ms ≡ a → ((j : ℕ) → k ≢ j → look_up j ms ≡ look_up j ls) → look_up j ms ≡ (if eqb j k then a else look_up j ls)
+pick : (j k : ℕ) (ms ls : List (List Rec)) (a : Option Rec) → look_up k ms ≡ a → ((j : ℕ) → k ≢ j → look_up j ms ≡ look_up j ls) → look_up j ms ≡ (if eqb j k then a otherwise look_up j ls)
 pick j k ms ls a h d = go (eqb j k) refl
   where
-    go : (t : Bool) → eqb j k ≡ t → look_up j ms ≡ (if t then a else look_up j ls)
+    go : (t : Bool) → eqb j k ≡ t → look_up j ms ≡ (if t then a otherwise look_up j ls)
     go true e = ap (λ (i : ℕ). look_up i ms) (eqb-true j k e) ∙ h
     go false e = d j (λ q. eqb-false j k e (sym q))
 
@@ -276,11 +276,11 @@ module _ (g : Geometry) (s : Store) (v : Valid g) (f : Fits g s) (o : Sound g s)
   call_map k = list_map g s s (merges_for g s k) (entry_of g s v f o) (call_facts g s v f o k)
 
   -- a put changes the lookup of its key alone
-  pub put_look_up : (k p : ℕ) (was : Bool) (ms : List Merge) (t : Store) → put g s k p ≡ entered was ms t → (j : ℕ) → look_up j (rows t) ≡ (if eqb j k then some (put_rec k p) else look_up j (rows s))
+  pub put_look_up : (k p : ℕ) (was : Bool) (ms : List Merge) (t : Store) → put g s k p ≡ entered was ms t → (j : ℕ) → look_up j (rows t) ≡ (if eqb j k then some (put_rec k p) otherwise look_up j (rows s))
   put_look_up k p was ms t e j = pick j k (rows t) (rows s) (some (put_rec k p)) (put_facts k p was ms t e).here (put_facts k p was ms t e).other
 
   -- and so a delete
-  pub delete_look_up : (k : ℕ) (was : Bool) (ms : List Merge) (t : Store) → delete g s k ≡ entered was ms t → (j : ℕ) → look_up j (rows t) ≡ (if eqb j k then none else look_up j (rows s))
+  pub delete_look_up : (k : ℕ) (was : Bool) (ms : List Merge) (t : Store) → delete g s k ≡ entered was ms t → (j : ℕ) → look_up j (rows t) ≡ (if eqb j k then none otherwise look_up j (rows s))
   delete_look_up k was ms t e j = pick j k (rows t) (rows s) none (delete_facts k was ms t e).1.here (delete_facts k was ms t e).1.other
 
   -- "a finite map fed with the same accepted puts and deletes": the map after a put has the record for its key

@@ -9,7 +9,7 @@ use mathlib.Core.Option.{Option, none, some}
 use native.Mathlib.Omega.{arith}
 use lib.Dec.{leb, ltb, eqb}
 use lib.ListN.{length, get_or, set}
-use Rattle.levels.specs.Basics.{if◌then◌else◌, iterate, member}
+use Rattle.levels.specs.Basics.{if◌then◌otherwise◌, iterate, member}
 use Rattle.levels.specs.Record.{Rec, Block, Level, size, new, placed, records, first_key}
 use Rattle.levels.specs.Choose.{cut_at}
 use Rattle.levels.specs.Merge.{Out, State, reusable, flush, rest, head_rec, gather, from_upper, from_lower, step_on, step, join_left, join, stream, merge, close}
@@ -70,7 +70,7 @@ module _ (P : Block → Type 0) where
   old_gather : (B : ℕ) (bottom : Bool) (r : Rec) (o : Out) → Old P o.done → Old P (gather B bottom r o).done
   old_gather B bottom r o h = go (bottom && r.tombstone) (leb B (suc (length o.buffer)))
     where
-      go : (s t : Bool) → Old P (if s then o else if t then record { buffer = []; done = new (o.buffer ++ (r ∷ [])) ∷ o.done } else record { buffer = o.buffer ++ (r ∷ []); done = o.done }).done
+      go : (s t : Bool) → Old P (if s then o otherwise if t then record { buffer = []; done = new (o.buffer ++ (r ∷ [])) ∷ o.done } otherwise record { buffer = o.buffer ++ (r ∷ []); done = o.done }).done
       go true t = h
       go false true = old_new (o.buffer ++ (r ∷ [])) o.done h
       go false false = h

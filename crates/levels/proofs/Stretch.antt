@@ -10,7 +10,7 @@ use native.Mathlib.Omega.{arith}
 use lib.Dec.{leb}
 use borrow.Author.Tests.{leb-true, le-leb, lt-leb}
 use Rattle.geometry.specs.Geometry.{within}
-use Rattle.levels.specs.Basics.{if◌then◌else◌}
+use Rattle.levels.specs.Basics.{if◌then◌otherwise◌}
 use Rattle.levels.specs.Record.{Rec}
 use Rattle.levels.specs.Map.{find, stretch}
 use Rattle.levels.specs.Rising.{Rising, Below}
@@ -93,17 +93,17 @@ module _ (first last : ℕ) where
       go false e i = rw (stretch_out x xs e) i
 
   -- a key is found in it exactly if it is found in the map and lies within
-  pub find_stretch : (k low : ℕ) (xs : List Rec) → Rising low xs → find k (stretch first last xs) ≡ (if within first last k then find k xs else none)
+  pub find_stretch : (k low : ℕ) (xs : List Rec) → Rising low xs → find k (stretch first last xs) ≡ (if within first last k then find k xs otherwise none)
   unfolding find
   find_stretch k low [] h = rw stretch_nil (go (within first last k))
     where
-      go : (t : Bool) → find k [] ≡ (if t then find k [] else none)
+      go : (t : Bool) → find k [] ≡ (if t then find k [] otherwise none)
       go true = refl
       go false = refl
   find_stretch k low (x ∷ xs) h = go (within first last x.key) refl (ℕ_discrete x.key k) (find_stretch k (suc x.key) xs h.1)
     where
-      go : (t : Bool) → within first last x.key ≡ t → Dec (x.key ≡ k) → find k (stretch first last xs) ≡ (if within first last k then find k xs else none)
-          → find k (stretch first last (x ∷ xs)) ≡ (if within first last k then find k (x ∷ xs) else none)
+      go : (t : Bool) → within first last x.key ≡ t → Dec (x.key ≡ k) → find k (stretch first last xs) ≡ (if within first last k then find k xs otherwise none)
+          → find k (stretch first last (x ∷ xs)) ≡ (if within first last k then find k (x ∷ xs) otherwise none)
       go true e (yes d) i = rw (stretch_in x xs e, find_here k x (stretch first last xs) d, find_here k x xs d, sym (ap (within first last) d) ∙ e)
       go true e (no d) i = rw (stretch_in x xs e, find_past k x (stretch first last xs) d, find_past k x xs d) i
       go false e (yes d) i = rw (stretch_out x xs e, i, sym (ap (within first last) d) ∙ e)

@@ -8,7 +8,7 @@ use lib.ListN.{length}
 use Rattle.geometry.specs.declared.Geometry.{Geometry}
 use Rattle.geometry.specs.Geometry.{Valid, window_of}
 use Rattle.geometry.proofs.Laws.{window_grows}
-use Rattle.levels.specs.Basics.{if◌then◌else◌}
+use Rattle.levels.specs.Basics.{if◌then◌otherwise◌}
 use Rattle.levels.specs.Store.{Store}
 use Rattle.levels.specs.Call.{Merge}
 use Rattle.levels.specs.Put.{merges_for}
@@ -49,7 +49,7 @@ tickets_column g j [] = refl
 tickets_column g j (m ∷ ms) = rw (tickets_column g j ms)
 
 -- a merge is counted for one of the levels 1 to 3,
-counted_once : (i : ℕ) → i < 3 → (if eqb (suc i) 1 then 1 else 0) + (if eqb (suc i) 2 then 1 else 0) + (if eqb (suc i) 3 then 1 else 0) ≡ 1
+counted_once : (i : ℕ) → i < 3 → (if eqb (suc i) 1 then 1 otherwise 0) + (if eqb (suc i) 2 then 1 otherwise 0) + (if eqb (suc i) 3 then 1 otherwise 0) ≡ 1
 counted_once zero h = refl
 counted_once (suc zero) h = refl
 counted_once (suc (suc zero)) h = refl

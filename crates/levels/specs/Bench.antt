@@ -16,7 +16,7 @@ use Rattle.geometry.specs.Geometry.{
   block_width,
 }
 use Rattle.layout.specs.Layouts.{old, size_reason}
-use Rattle.levels.specs.Basics.{if◌then◌else◌}
+use Rattle.levels.specs.Basics.{if◌then◌otherwise◌}
 use Rattle.levels.specs.Record.{Rec, Block, Level}
 use Rattle.levels.specs.Map.{find, into, overlay, view, unmarked, map_of, live_count, decides, look_up, is_live}
 use Rattle.levels.specs.Waste.{needs_compact}
@@ -114,7 +114,7 @@ reason_of_change (entered was ms s) = 0
 -- "figures of steps 1 to 4 over just those blocks, with B = 4 and a place for each block": level 1 onto level 2, which is level h or not; window w
 abbrev pub onto : Bool → ℕ → Level → Level → Merge
 onto bottom w above under =
-    merge_run (geo 4 1 2 4 (if bottom then 2 else 3) 40) 1 w (choose w above under).at (record { live = 0; cursor = 39; top = []; levels = above ∷ under ∷ [] ∷ [] })
+    merge_run (geo 4 1 2 4 (if bottom then 2 otherwise 3) 40) 1 w (choose w above under).at (record { live = 0; cursor = 39; top = []; levels = above ∷ under ∷ [] ∷ [] })
 
 abbrev pub level_after : Store → ℕ → Level
 level_after s i = get_or s.levels (i - 1) []
@@ -182,4 +182,4 @@ line t f = record { text = t; figure = f }
 -- The lines that do not hold: a refusal of the theorem prints them.
 unfoldable pub failing : List Line → List String
 failing [] = []
-failing (l ∷ ls) = if holds l.figure then failing ls else (l.text ∷ failing ls)
+failing (l ∷ ls) = if holds l.figure then failing ls otherwise (l.text ∷ failing ls)

@@ -1,12 +1,12 @@
 -- Step 1 of a merge: the run of neighbours that overlaps the fewest blocks below (the paper's ChooseBest).
 use Rattle.std.specs.Prelude.{ℕ, suc, ◌+◌, ◌/◌, Bool, ◌&&◌, List, [], ◌∷◌, map, leb, ltb, length, take, drop}
-use Rattle.levels.specs.Basics.{if◌then◌else◌, ceil_div}
+use Rattle.levels.specs.Basics.{if◌then◌otherwise◌, ceil_div}
 use Rattle.levels.specs.Record.{Block, Level, first_key, last_key}
 
 -- "A run is W(i) neighbours of level i": the runs of w neighbours, lowest keys first
 abbrev pub runs : ℕ → Level → List Level
 runs w [] = []
-runs w (b ∷ bs) = if leb w (suc (length bs)) then take w (b ∷ bs) ∷ runs w bs else []
+runs w (b ∷ bs) = if leb w (suc (length bs)) then take w (b ∷ bs) ∷ runs w bs otherwise []
 
 -- first and last key of a run
 abbrev pub lo_of : Level → ℕ
@@ -24,7 +24,7 @@ meets lo hi b = leb lo (last_key b.recs) && leb (first_key b.recs) hi
 
 abbrev pub count_meets : ℕ → ℕ → Level → ℕ
 count_meets lo hi [] = 0
-count_meets lo hi (b ∷ bs) = if meets lo hi b then suc (count_meets lo hi bs) else count_meets lo hi bs
+count_meets lo hi (b ∷ bs) = if meets lo hi b then suc (count_meets lo hi bs) otherwise count_meets lo hi bs
 
 -- "The overlap of a run is the number of such blocks"
 abbrev pub overlap : Level → Level → ℕ
@@ -37,7 +37,7 @@ pub record Least : Type 0 where
 
 abbrev pub least : ℕ → List ℕ → Least
 least q [] = record { at = 0; value = q }
-least q (p ∷ ps) = let r = least p ps in if leb q r.value then record { at = 0; value = q } else record { at = suc r.at; value = r.value }
+least q (p ∷ ps) = let r = least p ps in if leb q r.value then record { at = 0; value = q } otherwise record { at = suc r.at; value = r.value }
 
 abbrev pub least_of : List ℕ → Least
 least_of [] = record { at = 0; value = 0 }
@@ -65,12 +65,12 @@ pub record Cut : Type 0 where
 -- the blocks at the start of a level that end below lo
 abbrev pub below : ℕ → Level → Level
 below lo [] = []
-below lo (b ∷ bs) = if ltb (last_key b.recs) lo then b ∷ below lo bs else []
+below lo (b ∷ bs) = if ltb (last_key b.recs) lo then b ∷ below lo bs otherwise []
 
 -- the blocks at the start of a level that do not begin above hi
 abbrev pub not_above : ℕ → Level → Level
 not_above hi [] = []
-not_above hi (b ∷ bs) = if leb (first_key b.recs) hi then b ∷ not_above hi bs else []
+not_above hi (b ∷ bs) = if leb (first_key b.recs) hi then b ∷ not_above hi bs otherwise []
 
 -- the cut for the run of w blocks from block `first` on
 unfoldable pub cut_at : ℕ → ℕ → Level → Level → Cut

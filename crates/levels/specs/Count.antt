@@ -1,7 +1,7 @@
 -- Demand 3's numbers of a merge, and the three counts of a put or delete (document 01, "The merges of a call").
 use Rattle.std.specs.Prelude.{ℕ, suc, List, eqb, length, take, drop}
 use Rattle.geometry.specs.declared.Geometry.{Geometry}
-use Rattle.levels.specs.Basics.{if◌then◌else◌, total}
+use Rattle.levels.specs.Basics.{if◌then◌otherwise◌, total}
 use Rattle.levels.specs.Record.{Level}
 use Rattle.levels.specs.Choose.{overlap}
 use Rattle.levels.specs.Place.{newly_used}
@@ -45,11 +45,11 @@ pub record Counts : Type 0 where
 
 -- the sum of f over the merges into level j
 abbrev pub total_into : ℕ → (Merge → ℕ) → List Merge → ℕ
-total_into j f ms = total (λ (m : Merge). if eqb (suc m.level) j then f m else 0) ms
+total_into j f ms = total (λ (m : Merge). if eqb (suc m.level) j then f m otherwise 0) ms
 
 -- the blocks written by those of these compactions that are of level j
 abbrev pub total_compacted : ℕ → List Compaction → ℕ
-total_compacted j cs = total (λ (c : Compaction). if eqb c.level j then blocks_compacted c else 0) cs
+total_compacted j cs = total (λ (c : Compaction). if eqb c.level j then blocks_compacted c otherwise 0) cs
 
 unfoldable pub counts_of : ℕ → List Merge → Counts
 counts_of j ms = record {

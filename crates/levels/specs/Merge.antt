@@ -2,7 +2,7 @@
 -- Nothing here knows how X was chosen or which place a new block gets.
 use Rattle.std.specs.Prelude.{ℕ, zero, suc, ◌+◌, Bool, true, false, not, ◌&&◌, leb, ltb, eqb, length}
 use mathlib.Core.List.{List, [], ◌∷◌, ◌++◌, reverse, reverse_aux, tail}
-use Rattle.levels.specs.Basics.{if◌then◌else◌, iterate}
+use Rattle.levels.specs.Basics.{if◌then◌otherwise◌, iterate}
 use Rattle.levels.specs.Record.{Rec, Block, Level, new, size, placed, records, first_key, last_key, has_tombstone}
 
 -- What the merge has made: the buffer, and the level so far, last block first.
@@ -59,23 +59,23 @@ reuse b o = record { buffer = []; done = b ∷ flush o.buffer o.done }
 abbrev pub keep : ℕ → Rec → Out → Out
 keep B r o =
     if leb B (suc (length o.buffer)) then record { buffer = []; done = new (o.buffer ++ (r ∷ [])) ∷ o.done }
-    else record { buffer = o.buffer ++ (r ∷ []); done = o.done }
+    otherwise record { buffer = o.buffer ++ (r ∷ []); done = o.done }
 
 -- "Marks stay, except that level h drops them."
 abbrev pub gather : ℕ → Bool → Rec → Out → Out
-gather B bottom r o = if bottom && r.tombstone then o else keep B r o
+gather B bottom r o = if bottom && r.tombstone then o otherwise keep B r o
 
 -- the next record is X's
 abbrev pub from_upper : ℕ → Bool → Block → Level → Level → Out → State
 from_upper B bottom x xs lower o =
     if reusable B bottom o lower x then record { upper = xs; lower = lower; out = reuse x o }
-    else record { upper = rest (x ∷ xs); lower = lower; out = gather B bottom (head_rec x) o }
+    otherwise record { upper = rest (x ∷ xs); lower = lower; out = gather B bottom (head_rec x) o }
 
 -- the next record is Y's
 abbrev pub from_lower : ℕ → Bool → Block → Level → Level → Out → State
 from_lower B bottom y ys upper o =
     if reusable B bottom o upper y then record { upper = upper; lower = ys; out = reuse y o }
-    else record { upper = upper; lower = rest (y ∷ ys); out = gather B bottom (head_rec y) o }
+    otherwise record { upper = upper; lower = rest (y ∷ ys); out = gather B bottom (head_rec y) o }
 
 -- "on equal keys X's record stands alone"
 abbrev pub from_both : ℕ → Bool → Block → Level → Level → Out → State
@@ -88,8 +88,8 @@ step_on B bottom (x ∷ xs) [] o = from_upper B bottom x xs [] o
 step_on B bottom [] (y ∷ ys) o = from_lower B bottom y ys [] o
 step_on B bottom (x ∷ xs) (y ∷ ys) o =
     if ltb (first_key y.recs) (first_key x.recs) then from_lower B bottom y ys (x ∷ xs) o
-    else if eqb (first_key y.recs) (first_key x.recs) then from_both B bottom x xs (y ∷ ys) o
-    else from_upper B bottom x xs (y ∷ ys) o
+    otherwise if eqb (first_key y.recs) (first_key x.recs) then from_both B bottom x xs (y ∷ ys) o
+    otherwise from_upper B bottom x xs (y ∷ ys) o
 
 abbrev pub step : ℕ → Bool → State → State
 step B bottom s = step_on B bottom s.upper s.lower s.out
@@ -106,7 +106,7 @@ join_left B [] done = done
 join_left B (r ∷ rs) [] = new (r ∷ rs) ∷ []
 join_left B (r ∷ rs) (e ∷ es) =
     if leb (size e + length (r ∷ rs)) B then new (e.recs ++ (r ∷ rs)) ∷ es
-    else new (r ∷ rs) ∷ e ∷ es
+    otherwise new (r ∷ rs) ∷ e ∷ es
 
 -- "The last block, or if nothing is left over e, joins the block after Y by the same rule." The first list has its last block first.
 abbrev pub join : ℕ → Level → Level → Level
@@ -114,7 +114,7 @@ join B [] behind = behind
 join B (e ∷ es) [] = reverse (e ∷ es)
 join B (e ∷ es) (a ∷ bs) =
     if leb (size e + size a) B then reverse_aux es (new (e.recs ++ a.recs) ∷ bs)
-    else reverse_aux (e ∷ es) (a ∷ bs)
+    otherwise reverse_aux (e ∷ es) (a ∷ bs)
 
 -- Steps 3 and 4: X merged onto the level that is `before`, then Y, then `behind`. A block of the outcome that has a place
 -- is kept there; one that has none is new.

@@ -3,7 +3,7 @@ use Rattle.std.specs.Prelude.{ℕ, suc, ◌+◌, ◌≤◌, ◌<◌, ◌≡◌, 
 use Rattle.geometry.specs.declared.Geometry.{Geometry}
 use Rattle.geometry.specs.Geometry.{window_of}
 use Rattle.levels.specs.declared.Ticket.{Ticket}
-use Rattle.levels.specs.Basics.{if◌then◌else◌, total}
+use Rattle.levels.specs.Basics.{if◌then◌otherwise◌, total}
 use Rattle.levels.specs.Call.{Merge}
 use Rattle.levels.specs.Count.{overlap_of, blocks_merged}
 
@@ -21,7 +21,7 @@ laid new old = take (length old) new ++ drop (length new) old
 
 -- "the written column, summed for an upper level": for the one above level j
 abbrev pub written_column : ℕ → List Ticket → ℕ
-written_column j ts = total (λ (t : Ticket). if eqb (suc t.level) j then t.written else 0) ts
+written_column j ts = total (λ (t : Ticket). if eqb (suc t.level) j then t.written otherwise 0) ts
 
 -- "The overlap and the write bound of each merge are then read from its ticket": what is read from one
 pub record TicketKeeps (g : Geometry) (t : Ticket) : Type 0 where

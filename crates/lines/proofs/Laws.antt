@@ -12,12 +12,12 @@ use Rattle.lines.specs.declared.Line.TheVariants.{Unreadable}
 use Rattle.lines.specs.declared.Numbers.{Numbers}
 use Rattle.lines.specs.declared.Reading.{Reading}
 use Rattle.lines.specs.declared.Reading.TheVariants.{Start, Letter, Space, Digits, Spoiled}
-use Rattle.lines.specs.Bytes.{digit_nine, space, letter_d, letter_f, letter_p, is_digit, if◌then◌else◌, every}
+use Rattle.lines.specs.Bytes.{digit_nine, space, letter_d, letter_f, letter_p, is_digit, if◌then◌otherwise◌, every}
 use Rattle.lines.specs.Lines.{first_field, further_fields, value_from, value_of, word_limit, is_number, spoken, named, line_of}
 use Rattle.lines.specs.Machine.{no_numbers, pushed, is_letter, after_start, after_letter, after_space, grown, after_digits, step, run, said, line_after, is_start}
 
 -- small facts of tests
-pub if_same : {A : Type 0} (t : Bool) (a : A) → (if t then a else a) ≡ a
+pub if_same : {A : Type 0} (t : Bool) (a : A) → (if t then a otherwise a) ≡ a
 if_same true a = refl
 if_same false a = refl
 
@@ -31,7 +31,7 @@ or_right_no true false e = refl
 or_right_no false t e = e
 
 -- what holds of both branches
-if_either : {A : Type 0} (P : A → Type 0) (t : Bool) (a b : A) → P a → P b → P (if t then a else b)
+if_either : {A : Type 0} (P : A → Type 0) (t : Bool) (a b : A) → P a → P b → P (if t then a otherwise b)
 if_either P true a b p q = p
 if_either P false a b p q = q
 
@@ -138,14 +138,14 @@ unfoldable pub digits_line : ℕ → List ℕ → ℕ → List ℕ → Line
 digits_line letter ns v xs =
     if (every is_digit (first_field xs) && ltb (value_from v (first_field xs)) word_limit) && every is_number (further_fields xs)
     then spoken letter (ns ++ (value_from v (first_field xs) ∷ map value_of (further_fields xs)))
-    else Unreadable
+    otherwise Unreadable
 
 -- the same after a space
 unfoldable pub space_line : ℕ → List ℕ → List ℕ → Line
 space_line letter ns xs =
     if is_number (first_field xs) && every is_number (further_fields xs)
     then spoken letter (ns ++ (value_of (first_field xs) ∷ map value_of (further_fields xs)))
-    else Unreadable
+    otherwise Unreadable
 
 -- One byte after a space.
 pub after_space_digit : (letter : ℕ) (ns : Numbers) (x : ℕ) → ns.count < 6 → is_digit x ≡ true → step (Space letter ns) x ≡ Digits letter (pushed ns (x - 48))

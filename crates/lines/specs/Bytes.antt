@@ -38,11 +38,11 @@ is_digit x = leb 48 x && leb x digit_nine
 abbrev pub digit : ℕ → ℕ
 digit n = 48 + n
 
-abbrev pub if◌then◌else◌ : {A : Type 0} → Bool → A → A → A
-if◌then◌else◌ true a b = a
-if◌then◌else◌ false a b = b
+abbrev pub if◌then◌otherwise◌ : {A : Type 0} → Bool → A → A → A
+if◌then◌otherwise◌ true a b = a
+if◌then◌otherwise◌ false a b = b
 
-infixr 10 if◌then◌else◌
+infixr 10 if◌then◌otherwise◌
 -- the test holds of every element
 abbrev pub every : {A : Type 0} → (A → Bool) → List A → Bool
 every p [] = true

@@ -3,7 +3,7 @@ use Rattle.std.specs.Prelude.{ℕ, ◌≡◌, refl, Bool, true, false, ◌&&◌,
 use Prim.Native.String.{String}
 use Rattle.lines.specs.declared.Line.{Line}
 use Rattle.lines.specs.declared.Line.TheVariants.{Format, Put, Delete, Get, Unreadable}
-use Rattle.lines.specs.Bytes.{letter_d, letter_f, letter_g, letter_p, if◌then◌else◌, bytes}
+use Rattle.lines.specs.Bytes.{letter_d, letter_f, letter_g, letter_p, if◌then◌otherwise◌, bytes}
 use Rattle.lines.specs.Lines.{
   first_field,
   further_fields,
@@ -51,7 +51,7 @@ text_of (prints text line) = text
 -- The texts of the cases that do not hold: a refusal of the theorem prints them.
 unfoldable pub failing : List Case → List String
 failing [] = []
-failing (c ∷ cs) = if holds c then failing cs else (text_of c ∷ failing cs)
+failing (c ∷ cs) = if holds c then failing cs otherwise (text_of c ∷ failing cs)
 
 unfoldable pub cases : List Case
 unfolding format_line get_line change_line unreadable_line field decimal decimal_within

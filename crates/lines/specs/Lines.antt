@@ -3,17 +3,17 @@
 use Rattle.std.specs.Prelude.{ℕ, zero, suc, ◌+◌, ◌-◌, ◌*◌, ◌/◌, ◌%◌, Bool, true, false, ◌&&◌, List, [], ◌∷◌, ◌++◌, map, ltb, eqb, length, get_or}
 use Rattle.lines.specs.declared.Line.{Line}
 use Rattle.lines.specs.declared.Line.TheVariants.{Format, Put, Delete, Get, Unreadable}
-use Rattle.lines.specs.Bytes.{line_end, space, question, letter_d, letter_f, letter_g, letter_p, is_digit, digit, if◌then◌else◌, every}
+use Rattle.lines.specs.Bytes.{line_end, space, question, letter_d, letter_f, letter_g, letter_p, is_digit, digit, if◌then◌otherwise◌, every}
 
 -- "Fields are parted by one space": the bytes before the first space, or all where there is none
 unfoldable pub first_field : List ℕ → List ℕ
 first_field [] = []
-first_field (x ∷ xs) = if eqb x space then [] else (x ∷ first_field xs)
+first_field (x ∷ xs) = if eqb x space then [] otherwise (x ∷ first_field xs)
 
 -- and the fields after it, one for each space; two spaces part an empty field from the next
 unfoldable pub further_fields : List ℕ → List (List ℕ)
 further_fields [] = []
-further_fields (x ∷ xs) = if eqb x space then (first_field xs ∷ further_fields xs) else further_fields xs
+further_fields (x ∷ xs) = if eqb x space then (first_field xs ∷ further_fields xs) otherwise further_fields xs
 
 -- the number that digits say after digits that say n, of any size
 unfoldable pub value_from : ℕ → List ℕ → ℕ
@@ -36,13 +36,13 @@ unfoldable pub spoken : ℕ → List ℕ → Line
 spoken letter ns =
     if eqb (length ns) 6 && eqb letter letter_f
     then Format (get_or ns 0 0) (get_or ns 1 0) (get_or ns 2 0) (get_or ns 3 0) (get_or ns 4 0) (get_or ns 5 0)
-    else if eqb (length ns) 2 && eqb letter letter_p
+    otherwise if eqb (length ns) 2 && eqb letter letter_p
     then Put (get_or ns 0 0) (get_or ns 1 0)
-    else if eqb (length ns) 1 && eqb letter letter_d
+    otherwise if eqb (length ns) 1 && eqb letter letter_d
     then Delete (get_or ns 0 0)
-    else if eqb (length ns) 1 && eqb letter letter_g
+    otherwise if eqb (length ns) 1 && eqb letter letter_g
     then Get (get_or ns 0 0)
-    else Unreadable
+    otherwise Unreadable
 
 -- the first field is one letter, alone
 unfoldable pub named : List ℕ → List ℕ → Line
@@ -54,7 +54,7 @@ named (letter ∷ x ∷ xs) ns = Unreadable
 -- a carriage return or any other byte makes a field that is no number, or no letter.
 unfoldable pub line_of : List ℕ → Line
 line_of xs =
-    if every is_number (further_fields xs) then named (first_field xs) (map value_of (further_fields xs)) else Unreadable
+    if every is_number (further_fields xs) then named (first_field xs) (map value_of (further_fields xs)) otherwise Unreadable
 
 -- "decimal": the digits of n, the first not 0 but for n = 0; k bounds how many may follow the first
 unfoldable pub decimal_within : ℕ → ℕ → List ℕ

@@ -6,7 +6,7 @@ use Rattle.lines.specs.declared.Line.TheVariants.{Format, Put, Delete, Get, Unre
 use Rattle.lines.specs.declared.Numbers.{Numbers}
 use Rattle.lines.specs.declared.Reading.{Reading}
 use Rattle.lines.specs.declared.Reading.TheVariants.{Start, Letter, Space, Digits, Spoiled}
-use Rattle.lines.specs.Bytes.{space, letter_d, letter_f, letter_g, letter_p, is_digit, if◌then◌else◌}
+use Rattle.lines.specs.Bytes.{space, letter_d, letter_f, letter_g, letter_p, is_digit, if◌then◌otherwise◌}
 use Rattle.lines.specs.Lines.{word_limit}
 
 abbrev pub no_numbers : Numbers
@@ -24,22 +24,22 @@ unfoldable pub is_letter : ℕ → Bool
 is_letter x = eqb x letter_f || (eqb x letter_p || (eqb x letter_d || eqb x letter_g))
 
 unfoldable pub after_start : ℕ → Reading
-after_start x = if is_letter x then Letter x else Spoiled
+after_start x = if is_letter x then Letter x otherwise Spoiled
 
 unfoldable pub after_letter : ℕ → ℕ → Reading
-after_letter letter x = if eqb x space then Space letter no_numbers else Spoiled
+after_letter letter x = if eqb x space then Space letter no_numbers otherwise Spoiled
 
 -- a digit begins a number; no line has a seventh
 unfoldable pub after_space : ℕ → Numbers → ℕ → Reading
-after_space letter ns x = if ltb ns.count 6 && is_digit x then Digits letter (pushed ns (x - 48)) else Spoiled
+after_space letter ns x = if ltb ns.count 6 && is_digit x then Digits letter (pushed ns (x - 48)) otherwise Spoiled
 
 -- the last number is v now; one that reaches 2^32 spoils the line for good
 unfoldable pub grown : ℕ → Numbers → ℕ → Reading
-grown letter ns v = if ltb v word_limit then Digits letter (relast ns v) else Spoiled
+grown letter ns v = if ltb v word_limit then Digits letter (relast ns v) otherwise Spoiled
 
 unfoldable pub after_digits : ℕ → Numbers → ℕ → Reading
 after_digits letter ns x =
-    if eqb x space then Space letter ns else if is_digit x then grown letter ns (ns.n1 * 10 + (x - 48)) else Spoiled
+    if eqb x space then Space letter ns otherwise if is_digit x then grown letter ns (ns.n1 * 10 + (x - 48)) otherwise Spoiled
 
 -- one byte that is no line end
 unfoldable pub step : Reading → ℕ → Reading
@@ -59,13 +59,13 @@ unfoldable pub said : ℕ → Numbers → Line
 said letter ns =
     if eqb ns.count 6 && eqb letter letter_f
     then Format ns.n6 ns.n5 ns.n4 ns.n3 ns.n2 ns.n1
-    else if eqb ns.count 2 && eqb letter letter_p
+    otherwise if eqb ns.count 2 && eqb letter letter_p
     then Put ns.n2 ns.n1
-    else if eqb ns.count 1 && eqb letter letter_d
+    otherwise if eqb ns.count 1 && eqb letter letter_d
     then Delete ns.n1
-    else if eqb ns.count 1 && eqb letter letter_g
+    otherwise if eqb ns.count 1 && eqb letter letter_g
     then Get ns.n1
-    else Unreadable
+    otherwise Unreadable
 
 -- what the line says if it ends here: only the end of a number ends a line
 unfoldable pub line_after : Reading → Line

@@ -6,7 +6,7 @@ use mathlib.Core.List.{List}
 use native.Mathlib.Decide.{dec_lt}
 use native.Mathlib.Nat.{le_refl, mul-le-mul_left, le_of_mul-le-mul_right}
 use native.Mathlib.Omega.{arith}
-use Rattle.levels.specs.Basics.{if◌then◌else◌, iterate}
+use Rattle.levels.specs.Basics.{if◌then◌otherwise◌, iterate}
 use Rattle.levels.specs.Merge.{Out, step}
 use Rattle.blocks.specs.declared.Offsets.{Offsets}
 use Rattle.blocks.specs.declared.Buffer.{Buffer}
@@ -115,7 +115,7 @@ module _ (z : Offsets) (t : Inputs) (xs ys : List ℕ) (a : Memory) (k : Supplie
   turns_paid (suc n) g = go (idle z t xs ys (turns z t xs ys n a)) refl (turns_paid n (λ i h. g i (omega arith))) (cores n (λ i h. g i (omega arith)))
     where
       go : (b : Bool) → idle z t xs ys (turns z t xs ys n a) ≡ b → Paid z t a (turns z t xs ys n a) → Core z t xs ys (iterate n (step z.b t.bottom) (relation.first z t xs ys a)).out (turns z t xs ys n a)
-          → Paid z t a (if b then turns z t xs ys n a else turn z t xs ys (turns z t xs ys n a))
+          → Paid z t a (if b then turns z t xs ys n a otherwise turn z t xs ys (turns z t xs ys n a))
       go true e p c = p
       go false e p c = turn_paid z t xs ys a (iterate n (step z.b t.bottom) (relation.first z t xs ys a)).out (turns z t xs ys n a) c p e
 

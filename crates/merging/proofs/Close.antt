@@ -12,7 +12,7 @@ use lib.Dec.{leb, eqb}
 use lib.ListN.{length, get_or, take, length-append, length-set, length-take}
 use lib.Seq.{take-suc, take-length, take-suc-set}
 use borrow.Author.Tests.{le-leb, lt-leb, leb-true, eq-eqb, ne_eqb}
-use Rattle.levels.specs.Basics.{if◌then◌else◌}
+use Rattle.levels.specs.Basics.{if◌then◌otherwise◌}
 use Rattle.levels.specs.Record.{Rec, Block, Level, new, size}
 use Rattle.levels.specs.Merge.{Out, flush, join_left, join}
 use Rattle.blocks.specs.declared.Offsets.{Offsets}
@@ -234,7 +234,7 @@ module _ (z : Offsets) (d : Flash) (a : Memory) (ys : List ℕ) (end : ℕ) (siz
     unfolding after_joined pulled
     after_last e es k n is m = rw (lt-leb end w.y.i y, none_left (e ∷ es) k, n) (go (leb (size e + count_at z a.words q) z.b) refl)
       where
-        go : (t : Bool) → leb (size e + count_at z a.words q) z.b ≡ t → Laid [] (e ∷ es) w (if t then after_taken z a.words q (pulled z a.words a.out w) else w)
+        go : (t : Bool) → leb (size e + count_at z a.words q) z.b ≡ t → Laid [] (e ∷ es) w (if t then after_taken z a.words q (pulled z a.words a.out w) otherwise w)
         go true g =
             let l = leb-true (size e + count_at z a.words q) z.b g in
             let c = f.low in
@@ -252,7 +252,7 @@ module _ (z : Offsets) (d : Flash) (a : Memory) (ys : List ℕ) (end : ℕ) (siz
         same : leb (w.buf.n + count_at z a.words q) z.b ≡ leb (length (s ∷ rs) + count_at z a.words q) z.b
         same = ap (λ (n : ℕ). leb (n + count_at z a.words q) z.b) (some_left s rs done k).1
 
-        go : (t : Bool) → leb (w.buf.n + count_at z a.words q) z.b ≡ t → Laid (s ∷ rs) done w (if t then after_taken z a.words q w else w)
+        go : (t : Bool) → leb (w.buf.n + count_at z a.words q) z.b ≡ t → Laid (s ∷ rs) done w (if t then after_taken z a.words q w otherwise w)
         go true g =
             let h : leb (length (s ∷ rs) + count_at z a.words q) z.b ≡ true = sym same ∙ g in
             let l = leb-true (length (s ∷ rs) + count_at z a.words q) z.b h in
@@ -286,7 +286,7 @@ left_none : (z : Offsets) (xs out : List ℕ) (w : Progress) → eqb w.buf.n 0 �
 unfolding left_joined
 left_none z xs out w e = rw e
 
-left_some : (z : Offsets) (xs out : List ℕ) (w : Progress) (t : Bool) → eqb w.buf.n 0 ≡ false → leb (last_size z xs out w.m + w.buf.n) z.b ≡ t → left_joined z xs out w ≡ (if t then pulled z xs out w else w)
+left_some : (z : Offsets) (xs out : List ℕ) (w : Progress) (t : Bool) → eqb w.buf.n 0 ≡ false → leb (last_size z xs out w.m + w.buf.n) z.b ≡ t → left_joined z xs out w ≡ (if t then pulled z xs out w otherwise w)
 unfolding left_joined
 left_some z xs out w t e f = rw (e, f)
 
@@ -313,7 +313,7 @@ module _ (z : Offsets) (d : Flash) (a : Memory) (ys : List ℕ) (end : ℕ) (o :
 
       two : (s : Rec) (rs : List Rec) (e : Block) (es : Level) (t : Bool) → leb (size e + length (s ∷ rs)) z.b ≡ t → Pend z d a (s ∷ rs) (e ∷ es) a.st → last_size z a.words a.out a.st.m ≡ size e
           → (size e < z.b → e ≡ stored_at z a.words (get_or a.out (a.st.m - 1) 0))
-          → flash_of (closed z ys end a) ≡ lay_all z d (join z.b (if t then new (e.recs ++ (s ∷ rs)) ∷ es else new (s ∷ rs) ∷ e ∷ es) (blocks z false a.words ys a.st.y.i (end - a.st.y.i)))
+          → flash_of (closed z ys end a) ≡ lay_all z d (join z.b (if t then new (e.recs ++ (s ∷ rs)) ∷ es otherwise new (s ∷ rs) ∷ e ∷ es) (blocks z false a.words ys a.st.y.i (end - a.st.y.i)))
       two s rs e es false g k l t = stay s rs (e ∷ es) k (ap (λ (n : ℕ). leb (n + a.st.buf.n) z.b) l ∙ ap (λ (n : ℕ). leb (size e + n) z.b) (count_is (s ∷ rs) (e ∷ es) k) ∙ g)
       two s rs e es true g k l t =
           let q = leb-true (size e + length (s ∷ rs)) z.b g in

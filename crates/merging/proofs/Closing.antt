@@ -8,7 +8,7 @@ use native.Mathlib.Omega.{arith}
 use lib.Dec.{leb, eqb}
 use lib.ListN.{length, get_or}
 use borrow.Author.Tests.{leb-true, leb-false, eqb-true, eqb-false}
-use Rattle.levels.specs.Basics.{if◌then◌else◌}
+use Rattle.levels.specs.Basics.{if◌then◌otherwise◌}
 use Rattle.levels.specs.Merge.{Out}
 use Rattle.blocks.specs.declared.Offsets.{Offsets}
 use Rattle.blocks.specs.declared.Buffer.{Buffer}
@@ -70,7 +70,7 @@ module _ (z : Offsets) (xs out : List ℕ) (w : Progress) where
       same : Joined w w
       same = record { m = le_refl w.m; cursor = refl; writes = refl; few = k.few }
 
-      go : (t u : Bool) → eqb w.buf.n 0 ≡ t → leb (last_size z xs out w.m + w.buf.n) z.b ≡ u → Joined w (if t then w else if u then pulled z xs out w else w)
+      go : (t u : Bool) → eqb w.buf.n 0 ≡ t → leb (last_size z xs out w.m + w.buf.n) z.b ≡ u → Joined w (if t then w otherwise if u then pulled z xs out w otherwise w)
       go true u e f = same
       go false false e f = same
       go false true e f = pulled_joined k w.buf.n (let n = eqb-false w.buf.n 0 e in omega arith) (le_refl w.buf.n) (leb-true (last_size z xs out w.m + w.buf.n) z.b f)
@@ -104,7 +104,7 @@ module _ (z : Offsets) (xs out ys : List ℕ) (w : Progress) (end : ℕ) (k : Af
       same = record { m = le_refl w.m; cursor = refl; writes = refl; few = k.lefts.few }
 
       go : (t u v x : Bool) → leb end w.y.i ≡ t → eqb w.buf.n 0 ≡ u → leb (last_size z xs out w.m + size) z.b ≡ v → leb (w.buf.n + size) z.b ≡ x
-          → Joined w (if t then w else if u then (if v then after_taken z xs q (pulled z xs out w) else w) else if x then after_taken z xs q w else w)
+          → Joined w (if t then w otherwise if u then (if v then after_taken z xs q (pulled z xs out w) otherwise w) otherwise if x then after_taken z xs q w otherwise w)
       go true u v x e f g h = same
       go false true false x e f g h = same
       go false true true x e f g h =
@@ -132,7 +132,7 @@ module _ (z : Offsets) (xs out ys : List ℕ) (w : Progress) (end : ℕ) (k : Af
       Ends : Progress → Type 0
       Ends v = (w.y.i ≤ v.y.i) × (v.y.i ≤ end)
 
-      go : (t : Bool) → leb end w.y.i ≡ t → Ends (if t then w else if eqb w.buf.n 0 then (if leb (last_size z xs out w.m + size) z.b then after_taken z xs q (pulled z xs out w) else w) else if leb (w.buf.n + size) z.b then after_taken z xs q w else w)
+      go : (t : Bool) → leb end w.y.i ≡ t → Ends (if t then w otherwise if eqb w.buf.n 0 then (if leb (last_size z xs out w.m + size) z.b then after_taken z xs q (pulled z xs out w) otherwise w) otherwise if leb (w.buf.n + size) z.b then after_taken z xs q w otherwise w)
       go true e = (le_refl w.y.i, l)
       go false e =
           let h = leb-false end w.y.i e in

@@ -13,7 +13,7 @@ use lib.Dec.{ltb, eqb}
 use lib.Pow.{shr-shr}
 use lib.ListN.{length, get_or, drop}
 use borrow.Author.Tests.{eq-eqb, ne_eqb, lt-ltb}
-use Rattle.levels.specs.Basics.{if◌then◌else◌}
+use Rattle.levels.specs.Basics.{if◌then◌otherwise◌}
 use Rattle.levels.specs.Record.{Rec, Block, Level, new, size, placed, first_key, last_key, has_tombstone}
 use Rattle.levels.specs.Merge.{Out, head_rec, ends_below, apart, reusable}
 use Rattle.blocks.specs.declared.Offsets.{Offsets}
@@ -88,7 +88,7 @@ pub shows_at : (z : Offsets) (ws : List ℕ) (c : Chunk) (j : ℕ) → Formed z 
 unfolding recs_from
 shows_at z ws c zero f l = go c.n c.listed refl refl f.low
   where
-    go : (n : ℕ) (t : Bool) → c.n ≡ n → c.listed ≡ t → 1 ≤ n → Shows ws (record { some = true; whole = t && true; key = get_or ws (c.keys + 0) 0; tombstone = get_or ws c.marks 0 / 2 ^ 0 % 2; pay = get_or ws (c.pays + 0) 0; marks = get_or ws c.marks 0; keys = c.keys; pays = c.pays; n = n; place = c.place }) (record { place = if t then some c.place else none; recs = recs_from ws c 0 n })
+    go : (n : ℕ) (t : Bool) → c.n ≡ n → c.listed ≡ t → 1 ≤ n → Shows ws (record { some = true; whole = t && true; key = get_or ws (c.keys + 0) 0; tombstone = get_or ws c.marks 0 / 2 ^ 0 % 2; pay = get_or ws (c.pays + 0) 0; marks = get_or ws c.marks 0; keys = c.keys; pays = c.pays; n = n; place = c.place }) (record { place = if t then some c.place otherwise none; recs = recs_from ws c 0 n })
     go zero t e g l = absurd (omega arith)
     go (suc n) t e g l =
         record {
@@ -103,11 +103,11 @@ shows_at z ws c zero f l = go c.n c.listed refl refl f.low
           marks = λ _. recs_tombstone ws c 0 (suc n) (rw div_one (rw (← e) f.bits)) ∙ rw div_one;
         }
       where
-        starts : (t : Bool) → (t && true) ≡ placed (record { place = if t then some c.place else none; recs = recs_from ws c 0 (suc n) })
+        starts : (t : Bool) → (t && true) ≡ placed (record { place = if t then some c.place otherwise none; recs = recs_from ws c 0 (suc n) })
         starts true = refl
         starts false = refl
 
-        placed_at : (t : Bool) → (t && true) ≡ true → (if t then some c.place else none) ≡ some c.place
+        placed_at : (t : Bool) → (t && true) ≡ true → (if t then some c.place otherwise none) ≡ some c.place
         placed_at true e = refl
         placed_at false e = absurd (true≢false (sym e))
 shows_at z ws c (suc j) f l =
@@ -143,7 +143,7 @@ regroup true true m = refl
 regroup true false m = refl
 regroup false c m = refl
 
-if_same : (t : Bool) → (if t then false else false) ≡ false
+if_same : (t : Bool) → (if t then false otherwise false) ≡ false
 if_same true = refl
 if_same false = refl
 

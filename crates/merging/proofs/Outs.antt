@@ -13,7 +13,7 @@ use lib.Dec.{leb, eqb}
 use lib.ListN.{length, set, take, replicate, length-append, length-map}
 use lib.Seq.{set-append_seam, take-suc-set, get_or-set_same}
 use borrow.Author.Tests.{eq-eqb, ne_eqb}
-use Rattle.levels.specs.Basics.{if◌then◌else◌}
+use Rattle.levels.specs.Basics.{if◌then◌otherwise◌}
 use Rattle.levels.specs.Record.{Rec, Block, Level, new, size}
 use Rattle.levels.specs.Merge.{Out, flush, gather}
 use Rattle.blocks.specs.declared.Offsets.{Offsets}
@@ -136,8 +136,8 @@ gather_holds z bottom d o a h f l k s = go (bottom && eqb h.tombstone 1) (leb z.
     test : leb z.b (a.st.buf.n + 1) ≡ leb z.b (suc (length o.buffer))
     test = full_test z.b a.st.buf o.buffer s.buf
 
-    go : (t u : Bool) → leb z.b (suc (length o.buffer)) ≡ u → Holds z d (if t then o else if u then record { buffer = []; done = new (o.buffer ++ (r ∷ [])) ∷ o.done } else record { buffer = o.buffer ++ (r ∷ []); done = o.done })
-        (if t then a else if leb z.b (a.st.buf.n + 1) then flushed z full else full)
+    go : (t u : Bool) → leb z.b (suc (length o.buffer)) ≡ u → Holds z d (if t then o otherwise if u then record { buffer = []; done = new (o.buffer ++ (r ∷ [])) ∷ o.done } otherwise record { buffer = o.buffer ++ (r ∷ []); done = o.done })
+        (if t then a otherwise if leb z.b (a.st.buf.n + 1) then flushed z full otherwise full)
     go true u e = s
     go false true e = rw (test, e) (rw flush_push at (flush_holds z d (record { buffer = o.buffer ++ (r ∷ []); done = o.done }) full (record { sized = f.sized; cursor = f.cursor; list = f.list }) held))
     go false false e = rw (test, e) held

@@ -10,7 +10,7 @@ use lib.Dec.{ltb, leb, eqb}
 use lib.ListN.{get_or, set}
 use lib.Seq.{get_or-set_other}
 use borrow.Author.Tests.{leb-true, eqb-true}
-use Rattle.levels.specs.Basics.{if◌then◌else◌}
+use Rattle.levels.specs.Basics.{if◌then◌otherwise◌}
 use Rattle.words.specs.Stores.{bit}
 use Rattle.blocks.specs.declared.Offsets.{Offsets}
 use Rattle.blocks.specs.Blocks.{SomeFree, pushed}
@@ -90,7 +90,7 @@ module _ (z : Offsets) (a : Memory) where
       more : Spent z a full 1 1
       more = record { list = omega arith; places = omega arith; marks = omega arith; x = refl; y = refl }
 
-      go : (t u : Bool) → leb z.b (a.st.buf.n + 1) ≡ u → Spent z a (if t then a else if u then flushed z full else full) 1 1
+      go : (t u : Bool) → leb z.b (a.st.buf.n + 1) ≡ u → Spent z a (if t then a otherwise if u then flushed z full otherwise full) 1 1
       go true u e = record { list = omega arith; places = omega arith; marks = omega arith; x = refl; y = refl }
       go false false e = more
       go false true e =
@@ -101,10 +101,10 @@ module _ (z : Offsets) (a : Memory) where
 
 -- what is spent on the list and on places: a block reused, if r, or one record
 abbrev on_list : ℕ → Bool → ℕ
-on_list b r = if r then 2 * b else 1
+on_list b r = if r then 2 * b otherwise 1
 
 abbrev on_places : ℕ → Bool → ℕ
-on_places b r = if r then b else 1
+on_places b r = if r then b otherwise 1
 
 emit_spent : (z : Offsets) (a : Memory) (bottom : Bool) (x y : Point) (h : Head) (r : Bool) → Spent z (moved a x y) (emitted z bottom a (record { x = x; y = y; head = h; whole = r })) (on_list z.b r) (on_places z.b r)
 unfolding emitted
@@ -146,7 +146,7 @@ follows_start z bottom ws c j o n e f = eqb-true j 0 (and_right c.listed (eqb j 
     h : Head
     h = head_at ws c j
 
-    go : (t : Bool) → (if t then (h.whole && (not o.some || ltb (get_or ws (h.keys + (h.n - 1)) 0) o.key)) && (not (bottom && not (eqb h.marks 0)) && ltb z.b (e + h.n)) else (h.whole && (not o.some || ltb (get_or ws (h.keys + (h.n - 1)) 0) o.key)) && (not (bottom && not (eqb h.marks 0)) && (ltb z.b (n + h.n) && ltb z.b (e + n)))) ≡ true → h.whole ≡ true
+    go : (t : Bool) → (if t then (h.whole && (not o.some || ltb (get_or ws (h.keys + (h.n - 1)) 0) o.key)) && (not (bottom && not (eqb h.marks 0)) && ltb z.b (e + h.n)) otherwise (h.whole && (not o.some || ltb (get_or ws (h.keys + (h.n - 1)) 0) o.key)) && (not (bottom && not (eqb h.marks 0)) && (ltb z.b (n + h.n) && ltb z.b (e + n)))) ≡ true → h.whole ≡ true
     go true f = and_left h.whole _ (and_left _ _ f)
     go false f = and_left h.whole _ (and_left _ _ f)
 

@@ -6,7 +6,7 @@ use mathlib.Core.List.{List}
 use native.Mathlib.Nat.{le_refl}
 use native.Mathlib.Omega.{arith}
 use lib.ListN.{get_or}
-use Rattle.levels.specs.Basics.{if◌then◌else◌, iterate}
+use Rattle.levels.specs.Basics.{if◌then◌otherwise◌, iterate}
 use Rattle.levels.specs.Merge.{Out, State, step}
 use Rattle.blocks.specs.declared.Offsets.{Offsets}
 use Rattle.blocks.specs.Blocks.{Sized, buffer_of}
@@ -73,7 +73,7 @@ module _ (z : Offsets) (t : Inputs) (xs ys : List ℕ) (d : Flash) where
       made : State
       made = iterate n (step z.b t.bottom) s
 
-      go : (b : Bool) → idle z t xs ys r ≡ b → Both z t xs ys d made r → Budget z r → Both z t xs ys d (step z.b t.bottom made) (if b then r else turn z t xs ys r)
+      go : (b : Bool) → idle z t xs ys r ≡ b → Both z t xs ys d made r → Budget z r → Both z t xs ys d (step z.b t.bottom made) (if b then r otherwise turn z t xs ys r)
       go false e ih bu = sim_step z t xs ys d made r ih.0 bu ih.1 e
       go true e ih bu =
           let h = idle_ends z t xs ys r e in

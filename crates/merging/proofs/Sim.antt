@@ -11,7 +11,7 @@ use lib.Dec.{ltb, leb, eqb}
 use lib.ListN.{length, get_or, set, length-append}
 use lib.Seq.{get_or-set_same}
 use borrow.Author.Tests.{le-leb, lt-leb, leb-true, eqb-true, eqb-false, ltb-true, ltb-false}
-use Rattle.levels.specs.Basics.{if◌then◌else◌}
+use Rattle.levels.specs.Basics.{if◌then◌otherwise◌}
 use Rattle.levels.specs.Record.{Rec, Block, Level, new, size, placed}
 use Rattle.levels.specs.Merge.{Out, State, head_rec, reusable, flush, rest, reuse, gather, from_upper, from_lower, from_both, step}
 use Rattle.blocks.specs.declared.Offsets.{Offsets}
@@ -41,10 +41,10 @@ moved_holds z d o a x y h = record { buf = h.buf; flash = h.flash; last = h.last
 
 -- the side that comes first, in both readings
 three : (P : State → Move → Type 0) (fx fy kx ky : ℕ) → kx ≡ fx → ky ≡ fy → (sl su sb : State) (wl wu wb : Move) → P sl wl → P su wu → P sb wb
-    → P (if ltb fy fx then sl else if eqb fy fx then sb else su) (if ltb ky kx then wl else if ltb kx ky then wu else wb)
+    → P (if ltb fy fx then sl otherwise if eqb fy fx then sb otherwise su) (if ltb ky kx then wl otherwise if ltb kx ky then wu otherwise wb)
 three P fx fy kx ky ex ey sl su sb wl wu wb pl pu pb = rw (ex, ey) (go (ltb fy fx) (eqb fy fx) (ltb fx fy) refl refl refl)
   where
-    go : (l e u : Bool) → ltb fy fx ≡ l → eqb fy fx ≡ e → ltb fx fy ≡ u → P (if l then sl else if e then sb else su) (if l then wl else if u then wu else wb)
+    go : (l e u : Bool) → ltb fy fx ≡ l → eqb fy fx ≡ e → ltb fx fy ≡ u → P (if l then sl otherwise if e then sb otherwise su) (if l then wl otherwise if u then wu otherwise wb)
     go true e u p q r = pl
     go false true false p q r = pb
     go false false true p q r = pu
@@ -134,8 +134,8 @@ gather_tail z bottom o a h n l = go (bottom && eqb h.tombstone 1) (leb z.b (suc 
     Tail b p = LastIs z b.words b.out b.st.m p.done
 
     go : (t u : Bool) → leb z.b (suc (length o.buffer)) ≡ u
-        → Tail (if t then a else if leb z.b (a.st.buf.n + 1) then flushed z full else full)
-        (if t then o else if u then record { buffer = []; done = new (o.buffer ++ (r ∷ [])) ∷ o.done } else record { buffer = o.buffer ++ (r ∷ []); done = o.done })
+        → Tail (if t then a otherwise if leb z.b (a.st.buf.n + 1) then flushed z full otherwise full)
+        (if t then o otherwise if u then record { buffer = []; done = new (o.buffer ++ (r ∷ [])) ∷ o.done } otherwise record { buffer = o.buffer ++ (r ∷ []); done = o.done })
     go true u e = l
     go false true e = λ k. absurd (omega (arith, leb-true z.b (suc (length o.buffer)) e, length-append o.buffer (r ∷ []), k))
     go false false e = rw (full_test z.b a.st.buf o.buffer n, e) l

@@ -7,7 +7,7 @@ use native.Mathlib.Omega.{arith}
 use lib.Dec.{leb, ltb, eqb}
 use lib.ListN.{length, length-append}
 use borrow.Author.Tests.{leb-true, leb-false}
-use Rattle.levels.specs.Basics.{if◌then◌else◌, iterate}
+use Rattle.levels.specs.Basics.{if◌then◌otherwise◌, iterate}
 use Rattle.levels.specs.Record.{Rec, Block, Level, new, size, placed, records, first_key}
 use Rattle.levels.specs.Merge.{Out, State, head_rec, reusable, flush, rest, reuse, gather, from_upper, from_lower, from_both, step_on, step, join_left, join}
 use Rattle.levels.proofs.Basics.{and_left, and_right, if_either}
@@ -20,13 +20,13 @@ pub record Fit (B : ℕ) (o : Out) : Type 0 where
 
 -- Block b of a side is reused if r, else its first record is gathered: what is left of the side, and what is made.
 abbrev pub past : Bool → Block → Level → Level
-past r b bs = if r then bs else rest (b ∷ bs)
+past r b bs = if r then bs otherwise rest (b ∷ bs)
 
 abbrev pub put : ℕ → Bool → Bool → Block → Out → Out
-put B bottom r b o = if r then reuse b o else gather B bottom (head_rec b) o
+put B bottom r b o = if r then reuse b o otherwise gather B bottom (head_rec b) o
 
 -- which of the two is tested once for both
-test_once : (f : Level → Out → State) (r : Bool) (k l : Level) (o p : Out) → (if r then f k o else f l p) ≡ f (if r then k else l) (if r then o else p)
+test_once : (f : Level → Out → State) (r : Bool) (k l : Level) (o p : Out) → (if r then f k o otherwise f l p) ≡ f (if r then k otherwise l) (if r then o otherwise p)
 test_once f true k l o p = refl
 test_once f false k l o p = refl
 
@@ -51,7 +51,7 @@ module _ (B : ℕ) (bottom : Bool) where
   pub gather_few : (r : Rec) (o : Out) → length o.buffer < B → length (gather B bottom r o).buffer < B
   gather_few r o h = go (bottom && r.tombstone) (leb B (suc (length o.buffer))) refl
     where
-      go : (t u : Bool) → leb B (suc (length o.buffer)) ≡ u → length (if t then o else if u then record { buffer = []; done = new (o.buffer ++ (r ∷ [])) ∷ o.done } else record { buffer = o.buffer ++ (r ∷ []); done = o.done }).buffer < B
+      go : (t u : Bool) → leb B (suc (length o.buffer)) ≡ u → length (if t then o otherwise if u then record { buffer = []; done = new (o.buffer ++ (r ∷ [])) ∷ o.done } otherwise record { buffer = o.buffer ++ (r ∷ []); done = o.done }).buffer < B
       go true u e = h
       go false true e = omega arith
       go false false e = omega (arith, leb-false B (suc (length o.buffer)) e, length-append o.buffer (r ∷ []))
@@ -99,7 +99,7 @@ left_fit B [] done h f = f
 left_fit B (r ∷ rs) [] h f = (λ _. omega arith, f)
 left_fit B (r ∷ rs) (e ∷ es) h f = go (leb (size e + length (r ∷ rs)) B) refl
   where
-    go : (t : Bool) → leb (size e + length (r ∷ rs)) B ≡ t → NewFit B (if t then new (e.recs ++ (r ∷ rs)) ∷ es else new (r ∷ rs) ∷ e ∷ es)
+    go : (t : Bool) → leb (size e + length (r ∷ rs)) B ≡ t → NewFit B (if t then new (e.recs ++ (r ∷ rs)) ∷ es otherwise new (r ∷ rs) ∷ e ∷ es)
     go true w = (λ _. omega (arith, leb-true (size e + length (r ∷ rs)) B w, length-append e.recs (r ∷ rs)), f.1)
     go false w = (λ _. omega arith, f)
 
@@ -108,7 +108,7 @@ join_fit B [] behind f g = g
 join_fit B (e ∷ es) [] f g = reverse_fit B (e ∷ es) [] f tt
 join_fit B (e ∷ es) (a ∷ bs) f g = go (leb (size e + size a) B) refl
   where
-    go : (t : Bool) → leb (size e + size a) B ≡ t → NewFit B (if t then reverse_aux es (new (e.recs ++ a.recs) ∷ bs) else reverse_aux (e ∷ es) (a ∷ bs))
+    go : (t : Bool) → leb (size e + size a) B ≡ t → NewFit B (if t then reverse_aux es (new (e.recs ++ a.recs) ∷ bs) otherwise reverse_aux (e ∷ es) (a ∷ bs))
     go true w = reverse_fit B es (new (e.recs ++ a.recs) ∷ bs) f.1 (λ _. omega (arith, leb-true (size e + size a) B w, length-append e.recs a.recs), g.1)
     go false w = reverse_fit B (e ∷ es) (a ∷ bs) f g
 

@@ -11,7 +11,7 @@ use lib.ListN.{length, take, drop}
 use borrow.Author.Tests.{le-leb, lt-leb}
 use Rattle.geometry.specs.declared.Geometry.{Geometry}
 use Rattle.geometry.specs.Geometry.{key_limit_of, block_width, within}
-use Rattle.levels.specs.Basics.{if◌then◌else◌, or_else}
+use Rattle.levels.specs.Basics.{if◌then◌otherwise◌, or_else}
 use Rattle.levels.specs.Record.{Rec, Block}
 use Rattle.levels.specs.Map.{find, unmarked, map_of, decides, present, first_from, next, stretch}
 use Rattle.levels.specs.Store.{rows}
@@ -59,7 +59,7 @@ pub look_present : (o : Option Rec) → looked_answer (looked_of (found_of o)) �
 look_present none = refl
 look_present (some r) = go r.tombstone
   where
-    go : (t : Bool) → looked_answer (looked_of (found.Here t r.pay)) ≡ look_answer (if t then none else some r)
+    go : (t : Bool) → looked_answer (looked_of (found.Here t r.pay)) ≡ look_answer (if t then none otherwise some r)
     go true = refl
     go false = refl
 
@@ -135,7 +135,7 @@ unfolding enclosed_from
 enclosed_inside ws d k i ℕ.zero j e = absurd (let z : ◌≡◌ {A = ℕ} 0 1 = cc in omega arith)
 enclosed_inside ws d k i (suc n) j e = go (encloses k (chunk_recs ws (chunk_at ws d i))) e (λ q. enclosed_inside ws d k (suc i) n j q)
   where
-    go : (t : Bool) → (if t then enclosed.At i else enclosed_from ws d k (suc i) n) ≡ enclosed.At j → (enclosed_from ws d k (suc i) n ≡ enclosed.At j → j < suc i + n) → j < i + suc n
+    go : (t : Bool) → (if t then enclosed.At i otherwise enclosed_from ws d k (suc i) n) ≡ enclosed.At j → (enclosed_from ws d k (suc i) n ≡ enclosed.At j → j < suc i + n) → j < i + suc n
     go true q ih = let w : i ≡ j = cc in omega arith
     go false q ih = omega (arith, ih q)
 
@@ -164,7 +164,7 @@ module _ (ws : List ℕ) (z : Layout) (e : Passed z ws) where
         ∙ go k j n (encloses k (chunk_recs ws (chunk_at ws (level_of z ws i) j))) (enclosing k (map (block_at z ws) (words_from ws (suc (list_start z i + j)) n))) (enclosed_from ws (level_of z ws i) k (suc j) n) ih
       where
         go : (k j n : ℕ) (t : Bool) (o : Option Block) (r : Enclosed) → o ≡ listed_block z ws (list_start z i) r
-            → elim t [ true ↦ some (block_at z ws (word ws (list_start z i + j))) | false ↦ o ] ≡ listed_block z ws (list_start z i) (if t then enclosed.At j else r)
+            → elim t [ true ↦ some (block_at z ws (word ws (list_start z i + j))) | false ↦ o ] ≡ listed_block z ws (list_start z i) (if t then enclosed.At j otherwise r)
         go k j n true o r u = refl
         go k j n false o r u = u
 

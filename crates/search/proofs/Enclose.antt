@@ -12,7 +12,7 @@ use lib.ListN.{length, get_or}
 use Rattle.slices.specs.declared.Rank.{Rank}
 use Rattle.slices.specs.Ranks.{count_below, among, rank_of}
 use Rattle.slices.proofs.Ranks.{some_not_above, some_not_below}
-use Rattle.levels.specs.Basics.{if◌then◌else◌}
+use Rattle.levels.specs.Basics.{if◌then◌otherwise◌}
 use Rattle.levels.specs.Record.{Rec, first_key, last_key}
 use Rattle.levels.specs.Rising.{Rising, Below}
 use Rattle.levels.proofs.Rising.{rising_right}
@@ -85,11 +85,11 @@ module _ (ws : List ℕ) (d : Directory) (k : ℕ) where
       let b : i + suc m ≡ suc i + m = omega arith in
       rw (a, b, enclosed_append (suc i) m n) (go (encloses k (chunk_recs ws (chunk_at ws d i))) (enclosed_from ws d k (suc i) m) (enclosed_from ws d k (suc i + m) n))
     where
-      go : (t : Bool) (y z : Enclosed) → (if t then At i else or_enclosed y z) ≡ or_enclosed (if t then At i else y) z
+      go : (t : Bool) (y z : Enclosed) → (if t then At i otherwise or_enclosed y z) ≡ or_enclosed (if t then At i otherwise y) z
       go true y z = refl
       go false y z = refl
 
-  enclosed_first : (i n : ℕ) → enclosed_from ws d k i (suc n) ≡ (if encloses k (chunk_recs ws (chunk_at ws d i)) then At i else enclosed_from ws d k (i + 1) n)
+  enclosed_first : (i n : ℕ) → enclosed_from ws d k i (suc n) ≡ (if encloses k (chunk_recs ws (chunk_at ws d i)) then At i otherwise enclosed_from ws d k (i + 1) n)
   unfolding enclosed_from
   enclosed_first i n = rw (add-one i)
 
@@ -111,7 +111,7 @@ module _ (ws : List ℕ) (d : Directory) (k : ℕ) where
         (enclosed_above (suc i) n (omega arith) (rising_right (suc k) rs (records_from ws d (suc i) n) b))
 
     -- the chunk that was sought encloses the key, or none does
-    sought_encloses : (r : ℕ) → Sought ws d k r → enclosed_of ws d k ≡ (if encloses k (chunk_recs ws (chunk_at ws d r)) then At r else Nowhere)
+    sought_encloses : (r : ℕ) → Sought ws d k r → enclosed_of ws d k ≡ (if encloses k (chunk_recs ws (chunk_at ws d r)) then At r otherwise Nowhere)
     unfolding enclosed_of
     sought_encloses r s =
         let l = s.inside in
@@ -124,7 +124,7 @@ module _ (ws : List ℕ) (d : Directory) (k : ℕ) where
         ∙ rw (b, q, enclosed_first r (d.chunks - (r + 1)), a)
 
     -- the same by the rank of the key in that chunk, as the code reads it
-    pub enclosed_read : (r : ℕ) → Sought ws d k r → (c : Chunk) → c ≡ chunk_at ws d r → (t : Rank) → t ≡ rank_of k (chunk_keys ws c) → enclosed_of ws d k ≡ (if (t.found || ltb 0 t.below) && ltb t.below c.count then At r else Nowhere)
+    pub enclosed_read : (r : ℕ) → Sought ws d k r → (c : Chunk) → c ≡ chunk_at ws d r → (t : Rank) → t ≡ rank_of k (chunk_keys ws c) → enclosed_of ws d k ≡ (if (t.found || ltb 0 t.below) && ltb t.below c.count then At r otherwise Nowhere)
     enclosed_read r s c e t q =
         let p = chunk_ready ws d f r s.inside c e in
         sought_encloses r s ∙ rw (← e, chunk_encloses ws c p.0 p.1.1.1 p.1.0 k, q)

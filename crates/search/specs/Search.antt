@@ -1,7 +1,7 @@
 -- The answers of the searches in a level.
 use Rattle.std.specs.Prelude.{ℕ, zero, suc, ◌+◌, ◌≤◌, ◌<◌, Bool, List}
 use Rattle.std.proofs.Math.Option.{Option, none, some}
-use Rattle.levels.specs.Basics.{if◌then◌else◌}
+use Rattle.levels.specs.Basics.{if◌then◌otherwise◌}
 use Rattle.geometry.specs.Geometry.{within}
 use Rattle.levels.specs.Record.{Rec, first_key, last_key}
 use Rattle.words.specs.Stores.{word}
@@ -35,7 +35,7 @@ encloses k rs = within (first_key rs) (last_key rs) k
 -- the first of the n chunks from chunk i on that encloses k
 unfoldable pub enclosed_from : List ℕ → Directory → ℕ → ℕ → ℕ → Enclosed
 enclosed_from ws d k i zero = Nowhere
-enclosed_from ws d k i (suc n) = if encloses k (chunk_recs ws (chunk_at ws d i)) then At i else enclosed_from ws d k (suc i) n
+enclosed_from ws d k i (suc n) = if encloses k (chunk_recs ws (chunk_at ws d i)) then At i otherwise enclosed_from ws d k (suc i) n
 
 -- the first chunk of a level that encloses k
 unfoldable pub enclosed_of : List ℕ → Directory → ℕ → Enclosed

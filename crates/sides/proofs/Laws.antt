@@ -12,7 +12,7 @@ use lib.Seq.{length-take-le, get_or-take, get_or-drop}
 use Rattle.slices.specs.declared.Rank.{Rank}
 use Rattle.slices.specs.Ranks.{rank_of}
 use Rattle.slices.proofs.Ranks.{all_below}
-use Rattle.levels.specs.Basics.{if◌then◌else◌}
+use Rattle.levels.specs.Basics.{if◌then◌otherwise◌}
 use Rattle.levels.proofs.Basics.{if_either}
 use Rattle.blocks.specs.declared.Offsets.{Offsets}
 use Rattle.blocks.specs.Blocks.{Sized, start_of}
@@ -47,7 +47,7 @@ pub head_ok : (z : Offsets) (pages : Bool) (xs list : List ℕ) (i j end : ℕ) 
 unfolding head_of
 head_ok z pages xs list i j end k = go (leb end i) refl
   where
-    go : (t : Bool) → leb end i ≡ t → HeadOk (if t then no_head else head_at xs (chunk_of z pages xs list i) j)
+    go : (t : Bool) → leb end i ≡ t → HeadOk (if t then no_head otherwise head_at xs (chunk_of z pages xs list i) j)
     go true e = record { tombstone = omega arith; n = omega arith; place = omega arith }
     go false e =
         let h = leb-false end i e in
@@ -57,7 +57,7 @@ pub head_some : (z : Offsets) (pages : Bool) (xs list : List ℕ) (i j end : ℕ
 unfolding head_of
 head_some z pages xs list i j end k s = go (leb end i) refl s
   where
-    go : (t : Bool) → leb end i ≡ t → (if t then no_head else head_at xs (chunk_of z pages xs list i) j).some ≡ true → (i < 4096) × (j < 16)
+    go : (t : Bool) → leb end i ≡ t → (if t then no_head otherwise head_at xs (chunk_of z pages xs list i) j).some ≡ true → (i < 4096) × (j < 16)
     go true e s = absurd (true≢false (sym s))
     go false e s = let h = leb-false end i e in (omega (arith, k.end_high), omega (arith, k.inside h, k.count h, k.sized))
 
@@ -65,7 +65,7 @@ pub head_inside : (z : Offsets) (pages : Bool) (xs list : List ℕ) (i j end : �
 unfolding head_of
 head_inside z pages xs list i j end k s = go (leb end i) refl s
   where
-    go : (t : Bool) → leb end i ≡ t → (if t then no_head else head_at xs (chunk_of z pages xs list i) j).some ≡ true → j < (if t then no_head else head_at xs (chunk_of z pages xs list i) j).n
+    go : (t : Bool) → leb end i ≡ t → (if t then no_head otherwise head_at xs (chunk_of z pages xs list i) j).some ≡ true → j < (if t then no_head otherwise head_at xs (chunk_of z pages xs list i) j).n
     go true e s = absurd (true≢false (sym s))
     go false e s = k.inside (leb-false end i e)
 
@@ -77,7 +77,7 @@ pub head_none : (z : Offsets) (pages : Bool) (xs list : List ℕ) (i j end : ℕ
 unfolding head_of
 head_none z pages xs list i j end = go (leb end i)
   where
-    go : (t : Bool) → t ≡ not (if t then no_head else head_at xs (chunk_of z pages xs list i) j).some
+    go : (t : Bool) → t ≡ not (if t then no_head otherwise head_at xs (chunk_of z pages xs list i) j).some
     go true = refl
     go false = refl
 
@@ -93,7 +93,7 @@ pub head_row : (z : Offsets) (pages : Bool) (xs list : List ℕ) (i j end : ℕ)
 unfolding head_of
 head_row z pages xs list i j end k s = go (leb end i) refl s
   where
-    go : (t : Bool) → leb end i ≡ t → (if t then no_head else head_at xs (chunk_of z pages xs list i) j).some ≡ true → Searchable xs (if t then no_head else head_at xs (chunk_of z pages xs list i) j)
+    go : (t : Bool) → leb end i ≡ t → (if t then no_head otherwise head_at xs (chunk_of z pages xs list i) j).some ≡ true → Searchable xs (if t then no_head otherwise head_at xs (chunk_of z pages xs list i) j)
     go true e s = absurd (true≢false (sym s))
     go false e s =
         let h = leb-false end i e in

@@ -1,7 +1,7 @@
 -- What a side of a merge reads next, and whether its block may follow as it stands: what the code does.
 use Rattle.std.specs.Prelude.{ℕ, ◌+◌, ◌-◌, ◌*◌, ◌/◌, ◌%◌, ◌^◌, ◌≤◌, ◌<◌, ◌≡◌, Bool, true, false, not, ◌&&◌, ◌||◌, List, ltb, leb, eqb, length, get_or, take, drop}
 use Rattle.slices.specs.Ranks.{Rising}
-use Rattle.levels.specs.Basics.{if◌then◌else◌}
+use Rattle.levels.specs.Basics.{if◌then◌otherwise◌}
 use Rattle.blocks.specs.declared.Offsets.{Offsets}
 use Rattle.blocks.specs.Blocks.{Sized, start_of}
 use Rattle.blocks.specs.Room.{places_most, list_room}
@@ -18,7 +18,7 @@ page_chunk z i = record { marks = z.marks + i; keys = z.keys + i * z.b; pays = z
 
 -- chunk i of a side
 unfoldable pub chunk_of : Offsets → Bool → List ℕ → List ℕ → ℕ → Chunk
-chunk_of z pages xs list i = if pages then page_chunk z i else block_chunk z xs (get_or list i 0)
+chunk_of z pages xs list i = if pages then page_chunk z i otherwise block_chunk z xs (get_or list i 0)
 
 -- a side has a chunk i: a page of level 0, or a block at a place
 pub record Chunked (z : Offsets) (pages : Bool) (xs list : List ℕ) (i : ℕ) : Type 0 where
@@ -63,12 +63,12 @@ head_at xs c j =
 
 -- what a side reads next, record j of chunk i, or that it is used up
 unfoldable pub head_of : Offsets → Bool → List ℕ → List ℕ → ℕ → ℕ → ℕ → Head
-head_of z pages xs list i j end = if leb end i then no_head else head_at xs (chunk_of z pages xs list i) j
+head_of z pages xs list i j end = if leb end i then no_head otherwise head_at xs (chunk_of z pages xs list i) j
 
 -- Step 3's e, "the last block placed by this merge, else the block before Y", by its size. Where there is none it counts as full:
 -- with any records beside it it holds more than B, so that every test against it holds.
 unfoldable pub last_size : Offsets → List ℕ → List ℕ → ℕ → ℕ
-last_size z xs out m = if eqb m 0 then z.b else get_or xs (start_of z (get_or out (m - 1) 0)) 0
+last_size z xs out m = if eqb m 0 then z.b otherwise get_or xs (start_of z (get_or out (m - 1) 0)) 0
 
 -- "X and Y are read in key order": the next record of a comes before that of b
 abbrev pub first : Head → Head → Bool
@@ -90,7 +90,7 @@ whole_below xs a b = a.whole && (not b.some || ltb (get_or xs (a.keys + (a.n - 1
 unfoldable pub follows : Offsets → Bool → List ℕ → Head → Head → ℕ → ℕ → Bool
 follows z bottom xs a b n e =
     if eqb n 0 then whole_below xs a b && (not (bottom && not (eqb a.marks 0)) && ltb z.b (e + a.n))
-    else whole_below xs a b && (not (bottom && not (eqb a.marks 0)) && (ltb z.b (n + a.n) && ltb z.b (e + n)))
+    otherwise whole_below xs a b && (not (bottom && not (eqb a.marks 0)) && (ltb z.b (n + a.n) && ltb z.b (e + n)))
 
 -- what is read at a record: a mark bit, a block's records, a place
 pub record HeadOk (h : Head) : Type 0 where

@@ -6,7 +6,7 @@ use mathlib.Core.List.{List, [], ◌∷◌, ◌++◌, append_assoc}
 use native.Mathlib.Omega.{arith}
 use lib.Dec.{eqb}
 use lib.ListN.{length, get_or}
-use Rattle.levels.specs.Basics.{if◌then◌else◌}
+use Rattle.levels.specs.Basics.{if◌then◌otherwise◌}
 use Rattle.levels.specs.Record.{Block}
 use Rattle.levels.specs.Waste.{needs_compact}
 use Rattle.levels.specs.Store.{Store}
@@ -115,7 +115,7 @@ step_counts_lem : (m : Merge) (j : ℕ) → plus (merged_counts m j) (compacted_
 unfolding counts_of
 step_counts_lem m j =
     let z : 0 + total_compacted j m.compactions ≡ total_compacted j m.compactions + 0 = omega arith in
-    ap (λ (x : ℕ). record { merges = (if eqb (suc m.level) j then 1 else 0) + 0; written = (if eqb (suc m.level) j then blocks_merged m else 0) + 0; compacted = x }) z
+    ap (λ (x : ℕ). record { merges = (if eqb (suc m.level) j then 1 otherwise 0) + 0; written = (if eqb (suc m.level) j then blocks_merged m otherwise 0) + 0; compacted = x }) z
 
 compacted_both : (cs ds : List Compaction) (j : ℕ) → compacted_counts (cs ++ ds) j ≡ plus (compacted_counts cs j) (compacted_counts ds j)
 compacted_both cs ds j = ap (λ (x : ℕ). record { merges = 0; written = 0; compacted = x }) (total_both j cs ds)
@@ -137,7 +137,7 @@ compactions_chain z v t cs ds ws r ws1 lists1 r1 ws2 lists2 r2 a b =
 merged_low : (z : Layout) (e t : Store) (i : ℕ) → Proper z → MergeFacts z.geo e (merge_level z.geo i t) → (j : ℕ) → ((merged_counts (merge_level z.geo i t) j).merges ≤ 8192) × ((merged_counts (merge_level z.geo i t) j).written ≤ 8192) × ((merged_counts (merge_level z.geo i t) j).compacted ≤ 8192)
 merged_low z e t i v f j = pick (eqb (suc (merge_level z.geo i t).level) j)
   where
-    pick : (b : Bool) → ((if b then 1 else 0) ≤ 8192) × ((if b then blocks_merged (merge_level z.geo i t) else 0) ≤ 8192) × (0 ≤ 8192)
+    pick : (b : Bool) → ((if b then 1 otherwise 0) ≤ 8192) × ((if b then blocks_merged (merge_level z.geo i t) otherwise 0) ≤ 8192) × (0 ≤ 8192)
     pick true = (omega arith, omega (arith, merge_written z.geo e (merge_level z.geo i t) v.valid f, merged_few z e t i v f), omega arith)
     pick false = (omega arith, omega arith, omega arith)
 
@@ -150,7 +150,7 @@ needed_low z e t i v low n j = go (needs_compact z.geo.b (get_or t.levels i []))
         let f : Every (CompactionFacts z.geo e) (compact_level z.geo (suc i) t ∷ []) = subst (Every (CompactionFacts z.geo e)) (needed_is z t i q) (needed_stepped z.geo e t i v.valid low n).0.facts in
         (omega arith, omega arith, omega (arith, ap (total_compacted j) (needed_is z t i q), one (compact_level z.geo (suc i) t) f.0 (eqb (compact_level z.geo (suc i) t).level j)))
       where
-        one : (c : Compaction) → CompactionFacts z.geo e c → (b : Bool) → (if b then blocks_compacted c else 0) + 0 ≤ 8192
+        one : (c : Compaction) → CompactionFacts z.geo e c → (b : Bool) → (if b then blocks_compacted c otherwise 0) + 0 ≤ 8192
         one c d true = omega (arith, compaction_newly z.geo e c d, d.room, v.valid.places_high)
         one c d false = omega arith
 

@@ -11,7 +11,7 @@ use lib.Dec.{eqb}
 use lib.ListN.{length, take, drop, get_or, set}
 use lib.Seq.{get_or-set_same}
 use Rattle.slices.specs.Slices.{put_at}
-use Rattle.levels.specs.Basics.{if◌then◌else◌}
+use Rattle.levels.specs.Basics.{if◌then◌otherwise◌}
 use Rattle.levels.specs.Waste.{needs_compact}
 use Rattle.levels.specs.Waste as waste
 use Rattle.levels.specs.Place.{Allocation, Settled, settle, places_of}
@@ -74,7 +74,7 @@ abbrev none : levels.Counts
 none = record { merges = 0; written = 0; compacted = 0 }
 
 -- c more for level 1, 2 or 3
-counted_is : (t : Tally) (level : ℕ) (c : Counts) → 1 ≤ level → level ≤ 3 → counted t level c ≡ record { one = if eqb level 1 then sum_of t.one c else t.one; two = if eqb level 2 then sum_of t.two c else t.two; three = if eqb level 3 then sum_of t.three c else t.three }
+counted_is : (t : Tally) (level : ℕ) (c : Counts) → 1 ≤ level → level ≤ 3 → counted t level c ≡ record { one = if eqb level 1 then sum_of t.one c otherwise t.one; two = if eqb level 2 then sum_of t.two c otherwise t.two; three = if eqb level 3 then sum_of t.three c otherwise t.three }
 unfolding counted
 counted_is t zero c l h = absurd (omega arith)
 counted_is t (suc zero) c l h = refl
@@ -82,25 +82,25 @@ counted_is t (suc (suc zero)) c l h = refl
 counted_is t (suc (suc (suc zero))) c l h = refl
 counted_is t (suc (suc (suc (suc n)))) c l h = absurd (omega arith)
 
-pub grown_counted : (f : ℕ → levels.Counts) (t u : Tally) (level : ℕ) (c : Counts) → 1 ≤ level → level ≤ 3 → u ≡ counted t level c → ((i : ℕ) → f i ≡ (if eqb level i then numbers_of c else none)) → Grown f t u
+pub grown_counted : (f : ℕ → levels.Counts) (t u : Tally) (level : ℕ) (c : Counts) → 1 ≤ level → level ≤ 3 → u ≡ counted t level c → ((i : ℕ) → f i ≡ (if eqb level i then numbers_of c otherwise none)) → Grown f t u
 grown_counted f t u level c l h e q = rw (e ∙ counted_is t level c l h) (record { one = more 1 t.one; two = more 2 t.two; three = more 3 t.three })
   where
-    at : (a : Counts) (b : Bool) → numbers_of (if b then sum_of a c else a) ≡ plus (numbers_of a) (if b then numbers_of c else none)
+    at : (a : Counts) (b : Bool) → numbers_of (if b then sum_of a c otherwise a) ≡ plus (numbers_of a) (if b then numbers_of c otherwise none)
     at a true = refl
     at a false = same_counts (numbers_of a) none refl refl refl
 
-    more : (i : ℕ) (a : Counts) → numbers_of (if eqb level i then sum_of a c else a) ≡ plus (numbers_of a) (f i)
+    more : (i : ℕ) (a : Counts) → numbers_of (if eqb level i then sum_of a c otherwise a) ≡ plus (numbers_of a) (f i)
     more i a = at a (eqb level i) ∙ ap (plus (numbers_of a)) (sym (q i))
 
 -- the counts of one compaction
-compacted_one : (c : Compaction) (n level : ℕ) → c.level ≡ level → blocks_compacted c ≡ n → (i : ℕ) → compacted_counts (c ∷ []) i ≡ (if eqb level i then (record { merges = 0; written = 0; compacted = n }) else none)
+compacted_one : (c : Compaction) (n level : ℕ) → c.level ≡ level → blocks_compacted c ≡ n → (i : ℕ) → compacted_counts (c ∷ []) i ≡ (if eqb level i then (record { merges = 0; written = 0; compacted = n }) otherwise none)
 compacted_one c n level e b i =
-    ap (λ (x : ℕ). of ((if eqb x i then blocks_compacted c else 0) + 0)) e ∙ ap (λ (x : ℕ). of ((if eqb level i then x else 0) + 0)) b ∙ go (eqb level i)
+    ap (λ (x : ℕ). of ((if eqb x i then blocks_compacted c otherwise 0) + 0)) e ∙ ap (λ (x : ℕ). of ((if eqb level i then x otherwise 0) + 0)) b ∙ go (eqb level i)
   where
     of : ℕ → levels.Counts
     of x = record { merges = 0; written = 0; compacted = x }
 
-    go : (t : Bool) → ◌≡◌ {A = levels.Counts} (record { merges = 0; written = 0; compacted = (if t then n else 0) + 0 }) (if t then (record { merges = 0; written = 0; compacted = n }) else none)
+    go : (t : Bool) → ◌≡◌ {A = levels.Counts} (record { merges = 0; written = 0; compacted = (if t then n otherwise 0) + 0 }) (if t then (record { merges = 0; written = 0; compacted = n }) otherwise none)
     go true = ap (λ (x : ℕ). record { merges = 0; written = 0; compacted = x }) (add-zero n)
     go false = refl
 

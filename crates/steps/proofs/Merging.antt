@@ -11,7 +11,7 @@ use lib.ListN.{length, get_or, set, length-set}
 use lib.Seq.{get_or-set_same, get_or-set_other}
 use Rattle.geometry.specs.Geometry.{window_of}
 use Rattle.geometry.proofs.Laws.{level_high}
-use Rattle.levels.specs.Basics.{if◌then◌else◌}
+use Rattle.levels.specs.Basics.{if◌then◌otherwise◌}
 use Rattle.levels.specs.Record.{Level}
 use Rattle.levels.specs.Choose.{choose}
 use Rattle.levels.specs.Choose as choosing
@@ -105,9 +105,9 @@ module _ (z : Layout) (e t : Store) (i : ℕ) (v : Proper z) (f : MergeFacts z.g
       (λ x. ap (λ (y : ℕ). of y (blocks_merged (merge_level z.geo i t)) x) (ap suc (merge_level_lem z.geo i t) ∙ sym ek) ∙ ap (λ (y : ℕ). of k y x) b ∙ pick (eqb k x) n)
     where
       of : ℕ → ℕ → ℕ → levels.Counts
-      of l n x = record { merges = if eqb l x then 1 else 0; written = if eqb l x then n else 0; compacted = 0 }
+      of l n x = record { merges = if eqb l x then 1 otherwise 0; written = if eqb l x then n otherwise 0; compacted = 0 }
 
-      pick : (b : Bool) (n : ℕ) → ◌≡◌ {A = levels.Counts} (record { merges = if b then 1 else 0; written = if b then n else 0; compacted = 0 }) (if b then (record { merges = 1; written = n; compacted = 0 }) else (record { merges = 0; written = 0; compacted = 0 }))
+      pick : (b : Bool) (n : ℕ) → ◌≡◌ {A = levels.Counts} (record { merges = if b then 1 otherwise 0; written = if b then n otherwise 0; compacted = 0 }) (if b then (record { merges = 1; written = n; compacted = 0 }) otherwise (record { merges = 0; written = 0; compacted = 0 }))
       pick true n = refl
       pick false n = refl
 

@@ -2,7 +2,7 @@
 use Rattle.std.specs.Prelude.{ℕ, suc, ◌+◌, ◌≤◌, ◌<◌, ◌≡◌, Bool, true, false, List, [], ◌∷◌, ◌++◌, map, eqb, length, get_or}
 use Rattle.geometry.specs.Geometry.{top_capacity_of}
 use Rattle.geometry.specs.Room.{places_most, list_room}
-use Rattle.levels.specs.Basics.{if◌then◌else◌}
+use Rattle.levels.specs.Basics.{if◌then◌otherwise◌}
 use Rattle.levels.specs.Record.{Block}
 use Rattle.levels.specs.Store.{Store, used_in}
 use Rattle.levels.specs.Call.{Compaction, Merge, merge_level}
@@ -125,7 +125,7 @@ compacted_counts cs j = record { merges = 0; written = 0; compacted = total_comp
 
 -- the counts of a merge without its step 5
 abbrev pub merged_counts : Merge → ℕ → levels.Counts
-merged_counts m j = record { merges = if eqb (suc m.level) j then 1 else 0; written = if eqb (suc m.level) j then blocks_merged m else 0; compacted = 0 }
+merged_counts m j = record { merges = if eqb (suc m.level) j then 1 otherwise 0; written = if eqb (suc m.level) j then blocks_merged m otherwise 0; compacted = 0 }
 
 -- a moment of a call where a merge out of level i is due; level 0 is full then
 pub record StepReady (n : ℕ) (z : Layout) (ws lists : List ℕ) (level : ℕ) (r : Run) : Type 0 where

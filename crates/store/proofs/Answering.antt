@@ -9,7 +9,7 @@ use lib.Dec.{eqb}
 use lib.ListN.{take, drop}
 use borrow.Author.Tests.{eq-eqb, ne_eqb}
 use Rattle.geometry.specs.Geometry.{key_limit_of}
-use Rattle.levels.specs.Basics.{if◌then◌else◌, is_some}
+use Rattle.levels.specs.Basics.{if◌then◌otherwise◌, is_some}
 use Rattle.levels.specs.Map.{find, map_of, decides, present, look_up, next, stretch}
 use Rattle.levels.specs.Store.{rows}
 use Rattle.words.specs.Stores.{store_at, layout_at}
@@ -106,15 +106,15 @@ module _ (ws : List ℕ) (z : Layout) (e : checked_of ws ≡ Ready z) where
   unfolding about_of
   about_ready f q = rw (ready_test, about_of) (q ∙ ap (λ (t : Layout). about_in t.geo (store_at t ws)) (checked_ready ws z e).0)
 
-  pub will_put_ready : (k : ℕ) → foretold (if is_full (key_limit_of z.geo) (map_of (rows (store_at z ws))) k then 5 else 0) (top_merges z ws k) ≡ will_put_merge_of ws k
+  pub will_put_ready : (k : ℕ) → foretold (if is_full (key_limit_of z.geo) (map_of (rows (store_at z ws))) k then 5 otherwise 0) (top_merges z ws k) ≡ will_put_merge_of ws k
   will_put_ready k =
       let y = checked_ready ws z e in
-      ap (λ (t : Layout). foretold (if is_full (key_limit_of t.geo) (map_of (rows (store_at t ws))) k then 5 else 0) (top_merges t ws k)) y.0 ∙ sym (will_put ws y.1 k _ refl)
+      ap (λ (t : Layout). foretold (if is_full (key_limit_of t.geo) (map_of (rows (store_at t ws))) k then 5 otherwise 0) (top_merges t ws k)) y.0 ∙ sym (will_put ws y.1 k _ refl)
 
-  pub will_delete_ready : (k : ℕ) → foretold 0 (if is_some (find k (map_of (rows (store_at z ws)))) then top_merges z ws k else 0) ≡ will_delete_merge_of ws k
+  pub will_delete_ready : (k : ℕ) → foretold 0 (if is_some (find k (map_of (rows (store_at z ws)))) then top_merges z ws k otherwise 0) ≡ will_delete_merge_of ws k
   will_delete_ready k =
       let y = checked_ready ws z e in
-      ap (λ (t : Layout). foretold 0 (if is_some (find k (map_of (rows (store_at t ws)))) then top_merges t ws k else 0)) y.0 ∙ sym (will_delete ws y.1 k _ refl)
+      ap (λ (t : Layout). foretold 0 (if is_some (find k (map_of (rows (store_at t ws)))) then top_merges t ws k otherwise 0)) y.0 ∙ sym (will_delete ws y.1 k _ refl)
 
 pub part_words : (ws : List ℕ) (i k : ℕ) → take (show_part ws i k).length (drop (show_part ws i k).start ws) ≡ show_of ws i k
 unfolding show_part show_of

@@ -11,7 +11,7 @@ use borrow.Author.Tests.{eq-eqb, ne_eqb, leb-true, leb-false, le-leb, lt-leb}
 use Rattle.geometry.specs.declared.Geometry.{Geometry}
 use Rattle.geometry.specs.Geometry.{within, is_legal, block_width}
 use Rattle.geometry.proofs.Laws.{legal_valid}
-use Rattle.levels.specs.Basics.{if◌then◌else◌}
+use Rattle.levels.specs.Basics.{if◌then◌otherwise◌}
 use Rattle.levels.specs.Record.{Block, Level, first_key, last_key}
 use Rattle.words.specs.Stores.{part, geometry_at, level_at, place_of, layout_at}
 use Rattle.words.specs.Form.{formed, reason_of}
@@ -105,7 +105,7 @@ unfolding layout_at
 check_length ws h l k = reason_size ws 3 (omega arith) (size_other (length ws) (geometry_at ws) h l k)
 
 -- "4. The form check finds a breach."
-pub check_form : (ws : List ℕ) → is_legal (geometry_at ws) ≡ true → length ws ≡ (layout_at ws).length → check_of ws ≡ (if formed (layout_at ws) ws then 0 else 4)
+pub check_form : (ws : List ℕ) → is_legal (geometry_at ws) ≡ true → length ws ≡ (layout_at ws).length → check_of ws ≡ (if formed (layout_at ws) ws then 0 otherwise 4)
 unfolding check_of
 check_form ws l k = ready_reason ws (layout_at ws) (sized_opened ws (legal_valid (geometry_at ws) l) k)
 

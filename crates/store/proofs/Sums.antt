@@ -8,7 +8,7 @@ use lib.Dec.{eqb}
 use lib.ListN.{length}
 use borrow.Author.Tests.{eqb-true, ne_eqb}
 use native.Mathlib.Decide.{ℕ_discrete}
-use Rattle.levels.specs.Basics.{if◌then◌else◌, total}
+use Rattle.levels.specs.Basics.{if◌then◌otherwise◌, total}
 use Rattle.levels.specs.Store.{Store}
 use Rattle.levels.specs.Call.{Compaction, Merge}
 use Rattle.levels.specs.Put.{Change, refused, absent, entered, merges_for, put, delete}
@@ -32,10 +32,10 @@ use Rattle.layout.specs.Layouts.{Proper}
 use Rattle.layout.specs.declared.Layout.{Layout}
 
 -- a compaction is of one level
-one_level : (i x : ℕ) → (if eqb i 1 then x else 0) + (if eqb i 2 then x else 0) + (if eqb i 3 then x else 0) ≤ x
+one_level : (i x : ℕ) → (if eqb i 1 then x otherwise 0) + (if eqb i 2 then x otherwise 0) + (if eqb i 3 then x otherwise 0) ≤ x
 one_level i x = go (eqb i 1) (eqb i 2) (eqb i 3) refl refl refl
   where
-    go : (a b c : Bool) → eqb i 1 ≡ a → eqb i 2 ≡ b → eqb i 3 ≡ c → (if a then x else 0) + (if b then x else 0) + (if c then x else 0) ≤ x
+    go : (a b c : Bool) → eqb i 1 ≡ a → eqb i 2 ≡ b → eqb i 3 ≡ c → (if a then x otherwise 0) + (if b then x otherwise 0) + (if c then x otherwise 0) ≤ x
     go true true c p q r = absurd (omega (arith, eqb-true i 1 p, eqb-true i 2 q))
     go true false true p q r = absurd (omega (arith, eqb-true i 1 p, eqb-true i 3 r))
     go true false false p q r = omega arith

@@ -8,7 +8,7 @@ use native.Mathlib.Decide.{dec_lt}
 use native.Mathlib.Omega.{arith}
 use lib.Dec.{leb, eqb}
 use borrow.Author.Tests.{le-leb, leb-true, leb-false}
-use Rattle.levels.specs.Basics.{if◌then◌else◌}
+use Rattle.levels.specs.Basics.{if◌then◌otherwise◌}
 use Rattle.levels.proofs.Basics.{and_left, and_right, if_either}
 use Rattle.blocks.specs.declared.Offsets.{Offsets}
 use Rattle.blocks.specs.Blocks.{next_mark}
@@ -33,16 +33,16 @@ pub after_one : (P : Point → Type 0) (p : Point) (n : ℕ) → (n ≤ p.j + 1 
 unfolding point_after
 after_one P p n f g = go (leb n (p.j + 1)) refl
   where
-    go : (t : Bool) → leb n (p.j + 1) ≡ t → P (if t then record { i = p.i + 1; j = 0 } else record { i = p.i; j = p.j + 1 })
+    go : (t : Bool) → leb n (p.j + 1) ≡ t → P (if t then record { i = p.i + 1; j = 0 } otherwise record { i = p.i; j = p.j + 1 })
     go true e = f (leb-true n (p.j + 1) e)
     go false e = g (leb-false n (p.j + 1) e)
 
 -- one branch, where the test is known
-pub if_true : {A : Type 0} (t : Bool) (a b : A) → t ≡ true → (if t then a else b) ≡ a
+pub if_true : {A : Type 0} (t : Bool) (a b : A) → t ≡ true → (if t then a otherwise b) ≡ a
 if_true true a b e = refl
 if_true false a b e = absurd (true≢false (sym e))
 
-pub if_false : {A : Type 0} (t : Bool) (a b : A) → t ≡ false → (if t then a else b) ≡ b
+pub if_false : {A : Type 0} (t : Bool) (a b : A) → t ≡ false → (if t then a otherwise b) ≡ b
 if_false true a b e = absurd (true≢false e)
 if_false false a b e = refl
 
@@ -73,7 +73,7 @@ module _ (z : Offsets) (t : Inputs) (xs ys : List ℕ) where
   turns_add zero i a = let h : i ≡ i + zero = omega arith in ap (λ (n : ℕ). turns z t xs ys n a) h
   turns_add (suc m) i a =
       let h : suc (i + m) ≡ i + suc m = omega arith in
-      ap (λ (b : Memory). if idle z t xs ys b then b else turn z t xs ys b) (turns_add m i a) ∙ ap (λ (n : ℕ). turns z t xs ys n a) h
+      ap (λ (b : Memory). if idle z t xs ys b then b otherwise turn z t xs ys b) (turns_add m i a) ∙ ap (λ (n : ℕ). turns z t xs ys n a) h
 
   -- once both sides are used up after so many turns, more turns change nothing
   turns_past : (limit i : ℕ) (a : Memory) → idle z t xs ys (turns z t xs ys limit a) ≡ true → limit ≤ i → turns z t xs ys i a ≡ turns z t xs ys limit a

@@ -7,7 +7,7 @@ use native.Mathlib.Omega.{arith}
 use lib.Dec.{leb, ltb, eqb}
 use lib.ListN.{length, get_or}
 use borrow.Author.Tests.{lt-leb, le-ltb, ltb-true, leb-false, ne_eqb}
-use Rattle.levels.specs.Basics.{if◌then◌else◌}
+use Rattle.levels.specs.Basics.{if◌then◌otherwise◌}
 use Rattle.levels.proofs.Basics.{and_left, if_either}
 use Rattle.blocks.specs.declared.Offsets.{Offsets}
 use Rattle.blocks.specs.declared.Buffer.{Buffer}
@@ -34,8 +34,8 @@ gather_fills z bottom a h l = go (bottom && eqb h.tombstone 1)
     more : Memory
     more = with_progress a (with_buffer a.st (pushed a.st.buf h.key h.tombstone h.pay))
 
-    go : (t : Bool) → (if t then a else if leb z.b (a.st.buf.n + 1) then flushed z more else more)
-        ≡ filled z (with_progress a (with_buffer a.st (if t then a.st.buf else pushed a.st.buf h.key h.tombstone h.pay)))
+    go : (t : Bool) → (if t then a otherwise if leb z.b (a.st.buf.n + 1) then flushed z more otherwise more)
+        ≡ filled z (with_progress a (with_buffer a.st (if t then a.st.buf otherwise pushed a.st.buf h.key h.tombstone h.pay)))
     go true = sym (if_false (leb z.b a.st.buf.n) (flushed z a) a (lt-leb _ _ l))
     go false = refl
 
@@ -112,9 +112,9 @@ grown_cases P p q x y c more f g h i = go c.whole (first y x) (first x y) refl r
   where
     go : (w l u : Bool) → c.whole ≡ w → first y x ≡ l → first x y ≡ u
         → P (if w then record { next = c; from = 0; more = 0 }
-        else if l then along_y q y c more
-        else if u then along_x p x c more
-        else record { next = c; from = p.j; more = 0 })
+        otherwise if l then along_y q y c more
+        otherwise if u then along_x p x c more
+        otherwise record { next = c; from = p.j; more = 0 })
     go true l u ew el eu = f ew
     go false true u ew el eu = g ew el
     go false false true ew el eu = h ew el eu

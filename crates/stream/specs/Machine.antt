@@ -1,6 +1,6 @@
 -- The merge as a machine over the words, the marks, the new list and a few numbers: what the code does, step by step.
 use Rattle.std.specs.Prelude.{ℕ, zero, suc, ◌+◌, ◌/◌, ◌%◌, ◌^◌, ◌≤◌, ◌<◌, ◌≡◌, Bool, true, false, not, ◌&&◌, ◌||◌, List, leb, ltb, eqb, length, get_or, set}
-use Rattle.levels.specs.Basics.{if◌then◌else◌}
+use Rattle.levels.specs.Basics.{if◌then◌otherwise◌}
 use Rattle.blocks.specs.declared.Offsets.{Offsets}
 use Rattle.blocks.specs.declared.Buffer.{Buffer}
 use Rattle.blocks.specs.Blocks.{Sized, SomeFree, next_mark, pushed, empty_buffer, written}
@@ -53,7 +53,7 @@ written_at z a q =
 
 -- "A new block goes to the first free place after hand": a buffer that is not empty is written there
 unfoldable pub flushed : Offsets → Memory → Memory
-flushed z a = if eqb a.st.buf.n 0 then a else written_at z a (next_mark z.p a.used a.st.cursor)
+flushed z a = if eqb a.st.buf.n 0 then a otherwise written_at z a (next_mark z.p a.used a.st.cursor)
 
 -- place q is listed
 abbrev pub append : Memory → ℕ → Memory
@@ -73,12 +73,12 @@ reused z a q = append (flushed z a) q
 unfoldable pub gathered : Offsets → Bool → Memory → Head → Memory
 gathered z bottom a h =
     if bottom && eqb h.tombstone 1 then a
-    else if leb z.b (a.st.buf.n + 1) then flushed z (with_progress a (with_buffer a.st (pushed a.st.buf h.key h.tombstone h.pay)))
-    else with_progress a (with_buffer a.st (pushed a.st.buf h.key h.tombstone h.pay))
+    otherwise if leb z.b (a.st.buf.n + 1) then flushed z (with_progress a (with_buffer a.st (pushed a.st.buf h.key h.tombstone h.pay)))
+    otherwise with_progress a (with_buffer a.st (pushed a.st.buf h.key h.tombstone h.pay))
 
 -- past the whole block, or past one record of a block of n
 unfoldable pub point_after : Point → ℕ → Bool → Point
-point_after p n whole = if whole || leb n (p.j + 1) then record { i = p.i + 1; j = 0 } else record { i = p.i; j = p.j + 1 }
+point_after p n whole = if whole || leb n (p.j + 1) then record { i = p.i + 1; j = 0 } otherwise record { i = p.i; j = p.j + 1 }
 
 -- X and Y further on
 abbrev pub moved_to : Progress → Point → Point → Progress
@@ -94,8 +94,8 @@ chosen z bottom xs p q x y n e =
     let wholeX = follows z bottom xs x y n e in
     let wholeY = follows z bottom xs y x n e in
     if first y x then record { x = p; y = point_after q y.n wholeY; head = y; whole = wholeY }
-    else if first x y then record { x = point_after p x.n wholeX; y = q; head = x; whole = wholeX }
-    else record { x = point_after p x.n false; y = point_after q y.n false; head = x; whole = false }
+    otherwise if first x y then record { x = point_after p x.n wholeX; y = q; head = x; whole = wholeX }
+    otherwise record { x = point_after p x.n false; y = point_after q y.n false; head = x; whole = false }
 
 -- some side has a record, and stands at it
 pub record Choosable (z : Offsets) (xs : List ℕ) (p q : Point) (x y : Head) (n e : ℕ) : Type 0 where
@@ -112,7 +112,7 @@ pub record Choosable (z : Offsets) (xs : List ℕ) (p q : Point) (x y : Head) (n
 
 -- the sides move on, and the block follows as it stands, or its next record is gathered
 unfoldable pub emitted : Offsets → Bool → Memory → Move → Memory
-emitted z bottom a c = let b = moved a c.x c.y in if c.whole then reused z b c.head.place else gathered z bottom b c.head
+emitted z bottom a c = let b = moved a c.x c.y in if c.whole then reused z b c.head.place otherwise gathered z bottom b c.head
 
 -- the merge can write and gather
 pub record Movable (z : Offsets) (xs : List ℕ) (used : List Bool) (w : Progress) : Type 0 where
@@ -145,13 +145,13 @@ module _ (z : Offsets) (t : Inputs) (xs ys : List ℕ) where
 
   unfoldable pub turns : ℕ → Memory → Memory
   turns zero a = a
-  turns (suc n) a = let b = turns n a in if idle b then b else turn b
+  turns (suc n) a = let b = turns n a in if idle b then b otherwise turn b
 
 -- Several turns in one go: records of one block that come one after the other.
 
 -- a record goes to the buffer; level h drops tombstones
 unfoldable pub taken : Bool → Buffer → ℕ → ℕ → ℕ → Buffer
-taken bottom b key tombstone pay = if bottom && eqb tombstone 1 then b else pushed b key tombstone pay
+taken bottom b key tombstone pay = if bottom && eqb tombstone 1 then b otherwise pushed b key tombstone pay
 
 -- n records of a's block, from record j on
 unfoldable pub taken_run : List ℕ → Bool → Head → ℕ → Buffer → ℕ → Buffer
@@ -161,7 +161,7 @@ taken_run xs bottom a j b (suc n) =
 
 -- a full buffer is written
 unfoldable pub filled : Offsets → Memory → Memory
-filled z a = if leb z.b a.st.buf.n then flushed z a else a
+filled z a = if leb z.b a.st.buf.n then flushed z a otherwise a
 
 -- the records of a run, and the writing of a buffer that they fill
 abbrev pub gathered_run : Offsets → Bool → Memory → Run → Memory
@@ -172,7 +172,7 @@ gathered_run z bottom a r =
 unfoldable pub emitted_run : Offsets → Bool → Memory → Run → Memory
 emitted_run z bottom a r =
     let b = moved a r.next.x r.next.y in
-    if r.next.whole then reused z b r.next.head.place else gathered_run z bottom b r
+    if r.next.whole then reused z b r.next.head.place otherwise gathered_run z bottom b r
 
 -- `more` records of a's block after record j come before the other's next one, and there is room for them
 pub record Ahead (xs : List ℕ) (a other : Head) (j room more : ℕ) : Type 0 where
@@ -195,9 +195,9 @@ along_x p x c more = record { next = record { x = point_after (further p more) x
 unfoldable pub grown : Point → Point → Head → Head → Move → ℕ → Run
 grown p q x y c more =
     if c.whole then record { next = c; from = 0; more = 0 }
-    else if first y x then along_y q y c more
-    else if first x y then along_x p x c more
-    else record { next = c; from = p.j; more = 0 }
+    otherwise if first y x then along_y q y c more
+    otherwise if first x y then along_x p x c more
+    otherwise record { next = c; from = p.j; more = 0 }
 
 -- the records that go with a move come next
 pub record Grows (xs : List ℕ) (p q : Point) (x y : Head) (c : Move) (room : ℕ) (r : Run) : Type 0 where

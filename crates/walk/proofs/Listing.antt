@@ -11,7 +11,7 @@ use lib.Dec.{ltb}
 use lib.ListN.{length, take, drop, set, get_or, length-append, length-map, length-drop, length-take, length-set}
 use lib.Seq.{take_all, take-append-le, drop-cons, set-append_seam, set-get_or}
 use borrow.Author.Tests.{lt-ltb, le-ltb}
-use Rattle.levels.specs.Basics.{if◌then◌else◌}
+use Rattle.levels.specs.Basics.{if◌then◌otherwise◌}
 use Rattle.levels.specs.Record.{Rec}
 use Rattle.levels.specs.Map.{unmarked}
 use Rattle.levels.proofs.View.{unmarked_drop, unmarked_keep}
@@ -46,7 +46,7 @@ unfolding entered
 entered_length true room n x xs = refl
 entered_length false room n x xs = go (ltb n room)
   where
-    go : (t : Bool) → length (if t then set xs n x else xs) ≡ length xs
+    go : (t : Bool) → length (if t then set xs n x otherwise xs) ≡ length xs
     go true = length-set xs n x
     go false = refl
 
@@ -70,16 +70,16 @@ module _ (f : Rec → ℕ) (m : ℕ) (old : List ℕ) (h : m ≤ length old) whe
   one_full : (rs xs : List Rec) → m ≤ length rs → over (map f (take m rs)) old ≡ over (map f (take m (rs ++ xs))) old
   one_full rs xs l = rw (take-append-le m rs xs l)
 
-  one_more : (rs : List Rec) (n : ℕ) (r : Rec) → length rs ≡ n → (if ltb n m then set (over (map f (take m rs)) old) n (f r) else over (map f (take m rs)) old) ≡ over (map f (take m (rs ++ (r ∷ [])))) old
+  one_more : (rs : List Rec) (n : ℕ) (r : Rec) → length rs ≡ n → (if ltb n m then set (over (map f (take m rs)) old) n (f r) otherwise over (map f (take m rs)) old) ≡ over (map f (take m (rs ++ (r ∷ [])))) old
   one_more rs n r e = dite (dec_lt n m) here full
     where
-      here : n < m → (if ltb n m then set (over (map f (take m rs)) old) n (f r) else over (map f (take m rs)) old) ≡ over (map f (take m (rs ++ (r ∷ [])))) old
+      here : n < m → (if ltb n m then set (over (map f (take m rs)) old) n (f r) otherwise over (map f (take m rs)) old) ≡ over (map f (take m (rs ++ (r ∷ [])))) old
       here l =
           let k : length (map f rs) ≡ n = length-map rs f ∙ e in
           let j : length (rs ++ (r ∷ [])) ≤ m = rw (length-append rs (r ∷ [])) (omega arith) in
           rw (lt-ltb n m l, take_all m rs (omega arith), take_all m (rs ++ (r ∷ [])) j, map-append f rs (r ∷ []), ← k) (over_next (map f rs) old (f r) (omega arith))
 
-      full : (n < m → ⊥) → (if ltb n m then set (over (map f (take m rs)) old) n (f r) else over (map f (take m rs)) old) ≡ over (map f (take m (rs ++ (r ∷ [])))) old
+      full : (n < m → ⊥) → (if ltb n m then set (over (map f (take m rs)) old) n (f r) otherwise over (map f (take m rs)) old) ≡ over (map f (take m (rs ++ (r ∷ [])))) old
       full l = rw (le-ltb n m (omega arith)) (one_full rs (r ∷ []) (omega arith))
 
 -- Both arrays: nothing written yet.

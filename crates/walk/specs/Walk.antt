@@ -1,7 +1,7 @@
 -- A cursor into a level, what is left of the level there, and four of them side by side.
 use Rattle.std.specs.Prelude.{ℕ, ◌+◌, ◌-◌, ◌≤◌, ◌<◌, min, ◌≡◌, Bool, true, false, List, [], ◌++◌, eqb, ltb, length, take, set}
 use Rattle.std.proofs.Math.Option.{Option, none, some}
-use Rattle.levels.specs.Basics.{if◌then◌else◌}
+use Rattle.levels.specs.Basics.{if◌then◌otherwise◌}
 use Rattle.levels.specs.Record.{Rec}
 use Rattle.levels.specs.Map.{overlay, unmarked}
 use Rattle.levels.specs.Rising.{Rising, Below}
@@ -99,7 +99,7 @@ kept_of false old new = new
 -- a list with entry n written, where a record is no tombstone and there is room for it
 unfoldable pub entered : Bool → ℕ → ℕ → ℕ → List ℕ → List ℕ
 entered true room n x xs = xs
-entered false room n x xs = if ltb n room then set xs n x else xs
+entered false room n x xs = if ltb n room then set xs n x otherwise xs
 
 -- Two arrays that were `keys` and `pays`, with these records written to them, as many as both have room for.
 pub record Written (keys pays : List ℕ) (rs : List Rec) (keys' pays' : List ℕ) : Type 0 where
@@ -133,7 +133,7 @@ pub record Smaller (a b r : ℕ) : Type 0 where
 
 -- the chunk of the uppermost cursor with key k
 unfoldable pub upper_of : Cursor → Cursor → Cursor → Cursor → ℕ → Chunk
-upper_of c0 c1 c2 c3 k = if eqb c0.key k then c0.chunk else (if eqb c1.key k then c1.chunk else (if eqb c2.key k then c2.chunk else c3.chunk))
+upper_of c0 c1 c2 c3 k = if eqb c0.key k then c0.chunk otherwise (if eqb c1.key k then c1.chunk otherwise (if eqb c2.key k then c2.chunk otherwise c3.chunk))
 
 -- the answer for the first live record from a key on
 abbrev pub following_of : Option Rec → Following

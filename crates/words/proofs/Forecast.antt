@@ -10,7 +10,7 @@ use lib.Dec.{eqb}
 use lib.ListN.{length, take}
 use borrow.Author.Tests.{eqb-true, eqb-false, eq-eqb, ne_eqb, not-true}
 use Rattle.geometry.specs.Geometry.{key_limit_of, top_capacity_of}
-use Rattle.levels.specs.Basics.{if◌then◌else◌, is_some, total}
+use Rattle.levels.specs.Basics.{if◌then◌otherwise◌, is_some, total}
 use Rattle.levels.specs.Record.{Rec}
 use Rattle.levels.specs.Map.{find}
 use Rattle.levels.specs.Store.{Store}
@@ -38,7 +38,7 @@ full_is limit rs k q = (none_is (find k rs) (not-true (is_some (find k rs)) (and
 pub full_not : (limit : ℕ) (rs : List Rec) (k : ℕ) → is_full limit rs k ≡ false → find k rs ≡ none → length rs ≢ limit
 full_not limit rs k q h l = true≢false (sym (and_both (not (is_some (find k rs))) (eqb (length rs) limit) (ap (λ (o : Option Rec). not (is_some o)) h) (eq-eqb _ _ l)) ∙ q)
 
-pub put_reason_passed : (ws : List ℕ) (k : ℕ) → reason_of ws ≡ 0 → put_reason ws k ≡ (if is_full (key_limit_of (layout_at ws).geo) (map_at ws) k then 5 else 0)
+pub put_reason_passed : (ws : List ℕ) (k : ℕ) → reason_of ws ≡ 0 → put_reason ws k ≡ (if is_full (key_limit_of (layout_at ws).geo) (map_at ws) k then 5 otherwise 0)
 unfolding put_reason
 put_reason_passed ws k e = rw (eq-eqb (reason_of ws) 0 e, put_reason)
 
@@ -85,7 +85,7 @@ module _ (ws : List ℕ) (e : reason_of ws ≡ 0) where
   entered_merges k =
       let p = reason_passed ws e in
       call_one (layout_at ws).geo (store_at (layout_at ws) ws) p.proper.valid p.fits p.sound k
-      ∙ ap (λ (n : ℕ). if eqb n (top_capacity_of (layout_at ws).geo) && not (is_some (find k (top_recs (layout_at ws) ws))) then 1 else 0) (sym (passed_count (layout_at ws) ws p))
+      ∙ ap (λ (n : ℕ). if eqb n (top_capacity_of (layout_at ws).geo) && not (is_some (find k (top_recs (layout_at ws) ws))) then 1 otherwise 0) (sym (passed_count (layout_at ws) ws p))
 
   entered_foretold : (k : ℕ) (was : Bool) (ms : List Merge) (t : Store) → ms ≡ merges_for (layout_at ws).geo (store_at (layout_at ws) ws) k
       → forecast_in (change_outcome (layout_at ws) ws (entered was ms t)).answer ≡ foretold 0 (top_merges (layout_at ws) ws k)
@@ -107,18 +107,18 @@ module _ (ws : List ℕ) (e : reason_of ws ≡ 0) where
   put_reason_is : (k v : ℕ) → (put_of ws k v).answer.reason ≡ put_reason ws k
   put_reason_is k v = go (is_full (key_limit_of (layout_at ws).geo) (map_at ws) k) refl ∙ sym (put_reason_passed ws k e)
     where
-      go : (t : Bool) → is_full (key_limit_of (layout_at ws).geo) (map_at ws) k ≡ t → (put_of ws k v).answer.reason ≡ (if t then 5 else 0)
+      go : (t : Bool) → is_full (key_limit_of (layout_at ws).geo) (map_at ws) k ≡ t → (put_of ws k v).answer.reason ≡ (if t then 5 otherwise 0)
       go true q = let z = full_is (key_limit_of (layout_at ws).geo) (map_at ws) k q in ap (λ (o : Outcome ChangeAnswer). o.answer.reason) (put_full_outcome ws e k v z.0 z.1)
       go false q = (put_accepted ws e k v (full_not (key_limit_of (layout_at ws).geo) (map_at ws) k q)).0
 
-  delete_passed : (k : ℕ) → forecast_in (delete_of ws k).answer ≡ foretold 0 (if is_some (find k (map_at ws)) then top_merges (layout_at ws) ws k else 0)
+  delete_passed : (k : ℕ) → forecast_in (delete_of ws k).answer ≡ foretold 0 (if is_some (find k (map_at ws)) then top_merges (layout_at ws) ws k otherwise 0)
   unfolding change_outcome counts_of
   delete_passed k =
       let p = reason_passed ws e in
-      subst (λ (x : Outcome ChangeAnswer). forecast_in x.answer ≡ foretold 0 (if is_some (find k (map_at ws)) then top_merges (layout_at ws) ws k else 0)) (sym (delete_of_lem ws k e))
+      subst (λ (x : Outcome ChangeAnswer). forecast_in x.answer ≡ foretold 0 (if is_some (find k (map_at ws)) then top_merges (layout_at ws) ws k otherwise 0)) (sym (delete_of_lem ws k e))
       (go (delete (layout_at ws).geo (store_at (layout_at ws) ws) k) (delete_says (layout_at ws).geo (store_at (layout_at ws) ws) p.proper.valid p.fits p.sound k))
     where
-      go : (c : Change) → DeleteSays (layout_at ws).geo (store_at (layout_at ws) ws) k c → forecast_in (change_outcome (layout_at ws) ws c).answer ≡ foretold 0 (if is_some (find k (map_at ws)) then top_merges (layout_at ws) ws k else 0)
+      go : (c : Change) → DeleteSays (layout_at ws).geo (store_at (layout_at ws) ws) k c → forecast_in (change_outcome (layout_at ws) ws c).answer ≡ foretold 0 (if is_some (find k (map_at ws)) then top_merges (layout_at ws) ws k otherwise 0)
       go (refused n) h = absurd h
       go absent h = rw (sym (live_in_map ws k e) ∙ h)
       go (entered was ms t) h = rw (sym (live_in_map ws k e) ∙ h.1.was_live ∙ h.0) (entered_foretold k was ms t h.1.merges)
@@ -137,18 +137,18 @@ unfolding delete_of will_delete_merge_of
 delete_foretold ws k = go (eqb (reason_of ws) 0) refl
   where
     go : (t : Bool) → eqb (reason_of ws) 0 ≡ t → forecast_in (delete_of ws k).answer ≡ will_delete_merge_of ws k
-    go true z = let e = eqb-true (reason_of ws) 0 z in delete_passed ws e k ∙ ap (λ (n : ℕ). foretold n (if is_some (find k (map_at ws)) then top_merges (layout_at ws) ws k else 0)) (sym e)
+    go true z = let e = eqb-true (reason_of ws) 0 z in delete_passed ws e k ∙ ap (λ (n : ℕ). foretold n (if is_some (find k (map_at ws)) then top_merges (layout_at ws) ws k otherwise 0)) (sym e)
     go false z = rw (z, delete_of) (refused_foretold (layout_at ws) ws (reason_of ws) _ (eqb-false (reason_of ws) 0 z))
 
 -- by the map alone, of words that pass: a put, by refusal 5, and a delete, by its key
 module _ (ws : List ℕ) (e : reason_of ws ≡ 0) (k : ℕ) (t : Bool) where
-  pub will_put : is_full (key_limit_of (layout_at ws).geo) (map_at ws) k ≡ t → will_put_merge_of ws k ≡ foretold (if t then 5 else 0) (top_merges (layout_at ws) ws k)
+  pub will_put : is_full (key_limit_of (layout_at ws).geo) (map_at ws) k ≡ t → will_put_merge_of ws k ≡ foretold (if t then 5 otherwise 0) (top_merges (layout_at ws) ws k)
   unfolding will_put_merge_of
-  will_put q = ap (λ (n : ℕ). foretold n (top_merges (layout_at ws) ws k)) (put_reason_passed ws k e ∙ ap (λ (b : Bool). if b then 5 else 0) q)
+  will_put q = ap (λ (n : ℕ). foretold n (top_merges (layout_at ws) ws k)) (put_reason_passed ws k e ∙ ap (λ (b : Bool). if b then 5 otherwise 0) q)
 
-  pub will_delete : is_some (find k (map_at ws)) ≡ t → will_delete_merge_of ws k ≡ record { reason = 0; merges = if t then top_merges (layout_at ws) ws k else 0 }
+  pub will_delete : is_some (find k (map_at ws)) ≡ t → will_delete_merge_of ws k ≡ record { reason = 0; merges = if t then top_merges (layout_at ws) ws k otherwise 0 }
   unfolding will_delete_merge_of
-  will_delete q = ap (λ (n : ℕ). foretold n (if is_some (find k (map_at ws)) then top_merges (layout_at ws) ws k else 0)) e ∙ ap (λ (b : Bool). foretold 0 (if b then top_merges (layout_at ws) ws k else 0)) q
+  will_delete q = ap (λ (n : ℕ). foretold n (if is_some (find k (map_at ws)) then top_merges (layout_at ws) ws k otherwise 0)) e ∙ ap (λ (b : Bool). foretold 0 (if b then top_merges (layout_at ws) ws k otherwise 0)) q
 
 -- In words: one merge "exactly .. if level 0 holds K(0) × B records and the key isn't among them", of a call that is not turned down.
 module _ (ws : List ℕ) (k : ℕ) where
@@ -156,7 +156,7 @@ module _ (ws : List ℕ) (k : ℕ) where
   unfolding top_merges
   top_one q = go (eqb (top_count_at (layout_at ws) ws) (top_capacity_of (layout_at ws).geo)) (find k (top_recs (layout_at ws) ws)) refl refl q
     where
-      go : (a : Bool) (o : Option Rec) → eqb (top_count_at (layout_at ws) ws) (top_capacity_of (layout_at ws).geo) ≡ a → find k (top_recs (layout_at ws) ws) ≡ o → ◌≡◌ {A = ℕ} (if a && not (is_some o) then 1 else 0) 1
+      go : (a : Bool) (o : Option Rec) → eqb (top_count_at (layout_at ws) ws) (top_capacity_of (layout_at ws).geo) ≡ a → find k (top_recs (layout_at ws) ws) ≡ o → ◌≡◌ {A = ℕ} (if a && not (is_some o) then 1 otherwise 0) 1
           → (top_count_at (layout_at ws) ws ≡ top_capacity_of (layout_at ws).geo) × (find k (top_recs (layout_at ws) ws) ≡ none)
       go true none d f z = (eqb-true _ _ d, f)
       go true (some r) d f z = absurd (omega (arith, z))
@@ -179,19 +179,19 @@ module _ (ws : List ℕ) (k : ℕ) where
       → (reason_of ws ≡ 0) × (is_some (find k (map_at ws)) ≡ true) × ((top_count_at (layout_at ws) ws ≡ top_capacity_of (layout_at ws).geo) × (find k (top_recs (layout_at ws) ws) ≡ none))
   unfolding will_delete_merge_of
   will_delete_one q =
-      let z = foretold_one (reason_of ws) (if is_some (find k (map_at ws)) then top_merges (layout_at ws) ws k else 0) q in
+      let z = foretold_one (reason_of ws) (if is_some (find k (map_at ws)) then top_merges (layout_at ws) ws k otherwise 0) q in
       let y = go (is_some (find k (map_at ws))) z.1 in
       (z.0, y.0, top_one y.1)
     where
-      go : (t : Bool) → (if t then top_merges (layout_at ws) ws k else 0) ≡ 1 → (t ≡ true) × (top_merges (layout_at ws) ws k ≡ 1)
+      go : (t : Bool) → (if t then top_merges (layout_at ws) ws k otherwise 0) ≡ 1 → (t ≡ true) × (top_merges (layout_at ws) ws k ≡ 1)
       go true h = (refl, h)
       go false h = absurd (omega (arith, h))
 
   pub will_delete_then : reason_of ws ≡ 0 → is_some (find k (map_at ws)) ≡ true → top_count_at (layout_at ws) ws ≡ top_capacity_of (layout_at ws).geo → find k (top_recs (layout_at ws) ws) ≡ none → (will_delete_merge_of ws k).merges ≡ 1
   unfolding will_delete_merge_of
   will_delete_then r l d f =
-      ap (λ (n : ℕ). (foretold n (if is_some (find k (map_at ws)) then top_merges (layout_at ws) ws k else 0)).merges) r
-      ∙ ap (λ (t : Bool). if t then top_merges (layout_at ws) ws k else 0) l ∙ top_then d f
+      ap (λ (n : ℕ). (foretold n (if is_some (find k (map_at ws)) then top_merges (layout_at ws) ws k otherwise 0)).merges) r
+      ∙ ap (λ (t : Bool). if t then top_merges (layout_at ws) ws k otherwise 0) l ∙ top_then d f
 
 -- and none otherwise: there are no two
 foretold_most : (n m : ℕ) → m ≤ 1 → (foretold n m).merges ≤ 1
@@ -202,7 +202,7 @@ top_most : (ws : List ℕ) (k : ℕ) → top_merges (layout_at ws) ws k ≤ 1
 unfolding top_merges
 top_most ws k = go (eqb (top_count_at (layout_at ws) ws) (top_capacity_of (layout_at ws).geo) && not (is_some (find k (top_recs (layout_at ws) ws))))
   where
-    go : (t : Bool) → (if t then 1 else 0) ≤ 1
+    go : (t : Bool) → (if t then 1 otherwise 0) ≤ 1
     go true = omega arith
     go false = omega arith
 
@@ -214,7 +214,7 @@ pub will_delete_most : (ws : List ℕ) (k : ℕ) → (will_delete_merge_of ws k)
 unfolding will_delete_merge_of
 will_delete_most ws k = foretold_most (reason_of ws) _ (go (is_some (find k (map_at ws))))
   where
-    go : (t : Bool) → (if t then top_merges (layout_at ws) ws k else 0) ≤ 1
+    go : (t : Bool) → (if t then top_merges (layout_at ws) ws k otherwise 0) ≤ 1
     go true = top_most ws k
     go false = omega arith
 

@@ -14,7 +14,7 @@ use Rattle.geometry.specs.Geometry.{within, capacity_of, capacity_sum, top_capac
 use Rattle.layout.specs.declared.Layout.{Layout}
 use Rattle.layout.specs.Layouts.{list_start, place_start, Proper}
 use Rattle.layout.proofs.Laws.{list_inside, place_inside, places_before, count_before, hand_before, live_before}
-use Rattle.levels.specs.Basics.{if◌then◌else◌, all, each}
+use Rattle.levels.specs.Basics.{if◌then◌otherwise◌, all, each}
 use Rattle.levels.specs.Record.{Rec, Block, Level}
 use Rattle.levels.specs.Waste.{pair_rule, needs_compact}
 use Rattle.levels.specs.Place.{places_of}
@@ -266,10 +266,10 @@ module _ (z : Layout) (ws : List ℕ) (s : Store) (v : Proper z) (f : Fits z.geo
   all_listed_lem : (t : ℕ → Bool) → Every (λ b. t (place_of b) ≡ true) (all_blocks s.levels) → all t (all_listed z ws) ≡ true
   all_listed_lem t h = rw listed_are (all_of_every t (map place_of (all_blocks s.levels)) (every_map place_of (λ p. t p ≡ true) (all_blocks s.levels) h))
 
-  level_low : (i : ℕ) → i < 3 → leb (count_at z ws (suc i)) (if leb (suc i) z.geo.h then capacity_of z.geo (suc i) else 0) ≡ true
+  level_low : (i : ℕ) → i < 3 → leb (count_at z ws (suc i)) (if leb (suc i) z.geo.h then capacity_of z.geo (suc i) otherwise 0) ≡ true
   level_low i h = rw (count_held z ws s v f k.long k.held i h) (go (leb (suc i) z.geo.h) refl)
     where
-      go : (t : Bool) → leb (suc i) z.geo.h ≡ t → leb (length (get_or s.levels i [])) (if t then capacity_of z.geo (suc i) else 0) ≡ true
+      go : (t : Bool) → leb (suc i) z.geo.h ≡ t → leb (length (get_or s.levels i [])) (if t then capacity_of z.geo (suc i) otherwise 0) ≡ true
       go true e = le-leb _ _ (f.level_fits i (leb-true _ _ e))
       go false e = rw (get_or-eq_default s.levels [] {n = i} (omega (arith, leb-false (suc i) z.geo.h e, f.level_count)))
 

@@ -8,7 +8,7 @@ use lib.ListN.{length, take}
 use borrow.Author.Tests.{eqb-true, eqb-false}
 use Rattle.geometry.specs.declared.Geometry.{Geometry}
 use Rattle.geometry.specs.Geometry.{key_limit_of}
-use Rattle.levels.specs.Basics.{if◌then◌else◌, is_some}
+use Rattle.levels.specs.Basics.{if◌then◌otherwise◌, is_some}
 use Rattle.levels.specs.Record.{Rec}
 use Rattle.levels.specs.Map.{find}
 use Rattle.levels.specs.Put.{insert, without, put_rec}
@@ -67,7 +67,7 @@ format_reply : (ws : List ℕ) (g : Geometry) → formats (format_of ws g).answe
 format_reply ws g = go (eqb (size_reason (length ws) g) 0) refl
   where
     go : (t : Bool) → eqb (size_reason (length ws) g) 0 ≡ t
-        → formats (format_of ws g).answer ≡ (if t then formats (record { reason = 0; limit = key_limit_of g }) else formats (record { reason = size_reason (length ws) g; limit = 0 }))
+        → formats (format_of ws g).answer ≡ (if t then formats (record { reason = 0; limit = key_limit_of g }) otherwise formats (record { reason = size_reason (length ws) g; limit = 0 }))
     go true q = ap (λ (o : Outcome FormatAnswer). formats o.answer) (format_accepted ws g (eqb-true (size_reason (length ws) g) 0 q))
     go false q = ap (λ (o : Outcome FormatAnswer). formats o.answer) (format_turned_down ws g (eqb-false (size_reason (length ws) g) 0 q))
 
@@ -81,7 +81,7 @@ module _ (ws : List ℕ) (e : reason_of ws ≡ 0) where
   format_step g = go (eqb (size_reason (length ws) g) 0) refl
     where
       go : (t : Bool) → eqb (size_reason (length ws) g) 0 ≡ t
-          → (reason_of (format_of ws g).words ≡ 0) × (held_in (format_of ws g).words ≡ (if t then record { size = length ws; limit = key_limit_of g; records = [] } else held_in ws))
+          → (reason_of (format_of ws g).words ≡ 0) × (held_in (format_of ws g).words ≡ (if t then record { size = length ws; limit = key_limit_of g; records = [] } otherwise held_in ws))
       go true q = let y = eqb-true (size_reason (length ws) g) 0 q in (format_passes ws g y, format_held ws g y)
       go false q =
           let w : (format_of ws g).words ≡ ws = ap (λ (o : Outcome FormatAnswer). o.words) (format_turned_down ws g (eqb-false (size_reason (length ws) g) 0 q)) in
@@ -91,14 +91,14 @@ module _ (ws : List ℕ) (e : reason_of ws ≡ 0) where
   put_reply : (k v : ℕ) → changes (put_of ws k v).answer.reason (put_of ws k v).answer.live ≡ map_reply (held_in ws) (put_key k v)
   put_reply k v = go (is_full (key_limit_of (layout_at ws).geo) (map_at ws) k) refl
     where
-      go : (t : Bool) → is_full (key_limit_of (layout_at ws).geo) (map_at ws) k ≡ t → changes (put_of ws k v).answer.reason (put_of ws k v).answer.live ≡ (if t then changes 5 false else changes 0 (is_some (find k (map_at ws))))
+      go : (t : Bool) → is_full (key_limit_of (layout_at ws).geo) (map_at ws) k ≡ t → changes (put_of ws k v).answer.reason (put_of ws k v).answer.live ≡ (if t then changes 5 false otherwise changes 0 (is_some (find k (map_at ws))))
       go true q = let y = full_is (key_limit_of (layout_at ws).geo) (map_at ws) k q in ap (λ (o : Outcome ChangeAnswer). changes o.answer.reason o.answer.live) (put_full_outcome ws e k v y.0 y.1)
       go false q = let y = put_accepted ws e k v (full_not (key_limit_of (layout_at ws).geo) (map_at ws) k q) in ap (λ (n : ℕ). changes n (put_of ws k v).answer.live) y.0 ∙ ap (changes 0) y.1
 
   put_held : (k v : ℕ) → held_in (put_of ws k v).words ≡ map_after (held_in ws) (put_key k v)
   put_held k v = go (is_full (key_limit_of (layout_at ws).geo) (map_at ws) k) refl
     where
-      go : (t : Bool) → is_full (key_limit_of (layout_at ws).geo) (map_at ws) k ≡ t → held_in (put_of ws k v).words ≡ (if t then held_in ws else record { size = length ws; limit = key_limit_of (layout_at ws).geo; records = insert (put_rec k v) (map_at ws) })
+      go : (t : Bool) → is_full (key_limit_of (layout_at ws).geo) (map_at ws) k ≡ t → held_in (put_of ws k v).words ≡ (if t then held_in ws otherwise record { size = length ws; limit = key_limit_of (layout_at ws).geo; records = insert (put_rec k v) (map_at ws) })
       go true q = let y = full_is (key_limit_of (layout_at ws).geo) (map_at ws) k q in ap (λ (o : Outcome ChangeAnswer). held_in o.words) (put_full_outcome ws e k v y.0 y.1)
       go false q =
           held_is (put_of ws k v).words (length ws) (layout_at ws).geo (insert (put_rec k v) (map_at ws)) (put_length ws e k v) (ap (λ (y : Layout). y.geo) (layout_same (put_of ws k v).words ws (put_geometry ws e k v)))
@@ -120,7 +120,7 @@ module _ (ws : List ℕ) (e : reason_of ws ≡ 0) where
   will_put_reply : (k : ℕ) → forecasts (will_put_merge_of ws k).reason ≡ map_reply (held_in ws) (will_put k)
   will_put_reply k = ap forecasts (will_put_reason ws k ∙ put_reason_passed ws k e) ∙ go (is_full (key_limit_of (layout_at ws).geo) (map_at ws) k)
     where
-      go : (t : Bool) → forecasts (if t then 5 else 0) ≡ (if t then forecasts 5 else forecasts 0)
+      go : (t : Bool) → forecasts (if t then 5 otherwise 0) ≡ (if t then forecasts 5 otherwise forecasts 0)
       go true = refl
       go false = refl
 

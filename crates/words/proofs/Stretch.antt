@@ -10,7 +10,7 @@ use native.Mathlib.Omega.{arith}
 use lib.ListN.{length, take, drop, get_or, length-append, length-drop, length-take, length-map, get_or-append, take-append-drop, drop_of_length-le}
 use lib.Seq.{take_all, take-append_seam, drop-append_seam, drop-cons, get_or-take, split_at}
 use borrow.Author.Tests.{ltb-true, ltb-false, eq-eqb, ne_eqb}
-use Rattle.levels.specs.Basics.{if◌then◌else◌}
+use Rattle.levels.specs.Basics.{if◌then◌otherwise◌}
 use Rattle.levels.specs.Record.{Rec}
 use Rattle.levels.specs.Map.{stretch}
 use Rattle.levels.specs.Rising.{Rising}
@@ -177,7 +177,7 @@ unfoldable pub walk_on : (StretchOutcome StretchAnswer → List ℕ) → List �
 walk_on part ws first last [] = []
 walk_on part ws first last (l ∷ ls) =
     let o = stretch_of ws first last l.keys l.pays in
-    take o.answer.written (part o) ++ (if o.answer.more then walk_on part ws (suc (get_or o.keys (o.answer.written - 1) 0)) last ls else [])
+    take o.answer.written (part o) ++ (if o.answer.more then walk_on part ws (suc (get_or o.keys (o.answer.written - 1) 0)) last ls otherwise [])
 
 -- every call is lent room for a record
 abbrev pub Roomy : List Lent → Type 0
@@ -197,7 +197,7 @@ module _ (ws : List ℕ) (last : ℕ) (e : reason_of ws ≡ 0) (part : StretchOu
       go : (keys pays : List ℕ) → 1 ≤ min (length keys) (length pays) → (t : Bool) → (filled (stretch first last (map_at ws)) keys pays).answer.more ≡ t
           → ((from : ℕ) → length (stretch from last (map_at ws)) ≤ length ls → walk_on part ws from last ls ≡ map f (stretch from last (map_at ws)))
           → take (filled (stretch first last (map_at ws)) keys pays).answer.written (part (filled (stretch first last (map_at ws)) keys pays))
-          ++ (if t then walk_on part ws (suc (last_key (stretch first last (map_at ws)) keys pays)) last ls else []) ≡ map f (stretch first last (map_at ws))
+          ++ (if t then walk_on part ws (suc (last_key (stretch first last (map_at ws)) keys pays)) last ls otherwise []) ≡ map f (stretch first last (map_at ws))
       go keys pays w false q i = rw (writes (stretch first last (map_at ws)) keys pays, filled_ends (stretch first last (map_at ws)) keys pays q) (append-nil _)
       go keys pays w true q i =
           let all : List Rec = stretch first last (map_at ws) in

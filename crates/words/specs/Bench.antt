@@ -16,7 +16,7 @@ use Rattle.geometry.specs.Geometry.{
   block_width,
 }
 use Rattle.layout.specs.Layouts.{old, list_start, place_start, size_reason}
-use Rattle.levels.specs.Basics.{if◌then◌else◌}
+use Rattle.levels.specs.Basics.{if◌then◌otherwise◌}
 use Rattle.levels.specs.Map.{find, into, overlay, view, unmarked, map_of, live_count, decides, look_up, is_live, first_from, next, stretch}
 use Rattle.levels.specs.Choose.{cut_at}
 use Rattle.levels.specs.Place.{free_after, first_free, settle, newly_used}
@@ -136,7 +136,7 @@ holds c =
 -- The cases that do not hold: a refusal of the theorem prints them.
 unfoldable pub failing : List Case → List String
 failing [] = []
-failing (c ∷ cs) = if holds c then failing cs else (c.text ∷ failing cs)
+failing (c ∷ cs) = if holds c then failing cs otherwise (c.text ∷ failing cs)
 
 -- Words of a store of this geometry, and the clauses of the form check that they break, by number from 1 on in the document's order.
 pub record Breach : Type 0 where
@@ -148,12 +148,12 @@ pub record Breach : Type 0 where
 -- the numbers, counted from n, of the tests that fail
 abbrev pub untrue : ℕ → List Bool → List ℕ
 untrue n [] = []
-untrue n (t ∷ ts) = if t then untrue (suc n) ts else (n ∷ untrue (suc n) ts)
+untrue n (t ∷ ts) = if t then untrue (suc n) ts otherwise (n ∷ untrue (suc n) ts)
 
 unfoldable pub misjudged : List Breach → List String
 unfolding computed
 misjudged [] = []
-misjudged (b ∷ bs) = if same_numbers (untrue 1 (clauses (old b.geometry) b.words)) b.broken then misjudged bs else (b.text ∷ misjudged bs)
+misjudged (b ∷ bs) = if same_numbers (untrue 1 (clauses (old b.geometry) b.words)) b.broken then misjudged bs otherwise (b.text ∷ misjudged bs)
 
 -- words written as counts and values
 abbrev pub expand : List ℕ → List ℕ

@@ -5,7 +5,7 @@ use Rattle.geometry.specs.declared.Geometry.{Geometry}
 use Rattle.geometry.specs.Geometry.{key_limit_of, top_capacity_of, block_width, within}
 use Rattle.layout.specs.declared.Layout.{Layout}
 use Rattle.layout.specs.Layouts.{old, place_start, size_reason}
-use Rattle.levels.specs.Basics.{if◌then◌else◌, is_some}
+use Rattle.levels.specs.Basics.{if◌then◌otherwise◌, is_some}
 use Rattle.levels.specs.Record.{Rec, Block, Level, first_key, last_key}
 use Rattle.levels.specs.Map.{find, map_of, live_count, look_up, next, stretch}
 use Rattle.levels.specs.Store.{Store, rows, blocks_of}
@@ -244,7 +244,7 @@ forecast_in a = record { reason = a.reason; merges = a.level1.merges }
 
 -- Card 5: "exactly one if level 0 holds K(0) × B records and the key isn't among them, and none otherwise": by c and level 0's records, marks with them
 unfoldable pub top_merges : Layout → List ℕ → ℕ → ℕ
-top_merges z ws k = if eqb (top_count_at z ws) (top_capacity_of z.geo) && not (is_some (find k (top_recs z ws))) then 1 else 0
+top_merges z ws k = if eqb (top_count_at z ws) (top_capacity_of z.geo) && not (is_some (find k (top_recs z ws))) then 1 otherwise 0
 
 -- "5. A put has a key not in the map while live = N.", of a map's limit and records
 abbrev pub is_full : ℕ → List Rec → ℕ → Bool
@@ -252,7 +252,7 @@ is_full limit rs k = not (is_some (find k rs)) && eqb (length rs) limit
 
 -- the reason that a put of k is turned down for, or 0
 unfoldable pub put_reason : List ℕ → ℕ → ℕ
-put_reason ws k = elim (eqb (reason_of ws) 0) [ true ↦ if is_full (key_limit_of (layout_at ws).geo) (map_at ws) k then 5 else 0 | false ↦ reason_of ws ]
+put_reason ws k = elim (eqb (reason_of ws) 0) [ true ↦ if is_full (key_limit_of (layout_at ws).geo) (map_at ws) k then 5 otherwise 0 | false ↦ reason_of ws ]
 
 -- Card 5: "A refused call makes none."
 abbrev pub foretold : ℕ → ℕ → ForecastAnswer
@@ -264,4 +264,4 @@ unfoldable pub will_put_merge_of : List ℕ → ℕ → ForecastAnswer
 will_put_merge_of ws k = foretold (put_reason ws k) (top_merges (layout_at ws) ws k)
 
 unfoldable pub will_delete_merge_of : List ℕ → ℕ → ForecastAnswer
-will_delete_merge_of ws k = foretold (reason_of ws) (if is_some (find k (map_at ws)) then top_merges (layout_at ws) ws k else 0)
+will_delete_merge_of ws k = foretold (reason_of ws) (if is_some (find k (map_at ws)) then top_merges (layout_at ws) ws k otherwise 0)

@@ -6,7 +6,7 @@ use mathlib.Core.List.{List, [], ◌∷◌, foldl}
 use Rattle.geometry.specs.declared.Geometry.{Geometry}
 use Rattle.geometry.specs.Geometry.{key_limit_of}
 use Rattle.layout.specs.Layouts.{size_reason}
-use Rattle.levels.specs.Basics.{if◌then◌else◌, is_some}
+use Rattle.levels.specs.Basics.{if◌then◌otherwise◌, is_some}
 use Rattle.levels.specs.Record.{Rec}
 use Rattle.levels.specs.Map.{find, first_from, stretch}
 use Rattle.levels.specs.Put.{insert, without, put_rec}
@@ -118,27 +118,27 @@ pub record Held : Type 0 where
 abbrev pub map_reply : Held → Call → Reply
 map_reply m (format_as g) =
     let r = size_reason m.size g in
-    if eqb r 0 then formats (record { reason = 0; limit = key_limit_of g }) else formats (record { reason = r; limit = 0 })
+    if eqb r 0 then formats (record { reason = 0; limit = key_limit_of g }) otherwise formats (record { reason = r; limit = 0 })
 map_reply m check = checks 0
 map_reply m (look_up_key k) = looks (look_answer (find k m.records))
 map_reply m (next_key k) = nexts (next_answer (first_from k m.records))
 map_reply m (stretch_keys first last keys pays) = stretches (filled (stretch first last m.records) keys pays)
 map_reply m (show_key i k) = shows
-map_reply m (put_key k v) = if is_full m.limit m.records k then changes 5 false else changes 0 (is_some (find k m.records))
+map_reply m (put_key k v) = if is_full m.limit m.records k then changes 5 false otherwise changes 0 (is_some (find k m.records))
 map_reply m (del_key k) = changes 0 (is_some (find k m.records))
 map_reply m about = tells 0 (length m.records) m.limit
-map_reply m (will_put k) = if is_full m.limit m.records k then forecasts 5 else forecasts 0
+map_reply m (will_put k) = if is_full m.limit m.records k then forecasts 5 otherwise forecasts 0
 map_reply m (will_delete k) = forecasts 0
 
 -- The map afterwards: it is fed with the accepted puts and deletes, and an accepted format empties it.
 abbrev pub map_after : Held → Call → Held
-map_after m (format_as g) = if eqb (size_reason m.size g) 0 then record { size = m.size; limit = key_limit_of g; records = [] } else m
+map_after m (format_as g) = if eqb (size_reason m.size g) 0 then record { size = m.size; limit = key_limit_of g; records = [] } otherwise m
 map_after m check = m
 map_after m (look_up_key k) = m
 map_after m (next_key k) = m
 map_after m (stretch_keys first last keys pays) = m
 map_after m (show_key i k) = m
-map_after m (put_key k v) = if is_full m.limit m.records k then m else record { size = m.size; limit = m.limit; records = insert (put_rec k v) m.records }
+map_after m (put_key k v) = if is_full m.limit m.records k then m otherwise record { size = m.size; limit = m.limit; records = insert (put_rec k v) m.records }
 map_after m (del_key k) = record { size = m.size; limit = m.limit; records = without k m.records }
 map_after m about = m
 map_after m (will_put k) = m

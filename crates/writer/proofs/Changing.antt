@@ -8,7 +8,7 @@ use mathlib.Core.Logic.{◌≢◌}
 use native.Mathlib.Omega.{arith}
 use borrow.Author.Tests.{eq-eqb, ne_eqb}
 use Rattle.geometry.specs.Geometry.{key_limit_of}
-use Rattle.levels.specs.Basics.{if◌then◌else◌, is_some}
+use Rattle.levels.specs.Basics.{if◌then◌otherwise◌, is_some}
 use Rattle.levels.specs.Record.{Rec}
 use Rattle.levels.specs.Map.{decides, present, look_up, is_live}
 use Rattle.levels.specs.Store.{Store, rows}
@@ -34,7 +34,7 @@ pub live_found_lem : (k : ℕ) (ls : List (List Rec)) → is_live k ls ≡ live_
 unfolding is_live look_up
 live_found_lem k ls = go (decides k ls)
   where
-    pick : (r : Rec) (t : Bool) → is_some (if t then none else some r) ≡ not t
+    pick : (r : Rec) (t : Bool) → is_some (if t then none otherwise some r) ≡ not t
     pick r true = refl
     pick r false = refl
 

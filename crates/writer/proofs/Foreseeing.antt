@@ -8,7 +8,7 @@ use lib.Dec.{eqb}
 use lib.ListN.{length}
 use borrow.Author.Tests.{eq-eqb, ne_eqb}
 use Rattle.geometry.specs.Geometry.{key_limit_of, top_capacity_of}
-use Rattle.levels.specs.Basics.{if◌then◌else◌, is_some}
+use Rattle.levels.specs.Basics.{if◌then◌otherwise◌, is_some}
 use Rattle.levels.specs.Record.{Rec}
 use Rattle.levels.specs.Map.{find, is_live, map_of, live_count}
 use Rattle.levels.specs.Store.{rows}
@@ -21,8 +21,8 @@ use Rattle.words.specs.Passed.{Passed}
 use Rattle.writer.proofs.Entering.{has_room, holds_ready}
 
 -- a put, turned down as full or not
-pub put_by : (m : ℕ) (t u : Bool) → t ≡ u → foretold (if t then 5 else 0) m ≡ foretold (if u then 5 else 0) m
-put_by m t u e = ap (λ (b : Bool). foretold (if b then 5 else 0) m) e
+pub put_by : (m : ℕ) (t u : Bool) → t ≡ u → foretold (if t then 5 otherwise 0) m ≡ foretold (if u then 5 otherwise 0) m
+put_by m t u e = ap (λ (b : Bool). foretold (if b then 5 otherwise 0) m) e
 
 module _ (z : Layout) (ws : List ℕ) (p : Passed z ws) (k : ℕ) where
   abbrev records : List Rec
@@ -47,11 +47,11 @@ module _ (z : Layout) (ws : List ℕ) (p : Passed z ws) (k : ℕ) where
 
   -- a delete, of a live key or not
   pub delete_by : (t : Bool) → is_live k (rows (store_at z ws)) ≡ t
-      → record { reason = 0; merges = if t then top_merges z ws k else 0 } ≡ foretold 0 (if is_some (find k records) then top_merges z ws k else 0)
-  delete_by t h = ap (λ (b : Bool). foretold 0 (if b then top_merges z ws k else 0)) (sym (map_has t h))
+      → record { reason = 0; merges = if t then top_merges z ws k otherwise 0 } ≡ foretold 0 (if is_some (find k records) then top_merges z ws k otherwise 0)
+  delete_by t h = ap (λ (b : Bool). foretold 0 (if b then top_merges z ws k otherwise 0)) (sym (map_has t h))
 
   -- one merge makes room in level 0 where there is none
-  pub merges_by : (t : Bool) → has_room z ws k ≡ t → ◌≡◌ {A = ℕ} (if t then 0 else 1) (top_merges z ws k)
+  pub merges_by : (t : Bool) → has_room z ws k ≡ t → ◌≡◌ {A = ℕ} (if t then 0 otherwise 1) (top_merges z ws k)
   unfolding has_room top_merges store_at
   merges_by t h =
-      ap (λ (b : Bool). if b then 0 else 1) (sym h) ∙ sym (full_without (is_some (find k (top_recs z ws))) (top_count_at z ws) (top_capacity_of z.geo) (holds_ready z ws p).fits)
+      ap (λ (b : Bool). if b then 0 otherwise 1) (sym h) ∙ sym (full_without (is_some (find k (top_recs z ws))) (top_count_at z ws) (top_capacity_of z.geo) (holds_ready z ws p).fits)

@@ -4,7 +4,7 @@
 ghost use Rattle.std.specs.Prelude.{◌≡◌, true, [], ◌≤◌};
 ghost use Rattle.slices.specs.Ranks.{rank_of};
 ghost use Rattle.geometry.specs.Geometry.{key_limit_of};
-ghost use Rattle.levels.specs.Basics.{if◌then◌else◌, is_some};
+ghost use Rattle.levels.specs.Basics.{if◌then◌otherwise◌, is_some};
 ghost use Rattle.levels.specs.Map.{find, map_of};
 ghost use Rattle.levels.specs.Store.{rows};
 ghost use Rattle.levels.specs.Put.{put, delete, merges_for, merges_of};
@@ -189,7 +189,7 @@ pub fn merges(changed: Changed) -> usize
 // What a put of k is going to do, in a store that passes (document 02, card 5).
 pub fn foresee_put(s: &[u32], z: Layout, k: u32) -> Forecast
     requires { Passed z s.now }
-    ensures { forecast_answer result ≡ foretold (if is_full (key_limit_of z.geo) (map_of (rows (store_at z s.now))) k then 5 else 0) (top_merges z s.now k) }
+    ensures { forecast_answer result ≡ foretold (if is_full (key_limit_of z.geo) (map_of (rows (store_at z s.now))) k then 5 otherwise 0) (top_merges z s.now k) }
 {
     if is_full(s, z, k) {
         return Forecast::Refused(5);
@@ -214,7 +214,7 @@ fn is_full(s: &[u32], z: Layout, k: u32) -> bool
 // What a delete of k is going to do: nothing is merged for a key that is not live.
 pub fn foresee_delete(s: &[u32], z: Layout, k: u32) -> Forecast
     requires { Passed z s.now }
-    ensures { forecast_answer result ≡ foretold 0 (if is_some (find k (map_of (rows (store_at z s.now)))) then top_merges z s.now k else 0) }
+    ensures { forecast_answer result ≡ foretold 0 (if is_some (find k (map_of (rows (store_at z s.now)))) then top_merges z s.now k otherwise 0) }
 {
     let was = is_live(reader::find_key(s, z, k as usize));
     if was {

@@ -1,7 +1,6 @@
 use Rattle.form.proofs.Ready.{checked_passes}
 use mathlib.Core.Path.{sym, ◌∙◌}
 use Rattle.store.proofs.Answering.{about_refused_lem, about_ready}
-use borrow.Author.Rules.{rules}
 use Rattle.store.proofs.about.Goals as goal
 
 pub facts_of-requires : goal.facts_of-requires

@@ -1,6 +1,5 @@
 use mathlib.Core.Path.{sym, ◌∙◌}
 use Rattle.store.proofs.Answering.{check_refused, check_none}
-use borrow.Author.Rules.{rules}
 use Rattle.store.proofs.check.Goals as goal
 
 pub returns-in-Refused : goal.returns-in-Refused

@@ -1,7 +1,6 @@
 use Rattle.form.proofs.Ready.{checked_passes}
 use mathlib.Core.Path.{sym, ◌∙◌}
 use Rattle.store.proofs.Changing.{delete_refused, delete_ready}
-use borrow.Author.Rules.{rules}
 use Rattle.store.proofs.delete_rows.Goals as goal
 
 pub delete_ready-requires : goal.delete_ready-requires

@@ -1,6 +1,5 @@
 use mathlib.Core.Path.{refl, sym, ◌∙◌}
 use Rattle.store.proofs.Formatting.{cleared_headed, format_refused, format_done, layout_is, header_asks, limit_asks, length_is}
-use borrow.Author.Rules.{rules}
 use Rattle.store.proofs.format.Goals as goal
 
 pub put_header-requires : goal.put_header-requires

@@ -2,7 +2,6 @@ use mathlib.Core.Path.{refl, ◌∙◌}
 use native.Mathlib.Omega.{arith}
 use Rattle.tickets.proofs.Gathering.{gathered_all}
 use Rattle.store.proofs.Changing.{delete_merges, delete_handed, rows_hold}
-use borrow.Author.Rules.{rules}
 use Rattle.store.proofs.gather_delete.Goals as goal
 
 pub merges-requires : goal.merges-requires

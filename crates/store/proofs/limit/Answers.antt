@@ -1,6 +1,5 @@
 use native.Mathlib.Omega.{arith}
 use Rattle.geometry.proofs.Laws.{key_limit_word}
-use borrow.Author.Rules.{rules}
 use Rattle.store.proofs.limit.Goals as goal
 
 pub overflow_cast-result : goal.overflow_cast-result

@@ -2,7 +2,6 @@ use Rattle.form.proofs.Ready.{checked_passes}
 use native.Mathlib.Omega.{arith}
 use mathlib.Core.Path.{sym, ◌∙◌}
 use Rattle.store.proofs.Answering.{look_refused, look_ready}
-use borrow.Author.Rules.{rules}
 use Rattle.store.proofs.look_up.Goals as goal
 
 pub find_key-requires : goal.find_key-requires

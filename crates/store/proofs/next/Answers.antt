@@ -2,7 +2,6 @@ use Rattle.form.proofs.Ready.{checked_passes}
 use mathlib.Core.Path.{sym, ◌∙◌}
 use native.Mathlib.Omega.{arith}
 use Rattle.store.proofs.Answering.{next_refused, next_ready}
-use borrow.Author.Rules.{rules}
 use Rattle.store.proofs.next.Goals as goal
 
 pub next_key-requires : goal.next_key-requires

@@ -1,7 +1,6 @@
 use Rattle.form.proofs.Ready.{checked_passes}
 use mathlib.Core.Path.{sym, ◌∙◌}
 use Rattle.store.proofs.Changing.{put_refused, put_ready}
-use borrow.Author.Rules.{rules}
 use Rattle.store.proofs.put_rows.Goals as goal
 
 pub put_ready-requires : goal.put_ready-requires

@@ -1,6 +1,5 @@
 use native.Mathlib.Omega.{arith}
 use Rattle.store.proofs.Answering.{part_in, part_shown}
-use borrow.Author.Rules.{rules}
 use Rattle.store.proofs.show.Goals as goal
 
 pub overflow_add-end : goal.overflow_add-end

@@ -2,7 +2,6 @@ use Rattle.form.proofs.Ready.{checked_passes}
 use native.Mathlib.Omega.{arith}
 use mathlib.Core.Path.{sym, ◌∙◌}
 use Rattle.store.proofs.Answering.{show_refused, show_ready}
-use borrow.Author.Rules.{rules}
 use Rattle.store.proofs.show_at.Goals as goal
 
 pub returns-in_default : goal.returns-in_default

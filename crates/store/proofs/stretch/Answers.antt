@@ -2,7 +2,6 @@ use Rattle.form.proofs.Ready.{checked_passes}
 use native.Mathlib.Omega.{arith}
 use mathlib.Core.Path.{sym, ◌∙◌}
 use Rattle.store.proofs.Answering.{stretch_refused, stretch_ready}
-use borrow.Author.Rules.{rules}
 use Rattle.store.proofs.stretch.Goals as goal
 
 pub list_stretch-requires : goal.list_stretch-requires

@@ -1,7 +1,6 @@
 use mathlib.Core.Path.{sym, ◌∙◌}
 use Rattle.store.proofs.Answering.{will_delete_refused, will_delete_ready}
 use Rattle.form.proofs.Ready.{checked_passes}
-use borrow.Author.Rules.{rules}
 use Rattle.store.proofs.will_delete_merge.Goals as goal
 
 pub foresee_delete-requires : goal.foresee_delete-requires

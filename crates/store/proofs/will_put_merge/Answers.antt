@@ -1,7 +1,6 @@
 use mathlib.Core.Path.{sym, ◌∙◌}
 use Rattle.store.proofs.Answering.{will_put_refused, will_put_ready}
 use Rattle.form.proofs.Ready.{checked_passes}
-use borrow.Author.Rules.{rules}
 use Rattle.store.proofs.will_put_merge.Goals as goal
 
 pub foresee_put-requires : goal.foresee_put-requires

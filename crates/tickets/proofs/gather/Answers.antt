@@ -1,7 +1,6 @@
-use Prim.Native.Nat.{◌-◌}
 use native.Mathlib.Omega.{arith}
 use mathlib.Core.Path.{refl}
-use Rattle.tickets.proofs.Gathering.{Gathers, gathers, gathers_on, gathers_all}
+use Rattle.tickets.proofs.Gathering.{gathers, gathers_on, gathers_all}
 use Rattle.tickets.proofs.gather.Goals as goal
 
 pub loop-i-init : goal.loop-i-init

@@ -1,7 +1,5 @@
 use Prim.Native.Nat.{◌-◌}
-use native.Mathlib.Omega.{arith}
-use mathlib.Core.Path.{refl}
-use Rattle.tickets.proofs.Gathering.{Gathers, gathers, gathers_on, gathers_all}
+use Rattle.tickets.proofs.Gathering.{Gathers}
 use Rattle.tickets.proofs.gather.Given as goal
 
 abbrev pub invariant-loop-i : goal.invariant-loop-i

@@ -1,5 +1,4 @@
 use mathlib.Core.Path.{◌≡◌, refl}
-use native.Mathlib.Omega.{arith}
 use borrow.Author.Rules.{rules}
 use lib.ListN.{length}
 use Rattle.tickets.proofs.Handing.{hands, fewer_left, hands_on, handed}
