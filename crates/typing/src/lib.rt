@@ -74,9 +74,10 @@ fn write_out<W: Write>(writer: &mut W, bytes: &[u8]) -> io::Result<()>
 
 // The input is read, as many bytes at once as there is room for, until a read gives nothing; for each of them there must be room for
 // an answer. Both buffers come back whole. Where the reader's bytes and the writer's are known, what is written is what the dialogue
-// says of the input: all of it if no read and no write fails, and else its beginning. The only errors are those of the reader and the
-// writer. A read that fails ends the program without an answer to the line that has begun, because half a line may say what the whole
-// line does not. Rattle wants a bound on every loop; this one is more reads than any run makes.
+// says of the input: all of it at an `Ok`, and at an `Err` its beginning. No error is made here but that of a writer that takes no
+// byte: the others are the reader's and the writer's own. A read that fails ends the program without an answer to the line that has
+// begun, because half a line may say what the whole line does not. Rattle wants a bound on every loop; this one is more reads than any
+// run makes.
 pub fn run<R: Read, W: Write>(
     tickets: usize,
     reader: &mut R,
