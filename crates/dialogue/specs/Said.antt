@@ -25,7 +25,7 @@ formatted_line a = format_line a.reason a.limit
 abbrev pub looked_line : LookAnswer → List ℕ
 looked_line a = get_line a.reason (bit a.found) a.pay
 
--- "for p and d live_before 1 or 0, blocks written by merges, blocks written by compacting, each over all levels"
+-- "for p and d live-before 1 or 0, blocks written by merges, blocks written by compacting, each over all levels"
 abbrev pub merged_sum : ChangeAnswer → ℕ
 merged_sum a = a.level1.written + a.level2.written + a.level3.written
 

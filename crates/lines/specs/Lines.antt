@@ -81,7 +81,7 @@ format_line reason limit = letter_f ∷ space ∷ (field reason space ++ field l
 unfoldable pub get_line : ℕ → ℕ → ℕ → List ℕ
 get_line reason found payload = letter_g ∷ space ∷ (field reason space ++ (field found space ++ field payload line_end))
 
--- "for p and d live_before 1 or 0, blocks written by merges, blocks written by compacting, each over all levels"; a ticket's line
+-- "for p and d live-before 1 or 0, blocks written by merges, blocks written by compacting, each over all levels"; a ticket's line
 -- has this form too
 unfoldable pub change_line : ℕ → ℕ → ℕ → ℕ → ℕ → List ℕ
 change_line letter reason live merged compacted =
