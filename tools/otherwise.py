@@ -3,9 +3,9 @@
 
 usage: tools/otherwise.py     at the top of the repository, once, after respell.py
 
-`rt ci` refuses a definition named like one of the library's operators. `if t then a else b` of levels `Basics` and lines
-`Bytes` binds tighter than the library's (10, not 5), so each use keeps its operator and its meaning, and only its last
-word is another one: `if t then a otherwise b`.
+`rt ci` refuses a definition named like one of the library's operators, as `if t then a else b` of levels `Basics` and of
+lines `Bytes`. Each use keeps its operator and its meaning, and only its last word is another one:
+`if t then a otherwise b`.
 """
 import os
 import re
