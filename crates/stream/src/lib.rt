@@ -345,7 +345,7 @@ pub fn step(
     st: Progress,
 ) -> Progress
     requires ready { Ready z t xs.now ys.now (record { words = s.old; used = used.old; out = out.old; st = st }) }
-    requires st_value { idle z t xs.now ys.now (record { words = s.old; used = used.old; out = out.old; st = st }) ≡ false }
+    requires going { idle z t xs.now ys.now (record { words = s.old; used = used.old; out = out.old; st = st }) ≡ false }
     ensures { Turned z t xs.now ys.now 1 (record { words = s.old; used = used.old; out = out.old; st = st }) (record { words = s.new; used = used.new; out = out.new; st = result }) }
 {
     let px = st.x;
@@ -375,8 +375,8 @@ pub fn stream(
     st: Progress,
     limit: usize,
 ) -> Progress
-    requires by_index { (i : ℕ) → i ≤ limit → Ready z t xs.now ys.now (turns z t xs.now ys.now i (record { words = s.old; used = used.old; out = out.old; st = st })) }
-    requires st_value { idle z t xs.now ys.now (turns z t xs.now ys.now limit (record { words = s.old; used = used.old; out = out.old; st = st })) ≡ true }
+    requires ready { (i : ℕ) → i ≤ limit → Ready z t xs.now ys.now (turns z t xs.now ys.now i (record { words = s.old; used = used.old; out = out.old; st = st })) }
+    requires ends { idle z t xs.now ys.now (turns z t xs.now ys.now limit (record { words = s.old; used = used.old; out = out.old; st = st })) ≡ true }
     ensures { ◌≡◌ {A = Memory} (record { words = s.new; used = used.new; out = out.new; st = result }) (turns z t xs.now ys.now limit (record { words = s.old; used = used.old; out = out.old; st = st })) }
 {
     let mut v = st;

@@ -1,4 +1,5 @@
--- What the call list programs write, where the bytes that their reader gives and those that their writer holds are known.
+-- Document 01, "Call list program", and its trace: "Reads standard input", "each line prints". What the programs write, where the bytes
+-- that their reader gives and those that their writer holds are known.
 use Rattle.std.specs.Prelude.{ℕ, ◌-◌, ◌^◌, ◌<◌, List, length, Option, IfSome}
 use Rattle.std.specs.Io.{StartsWith}
 use Rattle.std.specs.Io.KnownBytes.{Appends}

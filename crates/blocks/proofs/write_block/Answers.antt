@@ -12,8 +12,7 @@ use Rattle.blocks.proofs.write_block.Goals.{After-place_start-at}
 -- the place lies within the store
 within : (c : After-place_start-at) → c.place_start-at.result + (2 + 2 * c.args.z.b) ≤ length c.args.s.now
 within c =
-    let s = c in
-    rw c.place_start-at.ensures (ends s.args.z s.args.s.now s.requires.0 s.args.place s.requires.1)
+    rw c.place_start-at.ensures (ends c.args.z c.args.s.now c.requires.0 c.args.place c.requires.1)
 
 pub offset_bounds-s-at : goal.offset_bounds-s-at
 offset_bounds-s-at c = let h = within (goal.at.offset_bounds-s-at c).After-place_start-at in omega arith
@@ -47,26 +46,20 @@ overflow_add-at-3 c = let h = within (goal.at.overflow_add-at-3 c).After-place_s
 
 pub copy-requires-2 : goal.copy-requires-2
 copy-requires-2 c =
-    let k1 = c in
     let h = within (goal.at.copy-requires-2 c).After-place_start-at in
-    let b = k1.requires.0.b_high in
-    let k = simp length-set at k1.copy.auto.out in
+    let b = c.requires.0.b_high in
+    let k = simp length-set at c.copy.auto.out in
     (search rules, omega arith)
 
 pub shape_of-s : goal.shape_of-s
 shape_of-s c =
-    let k2 = c in
-    k2.copy-2.auto.out ∙ (k2.copy.auto.out ∙ simp length-set)
+    c.copy-2.auto.out ∙ (c.copy.auto.out ∙ simp length-set)
 
 pub returns : goal.returns
 returns c =
-    let k2 = c in
-    let k1 = k2 in
-    let k0 = k1 in
-    let s = k0 in
-    let z = s.args.z in
-    let xs = s.args.s.now in
-    let b = s.requires.0.b_high in
-    let e = written_is z xs s.args.place s.args.buf (search rules) (search rules) (ends z xs s.requires.0 s.args.place s.requires.1) in
-    let w : k2.copy-2.new.out ≡ written z xs s.args.place s.args.buf = k2.copy-2.ensures ∙ rw (k1.copy.ensures, k0.place_start-at.ensures) e in
-    (w, λ g l rs f h. w ∙ written_records z xs s.args.place s.args.buf s.requires.0 g l rs f h)
+    let z = c.args.z in
+    let xs = c.args.s.now in
+    let b = c.requires.0.b_high in
+    let e = written_is z xs c.args.place c.args.buf (search rules) (search rules) (ends z xs c.requires.0 c.args.place c.requires.1) in
+    let w : c.copy-2.new.out ≡ written z xs c.args.place c.args.buf = c.copy-2.ensures ∙ rw (c.copy.ensures, c.place_start-at.ensures) e in
+    (w, λ g l rs f h. w ∙ written_records z xs c.args.place c.args.buf c.requires.0 g l rs f h)

@@ -14,23 +14,23 @@ pub bounds-s-list : goal.bounds-s-list
 bounds-s-list c = c.requires.0.list _ c.requires.1
 
 pub page_at-requires : goal.page_at-requires
-page_at-requires c = let k = c in page_in _ _ k.requires.0 _ k.requires.1 c.if-dir.true
+page_at-requires c = page_in _ _ c.requires.0 _ c.requires.1 c.if-dir.true
 
 pub returns-then-dir : goal.returns-then-dir
 unfolding chunk_at
 returns-then-dir c = rw c.if-dir.true c.page_at.ensures
 
 pub overflow_cast-start : goal.overflow_cast-start
-overflow_cast-start c = let k = c in omega (arith, c.shared_slice_known-2-1.given (k.args.dir.list + k.args.i))
+overflow_cast-start c = omega (arith, c.shared_slice_known-2-1.given (c.args.dir.list + c.args.i))
 
 pub overflow_mul-start-2 : goal.overflow_mul-start-2
-overflow_mul-start-2 c = let k = c in omega (arith, k.requires.0.blocks c.if-dir.false _ k.requires.1)
+overflow_mul-start-2 c = omega (arith, c.requires.0.blocks c.if-dir.false _ c.requires.1)
 
 pub overflow_add-start-2 : goal.overflow_add-start-2
-overflow_add-start-2 c = let k = c in omega (arith, k.requires.0.blocks c.if-dir.false _ k.requires.1)
+overflow_add-start-2 c = omega (arith, c.requires.0.blocks c.if-dir.false _ c.requires.1)
 
 pub block_at-requires : goal.block_at-requires
-block_at-requires c = let k = c in (k.requires.0.blocks c.if-dir.false _ k.requires.1, k.requires.0.width_high)
+block_at-requires c = (c.requires.0.blocks c.if-dir.false _ c.requires.1, c.requires.0.width_high)
 
 pub returns : goal.returns
 unfolding chunk_at

@@ -17,19 +17,14 @@ returns-then-dir-before c = rw (le-leb 1 _ c.if-n-lt1.false, le-leb _ _ c.if-wid
 pub returns-then-dir-chunk : goal.returns-then-dir-chunk
 unfolding kept_of
 returns-then-dir-chunk c =
-    let k = c in
-    rw (le-leb 1 _ k.if-n-lt1.false, le-leb _ _ k.if-width-n.false, k.if-dir-before.false, c.if-dir-chunk.true)
+    rw (le-leb 1 _ c.if-n-lt1.false, le-leb _ _ c.if-width-n.false, c.if-dir-before.false, c.if-dir-chunk.true)
 
 pub returns-then-zeros : goal.returns-then-zeros
 unfolding kept_of
 returns-then-zeros c =
-    let q = c in
-    let k = q in
-    rw (le-leb 1 _ k.if-n-lt1.false, le-leb _ _ k.if-width-n.false, k.if-dir-before.false, q.if-dir-chunk.false, ← c.zeros.ensures, c.if-zeros.true) c.zeros-then-zeros.ensures
+    rw (le-leb 1 _ c.if-n-lt1.false, le-leb _ _ c.if-width-n.false, c.if-dir-before.false, c.if-dir-chunk.false, ← c.zeros.ensures, c.if-zeros.true) c.zeros-then-zeros.ensures
 
 pub returns : goal.returns
 unfolding kept_of
 returns c =
-    let q = c in
-    let k = q in
-    rw (le-leb 1 _ k.if-n-lt1.false, le-leb _ _ k.if-width-n.false, k.if-dir-before.false, q.if-dir-chunk.false, ← c.zeros.ensures, c.if-zeros.false)
+    rw (le-leb 1 _ c.if-n-lt1.false, le-leb _ _ c.if-width-n.false, c.if-dir-before.false, c.if-dir-chunk.false, ← c.zeros.ensures, c.if-zeros.false)

@@ -14,9 +14,8 @@ loop-i-init c = (search rules, (search rules, (search rules, pass_start _ _ _)))
 
 pub kept-requires : goal.kept-requires
 kept-requires c =
-    let a = c in
-    let p = chunk_room _ _ a.requires _ c.loop-i-test.true in
-    rw c.chunk_at-chunk.ensures (c.loop-i.invariant.1.0, (p.0, (p.1, a.requires.width_high)))
+    let p = chunk_room _ _ c.requires _ c.loop-i-test.true in
+    rw c.chunk_at-chunk.ensures (c.loop-i.invariant.1.0, (p.0, (p.1, c.requires.width_high)))
 
 pub returns-then-not-kept : goal.returns-then-not-kept
 returns-then-not-kept c =
@@ -26,46 +25,40 @@ returns-then-not-kept c =
 
 pub rise_over-requires : goal.rise_over-requires
 rise_over-requires c =
-    let a = c in
-    let p = chunk_room _ _ a.requires _ c.loop-i-test.true in
+    let p = chunk_room _ _ c.requires _ c.loop-i-test.true in
     let k = kept_count _ _ _ _ (sym c.kept.ensures ∙ c.if-not-kept.false) in
     let q = rw (← c.chunk_at-chunk.ensures) at p in
     record { keys_end = omega arith; pays_end = omega arith }
 
 pub returns-in_default : goal.returns-in_default
 returns-in_default c =
-    let k = c in
-    let l = k.loop-i in
-    sym (pass_broken _ _ _ _ _ _ _ k.loop-i-test.true _ k.chunk_at-chunk.ensures (sym k.kept.ensures ∙ c.if-not-kept.false) (sym c.rise_over.ensures ∙ c.in_default.is)) ∙ l.invariant.1.1.1
+    let l = c.loop-i in
+    sym (pass_broken _ _ _ _ _ _ _ c.loop-i-test.true _ c.chunk_at-chunk.ensures (sym c.kept.ensures ∙ c.if-not-kept.false) (sym c.rise_over.ensures ∙ c.in_default.is)) ∙ l.invariant.1.1.1
 
 pub overflow_add-total : goal.overflow_add-total
 overflow_add-total c =
-    let k = c in
-    let l = k.loop-i in
-    let q = kept_count _ _ _ _ (sym k.kept.ensures ∙ c.if-not-kept.false) in
-    let a = c in
-    let few : l.i ≤ 1024 = (let z = a.requires.chunks_high in omega arith) in
-    omega (arith, mul-le-mul few a.requires.width_high)
+    let l = c.loop-i in
+    let q = kept_count _ _ _ _ (sym c.kept.ensures ∙ c.if-not-kept.false) in
+    let few : l.i ≤ 1024 = (let z = c.requires.chunks_high in omega arith) in
+    omega (arith, mul-le-mul few c.requires.width_high)
 
 pub loop-i-preserved : goal.loop-i-preserved
 loop-i-preserved c =
-    let k = c in
-    let l = k.loop-i in
-    let f = sym k.kept.ensures ∙ c.if-not-kept.false in
+    let l = c.loop-i in
+    let f = sym c.kept.ensures ∙ c.if-not-kept.false in
     let q = kept_count _ _ _ _ f in
-    (omega arith, (q.1, (omega arith, sym (pass_next _ _ _ _ _ _ _ k.loop-i-test.true _ k.chunk_at-chunk.ensures _ f (sym c.rise_over.ensures ∙ c.in-To.is)) ∙ l.invariant.1.1.1)))
+    (omega arith, (q.1, (omega arith, sym (pass_next _ _ _ _ _ _ _ c.loop-i-test.true _ c.chunk_at-chunk.ensures _ f (sym c.rise_over.ensures ∙ c.in-To.is)) ∙ l.invariant.1.1.1)))
 
 pub returns-then-dir : goal.returns-then-dir
 returns-then-dir c = sym (pass_end_top _ _ _ _ _ _ _ c.loop-i-test.false c.if-dir.true) ∙ c.loop-i.invariant.1.1.1
 
 pub is_wasteful-requires : goal.is_wasteful-requires
 is_wasteful-requires c =
-    let a = c in
     let l = c.loop-i in
-    let e : l.i ≡ a.args.dir.chunks = omega arith in
+    let e : l.i ≡ c.args.dir.chunks = omega arith in
     let t = rw e at l.invariant.1.1.0 in
-    let few = a.requires.chunks_high in
-    (omega arith, a.requires.width_high, omega arith, t)
+    let few = c.requires.chunks_high in
+    (omega arith, c.requires.width_high, omega arith, t)
 
 pub returns : goal.returns
 returns c = ap not c.is_wasteful.ensures ∙ sym (pass_end_listed _ _ _ _ _ _ _ c.loop-i-test.false c.if-dir.false) ∙ c.loop-i.invariant.1.1.1

@@ -53,43 +53,29 @@ unfolding passed
 returns-then-not-spare_ok c = rw (h1 (goal.at.returns-then-not-spare_ok c).Else-not-header_ok, h2 (goal.at.returns-then-not-spare_ok c).Else-not-lists_ok, ← c.spare_ok.ensures, c.if-not-spare_ok.true)
 
 pub level_formed-requires : goal.level_formed-requires
-level_formed-requires c = let k = c in rw c.top_of-d0.ensures (within_top _ _ (headed (goal.at.level_formed-requires c).Else-not-header_ok))
+level_formed-requires c = rw c.top_of-d0.ensures (within_top _ _ (headed (goal.at.level_formed-requires c).Else-not-header_ok))
 
 pub returns-then-not-level_formed : goal.returns-then-not-level_formed
 unfolding passed
 returns-then-not-level_formed c =
-    let k3 = c in
-    let k2 = k3 in
     rw (h1 (goal.at.returns-then-not-level_formed c).Else-not-header_ok, h2 (goal.at.returns-then-not-level_formed c).Else-not-lists_ok, h3 (goal.at.returns-then-not-level_formed c).Else-not-spare_ok, ← c.top_of-d0.ensures, ← c.level_formed.ensures, c.if-not-level_formed.true)
 
 pub level_formed-requires-2 : goal.level_formed-requires-2
 level_formed-requires-2 c =
-    let k3 = c in
-    let k2 = k3 in
     rw c.level_of-d1.ensures (within_level _ _ (headed (goal.at.level_formed-requires-2 c).Else-not-header_ok) (h2 (goal.at.level_formed-requires-2 c).Else-not-lists_ok) 1 (omega arith) (omega arith))
 
 pub returns-then-not-level_formed-2 : goal.returns-then-not-level_formed-2
 unfolding passed
 returns-then-not-level_formed-2 c =
-    let k4 = c in
-    let k3 = k4 in
-    let k2 = k3 in
     rw (h1 (goal.at.returns-then-not-level_formed-2 c).Else-not-header_ok, h2 (goal.at.returns-then-not-level_formed-2 c).Else-not-lists_ok, h3 (goal.at.returns-then-not-level_formed-2 c).Else-not-spare_ok, h4 (goal.at.returns-then-not-level_formed-2 c).Else-not-level_formed, ← c.level_of-d1.ensures, ← c.level_formed-2.ensures, c.if-not-level_formed-2.true)
 
 pub level_formed-requires-3 : goal.level_formed-requires-3
 level_formed-requires-3 c =
-    let k4 = c in
-    let k3 = k4 in
-    let k2 = k3 in
     rw c.level_of-d2.ensures (within_level _ _ (headed (goal.at.level_formed-requires-3 c).Else-not-header_ok) (h2 (goal.at.level_formed-requires-3 c).Else-not-lists_ok) 2 (omega arith) (omega arith))
 
 pub returns-then-not-level_formed-3 : goal.returns-then-not-level_formed-3
 unfolding passed
 returns-then-not-level_formed-3 c =
-    let k5 = c in
-    let k4 = k5 in
-    let k3 = k4 in
-    let k2 = k3 in
     rw (h1 (goal.at.returns-then-not-level_formed-3 c).Else-not-header_ok, h2 (goal.at.returns-then-not-level_formed-3 c).Else-not-lists_ok, h3 (goal.at.returns-then-not-level_formed-3 c).Else-not-spare_ok, h4 (goal.at.returns-then-not-level_formed-3 c).Else-not-level_formed, h5 (goal.at.returns-then-not-level_formed-3 c).Else-not-level_formed-2, ← c.level_of-d2.ensures, ← c.level_formed-3.ensures, c.if-not-level_formed-3.true)
 
 pub level_of-d3-requires : goal.level_of-d3-requires
@@ -97,20 +83,11 @@ level_of-d3-requires c = (c.requires, (omega arith, omega arith))
 
 pub level_formed-requires-4 : goal.level_formed-requires-4
 level_formed-requires-4 c =
-    let k5 = c in
-    let k4 = k5 in
-    let k3 = k4 in
-    let k2 = k3 in
     rw c.level_of-d3.ensures (within_level _ _ (headed (goal.at.level_formed-requires-4 c).Else-not-header_ok) (h2 (goal.at.level_formed-requires-4 c).Else-not-lists_ok) 3 (omega arith) (omega arith))
 
 pub returns-then-not-level_formed-4 : goal.returns-then-not-level_formed-4
 unfolding passed
 returns-then-not-level_formed-4 c =
-    let k6 = c in
-    let k5 = k6 in
-    let k4 = k5 in
-    let k3 = k4 in
-    let k2 = k3 in
     rw (h1 (goal.at.returns-then-not-level_formed-4 c).Else-not-header_ok, h2 (goal.at.returns-then-not-level_formed-4 c).Else-not-lists_ok, h3 (goal.at.returns-then-not-level_formed-4 c).Else-not-spare_ok, h4 (goal.at.returns-then-not-level_formed-4 c).Else-not-level_formed, h5 (goal.at.returns-then-not-level_formed-4 c).Else-not-level_formed-2, h6 (goal.at.returns-then-not-level_formed-4 c).Else-not-level_formed-3, ← c.level_of-d3.ensures, ← c.level_formed-4.ensures, c.if-not-level_formed-4.true)
 
 pub word-live-requires : goal.word-live-requires
@@ -118,27 +95,15 @@ word-live-requires c = omega (arith, fitted_live _ _ c.requires)
 
 pub live-requires : goal.live-requires
 live-requires c =
-    let k7 = c in
-    let k6 = k7 in
-    let k5 = k6 in
-    let k4 = k5 in
-    let k3 = k4 in
-    let k2 = k3 in
     let hd = headed (goal.at.live-requires c).Else-not-header_ok in
     record {
-      formed0 = rw k4.top_of-d0.ensures (formed_all _ _ (within_top _ _ hd) (h4 (goal.at.live-requires c).Else-not-level_formed));
-      formed1 = rw k5.level_of-d1.ensures (formed_all _ _ (within_level _ _ hd (h2 (goal.at.live-requires c).Else-not-lists_ok) 1 (omega arith) (omega arith)) (h5 (goal.at.live-requires c).Else-not-level_formed-2));
-      formed2 = rw k6.level_of-d2.ensures (formed_all _ _ (within_level _ _ hd (h2 (goal.at.live-requires c).Else-not-lists_ok) 2 (omega arith) (omega arith)) (h6 (goal.at.live-requires c).Else-not-level_formed-3));
-      formed3 = rw k7.level_of-d3.ensures (formed_all _ _ (within_level _ _ hd (h2 (goal.at.live-requires c).Else-not-lists_ok) 3 (omega arith) (omega arith)) (h7 (goal.at.live-requires c).Else-not-level_formed-4));
+      formed0 = rw c.top_of-d0.ensures (formed_all _ _ (within_top _ _ hd) (h4 (goal.at.live-requires c).Else-not-level_formed));
+      formed1 = rw c.level_of-d1.ensures (formed_all _ _ (within_level _ _ hd (h2 (goal.at.live-requires c).Else-not-lists_ok) 1 (omega arith) (omega arith)) (h5 (goal.at.live-requires c).Else-not-level_formed-2));
+      formed2 = rw c.level_of-d2.ensures (formed_all _ _ (within_level _ _ hd (h2 (goal.at.live-requires c).Else-not-lists_ok) 2 (omega arith) (omega arith)) (h6 (goal.at.live-requires c).Else-not-level_formed-3));
+      formed3 = rw c.level_of-d3.ensures (formed_all _ _ (within_level _ _ hd (h2 (goal.at.live-requires c).Else-not-lists_ok) 3 (omega arith) (omega arith)) (h7 (goal.at.live-requires c).Else-not-level_formed-4));
     }
 
 pub returns : goal.returns
 unfolding passed
 returns c =
-    let k7 = c in
-    let k6 = k7 in
-    let k5 = k6 in
-    let k4 = k5 in
-    let k3 = k4 in
-    let k2 = k3 in
-    rw (h1 (goal.at.returns c).Else-not-header_ok, h2 (goal.at.returns c).Else-not-lists_ok, h3 (goal.at.returns c).Else-not-spare_ok, h4 (goal.at.returns c).Else-not-level_formed, h5 (goal.at.returns c).Else-not-level_formed-2, h6 (goal.at.returns c).Else-not-level_formed-3, h7 (goal.at.returns c).Else-not-level_formed-4, c.word-live.ensures.0, c.live.ensures, k4.top_of-d0.ensures, k5.level_of-d1.ensures, k6.level_of-d2.ensures, k7.level_of-d3.ensures)
+    rw (h1 (goal.at.returns c).Else-not-header_ok, h2 (goal.at.returns c).Else-not-lists_ok, h3 (goal.at.returns c).Else-not-spare_ok, h4 (goal.at.returns c).Else-not-level_formed, h5 (goal.at.returns c).Else-not-level_formed-2, h6 (goal.at.returns c).Else-not-level_formed-3, h7 (goal.at.returns c).Else-not-level_formed-4, c.word-live.ensures.0, c.live.ensures, c.top_of-d0.ensures, c.level_of-d1.ensures, c.level_of-d2.ensures, c.level_of-d3.ensures)

@@ -14,14 +14,8 @@ old-z-requires c = (built_valid _ _ (sym c.new.ensures ∙ c.in-Legal.is)).1
 
 pub returns-then-n-z : goal.returns-then-n-z
 returns-then-n-z c =
-    let made = c in
-    let known = made in
-    let new = known in
-    fit_ready _ _ _ _ new.if-n-lt12.false (sym new.new.ensures ∙ known.in-Legal.is) made.old-z.ensures c.if-n-z.true
+    fit_ready _ _ _ _ c.if-n-lt12.false (sym c.new.ensures ∙ c.in-Legal.is) c.old-z.ensures c.if-n-z.true
 
 pub returns : goal.returns
 returns c =
-    let made = c in
-    let known = made in
-    let new = known in
-    fit_other _ _ _ _ new.if-n-lt12.false (sym new.new.ensures ∙ known.in-Legal.is) made.old-z.ensures c.if-n-z.false
+    fit_other _ _ _ _ c.if-n-lt12.false (sym c.new.ensures ∙ c.in-Legal.is) c.old-z.ensures c.if-n-z.false

@@ -6,7 +6,7 @@ pub stream-v-requires : goal.stream-v-requires
 stream-v-requires c =
     let a = c.args in
     rw (c.of-o.ensures, c.inputs-t.ensures, c.begin-st.ensures, c.limit-limit.ensures, c.copy_entries.ensures)
-    record { by_index = ready a.z a.s.now a.used.now a.out.now a.xs.now a.ys.now a.parts a.cursor c.requires; st_value = ended a.z a.s.now a.used.now a.out.now a.xs.now a.ys.now a.parts a.cursor c.requires }
+    record { ready = ready a.z a.s.now a.used.now a.out.now a.xs.now a.ys.now a.parts a.cursor c.requires; ends = ended a.z a.s.now a.used.now a.out.now a.xs.now a.ys.now a.parts a.cursor c.requires }
 
 pub close-r-requires : goal.close-r-requires
 close-r-requires c =

@@ -8,9 +8,8 @@ loop-lo-init c = (c.requires.1, (omega arith, ((λ h. absurd (omega arith)), (λ
 
 pub word-first-requires : goal.word-first-requires
 word-first-requires c =
-    let a = c in
     let i = c.loop-lo.invariant in
-    let p = chunk_ready _ _ a.requires.0 _ (omega arith) _ c.chunk_at-chunk.ensures in
+    let p = chunk_ready _ _ c.requires.0 _ (omega arith) _ c.chunk_at-chunk.ensures in
     omega (arith, p.0.keys_end)
 
 pub loop-lo-preserved-then-first-k : goal.loop-lo-preserved-then-first-k

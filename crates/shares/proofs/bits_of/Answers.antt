@@ -13,9 +13,8 @@ bit_if-bits-requires c = tt
 
 pub loop-k-preserved : goal.loop-k-preserved
 loop-k-preserved c =
-    let a = c in
     let l = c.loop-k in
-    (omega arith, compare_more a.args.s.now a.args.at a.args.n a.args.x l.k l.bits c.bit_if-bits.result a.requires.0 a.requires.1 (omega arith) l.invariant.1 c.bit_if-bits.ensures)
+    (omega arith, compare_more c.args.s.now c.args.at c.args.n c.args.x l.k l.bits c.bit_if-bits.result c.requires.0 c.requires.1 (omega arith) l.invariant.1 c.bit_if-bits.ensures)
 
 pub returns : goal.returns
 returns c = let e : c.loop-k.k ≡ c.args.n = omega arith in rw e at c.loop-k.invariant.1

@@ -17,11 +17,9 @@ overflow_add-d2 c = let q = c.requires.0 in record { fits = omega (arith, q.form
 
 pub returns-then-d2-d3-lt1 : goal.returns-then-d2-d3-lt1
 returns-then-d2-d3-lt1 c =
-    let k1 = c in
-    let k0 = k1 in
-    two_live _ _ k0.requires.0 c.if-d2-d3-lt1.true _ _
-    (c.shown-n0.ensures.0 ∙ ap (λ (rs : List Rec). length (unmarked rs)) k0.begin.ensures.0)
-    (c.shown-n1.ensures.0 ∙ ap (λ (rs : List Rec). length (unmarked rs)) k1.under_one.ensures.0)
+    two_live _ _ c.requires.0 c.if-d2-d3-lt1.true _ _
+    (c.shown-n0.ensures.0 ∙ ap (λ (rs : List Rec). length (unmarked rs)) c.begin.ensures.0)
+    (c.shown-n1.ensures.0 ∙ ap (λ (rs : List Rec). length (unmarked rs)) c.under_one.ensures.0)
 
 pub under_two-requires : goal.under_two-requires
 under_two-requires c =
@@ -60,12 +58,8 @@ shape_of-gone c = c.under_three.auto.gone ∙ (c.under_two.auto.gone ∙ (c.unde
 
 pub returns : goal.returns
 returns c =
-    let k3 = c in
-    let k2 = k3 in
-    let k1 = k2 in
-    let k0 = k1 in
-    levels_live _ _ k0.requires.0 _ _ _ _
-    (c.shown-n0.ensures.0 ∙ ap (λ (rs : List Rec). length (unmarked rs)) k0.begin.ensures.0)
-    (c.shown-n1.ensures.0 ∙ ap (λ (rs : List Rec). length (unmarked rs)) k1.under_one.ensures.0)
-    (c.shown-n2.ensures.0 ∙ ap (λ (rs : List Rec). length (unmarked rs)) k2.under_two.ensures.0)
-    (c.shown-n3.ensures.0 ∙ ap (λ (rs : List Rec). length (unmarked rs)) k3.under_three.ensures)
+    levels_live _ _ c.requires.0 _ _ _ _
+    (c.shown-n0.ensures.0 ∙ ap (λ (rs : List Rec). length (unmarked rs)) c.begin.ensures.0)
+    (c.shown-n1.ensures.0 ∙ ap (λ (rs : List Rec). length (unmarked rs)) c.under_one.ensures.0)
+    (c.shown-n2.ensures.0 ∙ ap (λ (rs : List Rec). length (unmarked rs)) c.under_two.ensures.0)
+    (c.shown-n3.ensures.0 ∙ ap (λ (rs : List Rec). length (unmarked rs)) c.under_three.ensures)

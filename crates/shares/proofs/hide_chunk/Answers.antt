@@ -23,28 +23,26 @@ pub overflow_sub-p : goal.overflow_sub-p
 overflow_sub-p c = (seat (goal.at.overflow_sub-p c).In-loop-l).0
 
 pub word-start-requires : goal.word-start-requires
-word-start-requires c = let k = c in omega (arith, (seat (goal.at.word-start-requires c).In-loop-l).1.inside, k.requires.1.0.room)
+word-start-requires c = omega (arith, (seat (goal.at.word-start-requires c).In-loop-l).1.inside, c.requires.1.0.room)
 
 pub bounds-gone-p : goal.bounds-gone-p
-bounds-gone-p c = let k = c in omega (arith, (seat (goal.at.bounds-gone-p c).In-loop-l).1.inside, k.requires.1.1.1.1, k.loop-l.invariant.1.1)
+bounds-gone-p c = omega (arith, (seat (goal.at.bounds-gone-p c).In-loop-l).1.inside, c.requires.1.1.1.1, c.loop-l.invariant.1.1)
 
 pub slots_with-requires : goal.slots_with-requires
 slots_with-requires c =
-    let k = c in
-    let p = k.requires in
+    let p = c.requires in
     ((started_first _ _ _ _ _ p.0 p.1.0 (seat (goal.at.slots_with-requires c).In-loop-l).1.inside c.word-start.ensures.0).0, p.0.within.width_high)
 
 pub bounds-gone-p-in-loop-l : goal.bounds-gone-p-in-loop-l
-bounds-gone-p-in-loop-l c = let k = c in omega (arith, (seat (goal.at.bounds-gone-p-in-loop-l c).In-loop-l).1.inside, k.requires.1.1.1.1, k.loop-l.invariant.1.1)
+bounds-gone-p-in-loop-l c = omega (arith, (seat (goal.at.bounds-gone-p-in-loop-l c).In-loop-l).1.inside, c.requires.1.1.1.1, c.loop-l.invariant.1.1)
 
 pub loop-l-preserved : goal.loop-l-preserved
 loop-l-preserved c =
-    let k = c in
-    let p = k.requires in
-    let i = k.loop-l.invariant in
+    let p = c.requires in
+    let i = c.loop-l.invariant in
     let a = p.1.1.0 in
     let q = (seat (goal.at.loop-l-preserved c).In-loop-l).1 in
-    (omega arith, (hide_turn _ _ _ _ _ _ _ _ _ p.0 q (omega (arith, q.inside, p.1.1.1.1, i.1.1)) (omega (arith, a.room, a.most, k.loop-l-test.true)) (c.word-start.ensures.0 ∙ p.1.0.start _ q.inside) c.slots_with.ensures i.1.0, simp length-set i.1.1))
+    (omega arith, (hide_turn _ _ _ _ _ _ _ _ _ p.0 q (omega (arith, q.inside, p.1.1.1.1, i.1.1)) (omega (arith, a.room, a.most, c.loop-l-test.true)) (c.word-start.ensures.0 ∙ p.1.0.start _ q.inside) c.slots_with.ensures i.1.0, simp length-set i.1.1))
 
 pub shape_of-gone : goal.shape_of-gone
 shape_of-gone c = c.loop-l.invariant.1.1

@@ -4,6 +4,5 @@ use Rattle.shares.proofs.live.Goals as goal
 
 pub count-requires : goal.count-requires
 count-requires c =
-    let k = c in
-    let w = within_of _ _ (sym k.is_within.ensures ∙ c.if-is_within.true) in
-    (k.requires, (w, w))
+    let w = within_of _ _ (sym c.is_within.ensures ∙ c.if-is_within.true) in
+    (c.requires, (w, w))

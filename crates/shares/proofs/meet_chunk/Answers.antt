@@ -25,18 +25,17 @@ pub chunk_at-block-requires : goal.chunk_at-block-requires
 chunk_at-block-requires c = (c.requires.0.within, (seat (goal.at.chunk_at-block-requires c).In-loop-l).1.inside)
 
 pub has-requires : goal.has-requires
-has-requires c = let k = c in rw c.chunk_at-block.ensures (asked_of _ _ _ k.requires.0 (seat (goal.at.has-requires c).In-loop-l).1.inside)
+has-requires c = rw c.chunk_at-block.ensures (asked_of _ _ _ c.requires.0 (seat (goal.at.has-requires c).In-loop-l).1.inside)
 
 pub bit_if-bits-requires : goal.bit_if-bits-requires
 bit_if-bits-requires c = tt
 
 pub loop-l-preserved : goal.loop-l-preserved
 loop-l-preserved c =
-    let k = c in
-    let p = k.requires in
-    let i = k.loop-l.invariant in
+    let p = c.requires in
+    let i = c.loop-l.invariant in
     let a = p.1.1.0 in
-    (omega arith, meet_turn _ _ _ _ _ _ _ _ _ p.0 (seat (goal.at.loop-l-preserved c).In-loop-l).1 c.chunk_at-block.ensures (omega (arith, a.room, a.most, k.loop-l-test.true)) (omega (arith, a.most, a.width_high, k.loop-l-test.true)) c.has.ensures c.bit_if-bits.ensures i.1)
+    (omega arith, meet_turn _ _ _ _ _ _ _ _ _ p.0 (seat (goal.at.loop-l-preserved c).In-loop-l).1 c.chunk_at-block.ensures (omega (arith, a.room, a.most, c.loop-l-test.true)) (omega (arith, a.most, a.width_high, c.loop-l-test.true)) c.has.ensures c.bit_if-bits.ensures i.1)
 
 pub returns : goal.returns
 returns c =

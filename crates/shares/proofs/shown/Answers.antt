@@ -18,8 +18,7 @@ counts : (c : After-chunk_at-chunk)
     → let a = c.args in
     Counts a.s.now a.dir a.gone.now c.loop-i.i c.chunk_at-chunk.result
 counts c =
-    let a = c in
-    counts_of_lem a.args.s.now a.args.dir a.args.gone.now c.loop-i.i a.requires.0 (omega arith) c.chunk_at-chunk.result c.chunk_at-chunk.ensures
+    counts_of_lem c.args.s.now c.args.dir c.args.gone.now c.loop-i.i c.requires.0 (omega arith) c.chunk_at-chunk.result c.chunk_at-chunk.ensures
 
 pub overflow_cast-used : goal.overflow_cast-used
 overflow_cast-used c = record { fits = omega (arith, (counts (goal.at.overflow_cast-used c).After-chunk_at-chunk).few) }
@@ -41,8 +40,7 @@ loop-i-preserved c = let l = c.loop-i in let w = counts (goal.at.loop-i-preserve
 
 pub returns : goal.returns
 returns c =
-    let a = c in
     let l = c.loop-i in
-    let h = a.requires.0.within.chunks_high in
-    let e : l.i ≡ a.args.dir.chunks = omega arith in
+    let h = c.requires.0.within.chunks_high in
+    let e : l.i ≡ c.args.dir.chunks = omega arith in
     (rw e at l.invariant.1.1, omega arith)

@@ -5,9 +5,8 @@ use Rattle.shares.proofs.under_one.Goals as goal
 
 pub hide_under-requires : goal.hide_under-requires
 hide_under-requires c =
-    let k = c in
-    let p = k.requires in
-    (p.0, (p.1.0, (k.begin.ensures.1, omega (arith, k.begin.auto.gone, p.1.1.1))))
+    let p = c.requires in
+    (p.0, (p.1.0, (c.begin.ensures.1, omega (arith, c.begin.auto.gone, p.1.1.1))))
 
 pub returns : goal.returns
-returns c = let k = c in (c.hide_under.ensures ∙ ap (hide _) k.begin.ensures.0, k.begin.ensures.1)
+returns c = (c.hide_under.ensures ∙ ap (hide _) c.begin.ensures.0, c.begin.ensures.1)

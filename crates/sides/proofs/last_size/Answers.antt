@@ -14,9 +14,8 @@ place_start-at-requires c = let h : c.listed-q.result < c.args.z.p = rw c.listed
 
 pub word-requires : goal.word-requires
 word-requires c =
-    let s = c in
-    let h : c.listed-q.result < s.args.z.p = rw c.listed-q.ensures (s.requires.2 _ (omega arith)) in
-    rw c.place_start-at.ensures (omega (arith, in_store s.args.z s.args.s.now s.requires.0 c.listed-q.result 0 h (omega arith)))
+    let h : c.listed-q.result < c.args.z.p = rw c.listed-q.ensures (c.requires.2 _ (omega arith)) in
+    rw c.place_start-at.ensures (omega (arith, in_store c.args.z c.args.s.now c.requires.0 c.listed-q.result 0 h (omega arith)))
 
 pub returns : goal.returns
 unfolding last_size

@@ -18,6 +18,5 @@ rank_of-at-requires c = let k = c.requires (not-false _ c.if-not-a.false) in (k.
 pub returns : goal.returns
 unfolding whole_below
 returns c =
-    let a = c in
     let w = (not-false _ c.if-not-a.false) in
-    rw (w, (not-false _ c.if-not-other.false)) (row_below _ a.args.a _ _ (a.requires w) c.rank_of-at.ensures)
+    rw (w, (not-false _ c.if-not-other.false)) (row_below _ c.args.a _ _ (c.requires w) c.rank_of-at.ensures)

@@ -10,10 +10,9 @@ loop-i-init c = (omega arith, (omega arith, refl))
 
 pub loop-i-preserved : goal.loop-i-preserved
 loop-i-preserved c =
-    let a = c in
     let l = c.loop-i in
     let w = c.word-key.ensures.0 in
-    let m = count_more a.args.k a.args.from l.i a.args.s.now (omega arith) a.requires.1 (rw (← w) c.word-key.ensures.1) in
+    let m = count_more c.args.k c.args.from l.i c.args.s.now (omega arith) c.requires.1 (rw (← w) c.word-key.ensures.1) in
     (omega arith, (omega arith, rw (w, l.invariant.1.1) m))
 
 pub returns : goal.returns

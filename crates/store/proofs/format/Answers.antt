@@ -4,22 +4,17 @@ use Rattle.store.proofs.format.Goals as goal
 
 pub put_header-requires : goal.put_header-requires
 put_header-requires c =
-    let clear = c in
-    let at = clear in
-    let k = header_asks _ _ _ (sym at.fit.ensures ∙ at.in-Ready.is) _ clear.clear.auto.s in
+    let k = header_asks _ _ _ (sym c.fit.ensures ∙ c.in-Ready.is) _ c.clear.auto.s in
     (k.0, (refl, k.1))
 
 pub limit-requires : goal.limit-requires
 limit-requires c =
-    let at = c in limit_asks _ _ _ (sym at.fit.ensures ∙ at.in-Ready.is)
+    limit_asks _ _ _ (sym c.fit.ensures ∙ c.in-Ready.is)
 
 pub returns-in-Refused : goal.returns-in-Refused
 returns-in-Refused c = sym (format_refused _ _ _ (sym c.fit.ensures ∙ c.in-Refused.is))
 
 pub returns-in-Ready : goal.returns-in-Ready
 returns-in-Ready c =
-    let header = c in
-    let clear = header in
-    let at = clear in
-    let e = sym at.fit.ensures ∙ at.in-Ready.is in
-    rw (c.limit.ensures, header.put_header.ensures, clear.clear.ensures, cleared_headed _ _ _ (layout_is _ _ _ e) (length_is _ _ _ e)) (sym (format_done _ _ _ e))
+    let e = sym c.fit.ensures ∙ c.in-Ready.is in
+    rw (c.limit.ensures, c.put_header.ensures, c.clear.ensures, cleared_headed _ _ _ (layout_is _ _ _ e) (length_is _ _ _ e)) (sym (format_done _ _ _ e))

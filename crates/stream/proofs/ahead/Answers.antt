@@ -5,18 +5,15 @@ use Rattle.stream.proofs.ahead.Goals as goal
 
 pub returns-then-not-other : goal.returns-then-not-other
 returns-then-not-other c =
-    let a = c in
     let f = c.fewer-left.ensures in
-    ahead_all _ _ _ _ _ _ a.requires.0 f.0 f.1 (not-true _ c.if-not-other.true)
+    ahead_all _ _ _ _ _ _ c.requires.0 f.0 f.1 (not-true _ c.if-not-other.true)
 
 pub rank_of-at-requires : goal.rank_of-at-requires
 rank_of-at-requires c =
-    let a = c in
-    let p = ahead_row _ _ _ _ a.requires.1 a.requires.0 c.fewer-left.ensures.0 in
+    let p = ahead_row _ _ _ _ c.requires.1 c.requires.0 c.fewer-left.ensures.0 in
     (p.0, (p.1, omega arith))
 
 pub returns : goal.returns
 returns c =
-    let a = c in
     let f = c.fewer-left.ensures in
-    ahead_some _ _ _ _ _ _ _ a.requires.1 a.requires.0 f.0 f.1 c.rank_of-at.ensures
+    ahead_some _ _ _ _ _ _ _ c.requires.1 c.requires.0 f.0 f.1 c.rank_of-at.ensures

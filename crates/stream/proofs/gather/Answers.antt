@@ -10,17 +10,15 @@ returns-then-bottom-head c = rw c.if-bottom-head.true
 
 pub flush-requires : goal.flush-requires
 flush-requires c =
-    let s = c in
     let p = c.push-more.ensures in
-    record { sized = s.requires.0.sized; cursor = s.requires.0.cursor; full = rw p (omega (arith, s.requires.1, s.requires.0.sized)); room = s.requires.0.room; count = s.requires.0.count; free = s.requires.0.free }
+    record { sized = c.requires.0.sized; cursor = c.requires.0.cursor; full = rw p (omega (arith, c.requires.1, c.requires.0.sized)); room = c.requires.0.room; count = c.requires.0.count; free = c.requires.0.free }
 
 pub returns-then-b-n : goal.returns-then-b-n
 unfolding gathered
 returns-then-b-n c =
-    let k = c in
-    let p = k.push-more.ensures in
-    let h = le-leb _ _ (rw p at k.if-b-n.true) in
-    c.flush.ensures ∙ rw (p, k.if-bottom-head.false, h)
+    let p = c.push-more.ensures in
+    let h = le-leb _ _ (rw p at c.if-b-n.true) in
+    c.flush.ensures ∙ rw (p, c.if-bottom-head.false, h)
 
 pub returns : goal.returns
 unfolding gathered

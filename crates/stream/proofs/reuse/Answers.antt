@@ -9,8 +9,7 @@ use Rattle.stream.proofs.reuse.Goals.{After-flush-v}
 -- the list has room for one more
 low : (c : After-flush-v) → c.flush-v.result.m < 4096
 low c =
-    let s = c in
-    rw (ap (λ (a : Memory). a.st.m) c.flush-v.ensures) (omega (arith, flushed_m s.args.z (record { words = s.args.s.now; used = s.args.used.now; out = s.args.out.now; st = s.args.st }), s.requires.1))
+    rw (ap (λ (a : Memory). a.st.m) c.flush-v.ensures) (omega (arith, flushed_m c.args.z (record { words = c.args.s.now; used = c.args.used.now; out = c.args.out.now; st = c.args.st }), c.requires.1))
 
 pub offset_bounds-out-m : goal.offset_bounds-out-m
 offset_bounds-out-m c = let h = low (goal.at.offset_bounds-out-m c).After-flush-v in omega arith

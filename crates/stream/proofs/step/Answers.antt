@@ -23,7 +23,7 @@ small c = rw c.last_size-e.ensures (last_low c.args.z c.args.s.now c.args.out.no
 either : (c : After-last_size-e) → (not c.peek-x.result.some && not c.peek-y.result.some) ≡ false
 either c =
     let a = c.args in
-    rw (head_none a.z a.t.pages a.s.now a.xs.now a.st.x.i a.st.x.j a.t.x, head_none a.z false a.s.now a.ys.now a.st.y.i a.st.y.j a.t.y, ← c.peek-x.ensures, ← c.peek-y.ensures) at c.requires.st_value
+    rw (head_none a.z a.t.pages a.s.now a.xs.now a.st.x.i a.st.x.j a.t.x, head_none a.z false a.s.now a.ys.now a.st.y.i a.st.y.j a.t.y, ← c.peek-x.ensures, ← c.peek-y.ensures) at c.requires.going
 
 pub choose-next-requires : goal.choose-next-requires
 choose-next-requires c =
@@ -59,7 +59,7 @@ emit-requires c =
     let m : Memory = record { words = a.s.now; used = a.used.now; out = a.out.now; st = a.st } in (
       k.movable,
       grows_head a.z a.t a.xs.now a.ys.now m _ (taken (goal.at.emit-requires c).After-run_on-run) (head_ok _ _ _ _ _ _ _ k.upper) (head_ok _ _ _ _ _ _ _ k.lower),
-      grows_runnable a.z a.t a.xs.now a.ys.now m _ (taken (goal.at.emit-requires c).After-run_on-run) k.movable.gatherable c.requires.st_value (standing _ _ _ _ a.st.x _ k.upper) (standing _ _ _ _ a.st.y _ k.lower),
+      grows_runnable a.z a.t a.xs.now a.ys.now m _ (taken (goal.at.emit-requires c).After-run_on-run) k.movable.gatherable c.requires.going (standing _ _ _ _ a.st.x _ k.upper) (standing _ _ _ _ a.st.y _ k.lower),
     )
 
 pub returns : goal.returns
@@ -67,4 +67,4 @@ returns c =
     let a = c.args in
     let m : Memory = record { words = a.s.now; used = a.used.now; out = a.out.now; st = a.st } in
     let r = c.run_on-run.result in
-    record { count = suc r.more; enough = omega arith; same = c.emit.ensures ∙ grows_turns a.z a.t a.xs.now a.ys.now m r (taken (goal.at.returns c).After-run_on-run) c.requires.ready.movable.gatherable.few c.requires.st_value }
+    record { count = suc r.more; enough = omega arith; same = c.emit.ensures ∙ grows_turns a.z a.t a.xs.now a.ys.now m r (taken (goal.at.returns c).After-run_on-run) c.requires.ready.movable.gatherable.few c.requires.going }

@@ -11,13 +11,13 @@ pub returns-then-xe-px : goal.returns-then-xe-px
 returns-then-xe-px c =
     let l = c.loop-k in
     let a = c.args in
-    turned_over a.z a.t a.xs.now a.ys.now a.limit (record { words = a.s.now; used = a.used.now; out = a.out.now; st = a.st }) c.requires.st_value l.k _ l.invariant.1.1 c.if-xe-px.true
+    turned_over a.z a.t a.xs.now a.ys.now a.limit (record { words = a.s.now; used = a.used.now; out = a.out.now; st = a.st }) c.requires.ends l.k _ l.invariant.1.1 c.if-xe-px.true
 
 pub step-v-requires : goal.step-v-requires
 step-v-requires c =
     let l = c.loop-k in
     let a = c.args in
-    record { ready = turned_ready a.z a.t a.xs.now a.ys.now a.limit (record { words = a.s.now; used = a.used.now; out = a.out.now; st = a.st }) c.requires.st_value l.k _ c.requires.by_index l.invariant.1.1 c.if-xe-px.false; st_value = c.if-xe-px.false }
+    record { ready = turned_ready a.z a.t a.xs.now a.ys.now a.limit (record { words = a.s.now; used = a.used.now; out = a.out.now; st = a.st }) c.requires.ends l.k _ c.requires.ready l.invariant.1.1 c.if-xe-px.false; going = c.if-xe-px.false }
 
 pub loop-k-preserved : goal.loop-k-preserved
 loop-k-preserved c =
@@ -30,4 +30,4 @@ returns c =
     let l = c.loop-k in
     let a = c.args in
     let n : l.k ≡ a.limit = omega arith in
-    turned_all a.z a.t a.xs.now a.ys.now a.limit (record { words = a.s.now; used = a.used.now; out = a.out.now; st = a.st }) c.requires.st_value _ (rw n at l.invariant.1.1)
+    turned_all a.z a.t a.xs.now a.ys.now a.limit (record { words = a.s.now; used = a.used.now; out = a.out.now; st = a.st }) c.requires.ends _ (rw n at l.invariant.1.1)

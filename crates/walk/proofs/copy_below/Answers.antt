@@ -16,52 +16,43 @@ pub smaller-room-requires : goal.smaller-room-requires
 smaller-room-requires c = tt
 
 pub loop-key-init : goal.loop-key-init
-loop-key-init c = let a = c in copies_start _ _ a.args.cur _ _ _ _ a.requires.0
+loop-key-init c = copies_start _ _ c.args.cur _ _ _ _ c.requires.0
 
 pub list_one-live-requires : goal.list_one-live-requires
 list_one-live-requires c =
     let i = c.loop-key.invariant in
-    let a = c in
-    let r = copies_in _ _ _ _ _ _ _ _ _ _ _ i (below (goal.at.list_one-live-requires c).After-list_one-arg-in-loop-key-1) a.requires.1.0 in
-    (r.0, (r.1.0, (r.1.1, omega (arith, i.counted, a.requires.1.1, skims_few _ _ _ _ _ _ a.requires.0 i.skims))))
+    let r = copies_in _ _ _ _ _ _ _ _ _ _ _ i (below (goal.at.list_one-live-requires c).After-list_one-arg-in-loop-key-1) c.requires.1.0 in
+    (r.0, (r.1.0, (r.1.1, omega (arith, i.counted, c.requires.1.1, skims_few _ _ _ _ _ _ c.requires.0 i.skims))))
 
 pub refill-further-requires : goal.refill-further-requires
 refill-further-requires c = let i = c.loop-key.invariant.skims.good in (i.formed, i.low)
 
 pub loop-key-smaller-then-count-le1 : goal.loop-key-smaller-then-count-le1
 loop-key-smaller-then-count-le1 c =
-    let k = c in
-    let l = k.list_one-live.ensures in
-    let a = k in
-    let i = k.loop-key.invariant in
-    shorter_last _ _ _ i.skims.good (copies_in _ _ _ _ _ _ _ _ _ _ _ i (below (goal.at.loop-key-smaller-then-count-le1 c).After-list_one-arg-in-loop-key-1) a.requires.1.0).0 _ c.if-count-le1.true c.refill-further.ensures.1
+    let l = c.list_one-live.ensures in
+    let i = c.loop-key.invariant in
+    shorter_last _ _ _ i.skims.good (copies_in _ _ _ _ _ _ _ _ _ _ _ i (below (goal.at.loop-key-smaller-then-count-le1 c).After-list_one-arg-in-loop-key-1) c.requires.1.0).0 _ c.if-count-le1.true c.refill-further.ensures.1
 
 pub loop-key-preserved-then-count-le1 : goal.loop-key-preserved-then-count-le1
 loop-key-preserved-then-count-le1 c =
-    let k = c in
-    let l = k.list_one-live.ensures in
-    let a = k in
-    let i = k.loop-key.invariant in
-    copies_last _ _ _ _ _ _ _ _ _ _ _ i (below (goal.at.loop-key-preserved-then-count-le1 c).After-list_one-arg-in-loop-key-1) a.requires.1.0 _ _ _ l.0 l.1.0 l.1.1 _ c.if-count-le1.true c.refill-further.ensures.0 c.refill-further.ensures.1
+    let l = c.list_one-live.ensures in
+    let i = c.loop-key.invariant in
+    copies_last _ _ _ _ _ _ _ _ _ _ _ i (below (goal.at.loop-key-preserved-then-count-le1 c).After-list_one-arg-in-loop-key-1) c.requires.1.0 _ _ _ l.0 l.1.0 l.1.1 _ c.if-count-le1.true c.refill-further.ensures.0 c.refill-further.ensures.1
 
 pub overflow_cast-key : goal.overflow_cast-key
 overflow_cast-key c = omega (arith, c.shared_slice_known-in-loop-key-1.given (c.loop-key.at + 1))
 
 pub loop-key-smaller : goal.loop-key-smaller
 loop-key-smaller c =
-    let k = c in
-    let l = k.list_one-live.ensures in
-    let a = k in
-    let i = k.loop-key.invariant in
-    shorter_step _ _ _ i.skims.good (copies_in _ _ _ _ _ _ _ _ _ _ _ i (below (goal.at.loop-key-smaller c).After-list_one-arg-in-loop-key-1) a.requires.1.0).0 _
+    let l = c.list_one-live.ensures in
+    let i = c.loop-key.invariant in
+    shorter_step _ _ _ i.skims.good (copies_in _ _ _ _ _ _ _ _ _ _ _ i (below (goal.at.loop-key-smaller c).After-list_one-arg-in-loop-key-1) c.requires.1.0).0 _
 
 pub loop-key-preserved : goal.loop-key-preserved
 loop-key-preserved c =
-    let k = c in
-    let l = k.list_one-live.ensures in
-    let a = k in
-    let i = k.loop-key.invariant in
-    copies_step _ _ _ _ _ _ _ _ _ _ _ i (below (goal.at.loop-key-preserved c).After-list_one-arg-in-loop-key-1) a.requires.1.0 _ _ _ l.0 l.1.0 l.1.1 _ c.if-count-le1.false refl (c.shared_slice_known-in-loop-key-1.given (k.loop-key.at + 1)).fits
+    let l = c.list_one-live.ensures in
+    let i = c.loop-key.invariant in
+    copies_step _ _ _ _ _ _ _ _ _ _ _ i (below (goal.at.loop-key-preserved c).After-list_one-arg-in-loop-key-1) c.requires.1.0 _ _ _ l.0 l.1.0 l.1.1 _ c.if-count-le1.false refl (c.shared_slice_known-in-loop-key-1.given (c.loop-key.at + 1)).fits
 
 pub cursor_at-cursor-requires : goal.cursor_at-cursor-requires
 cursor_at-cursor-requires c = tt

@@ -8,25 +8,20 @@ use Rattle.walk.proofs.cursor_from.Goals.{Else-count-slot}
 
 -- what is known where a record of the chunk is not below q
 room : (c : Else-count-slot)
-    → let t = c in
-    let a = t.args in
-    SlotRoom a.s.now t.chunk_at-chunk.result t.rank_of-at.result.below
+    → let a = c.args in
+    SlotRoom a.s.now c.chunk_at-chunk.result c.rank_of-at.result.below
 room c =
-    let t = c in
-    let a = t in
-    slot_room _ _ a.requires.0 _ _ t.seek_chunk-i.ensures _ t.chunk_at-chunk.ensures _ t.rank_of-at.ensures (omega (arith, c.if-count-slot.false))
+    slot_room _ _ c.requires.0 _ _ c.seek_chunk-i.ensures _ c.chunk_at-chunk.ensures _ c.rank_of-at.ensures (omega (arith, c.if-count-slot.false))
 
 pub returns-then-n-lt1 : goal.returns-then-n-lt1
 returns-then-n-lt1 c = from_none _ _ _ _ c.if-n-lt1.true c.requires.1 c.refill.ensures.0 c.refill.ensures.1
 
 pub rank_of-at-requires : goal.rank_of-at-requires
-rank_of-at-requires c = let a = c in let p = rank_ready _ _ a.requires.0 _ c.seek_chunk-i.ensures.inside _ c.chunk_at-chunk.ensures in (p.0, (p.1, a.requires.1))
+rank_of-at-requires c = let p = rank_ready _ _ c.requires.0 _ c.seek_chunk-i.ensures.inside _ c.chunk_at-chunk.ensures in (p.0, (p.1, c.requires.1))
 
 pub returns-then-count-slot : goal.returns-then-count-slot
 returns-then-count-slot c =
-    let t = c in
-    let a = t in
-    from_after _ _ a.requires.0 _ _ t.seek_chunk-i.ensures _ t.chunk_at-chunk.ensures _ t.rank_of-at.ensures _ (omega (arith, c.if-count-slot.true)) a.requires.1 c.refill-then-count-slot.ensures.0 c.refill-then-count-slot.ensures.1
+    from_after _ _ c.requires.0 _ _ c.seek_chunk-i.ensures _ c.chunk_at-chunk.ensures _ c.rank_of-at.ensures _ (omega (arith, c.if-count-slot.true)) c.requires.1 c.refill-then-count-slot.ensures.0 c.refill-then-count-slot.ensures.1
 
 pub overflow_add-keys : goal.overflow_add-keys
 overflow_add-keys c = omega (arith, (room (goal.at.overflow_add-keys c).Else-count-slot).key_in, (room (goal.at.overflow_add-keys c).Else-count-slot).short)
@@ -39,8 +34,7 @@ bounds-s-keys c = (room (goal.at.bounds-s-keys c).Else-count-slot).key_in
 
 pub overflow_cast-key : goal.overflow_cast-key
 overflow_cast-key c =
-    let t = c in
-    omega (arith, c.shared_slice_known-2-1.given (t.chunk_at-chunk.result.keys + t.rank_of-at.result.below))
+    omega (arith, c.shared_slice_known-2-1.given (c.chunk_at-chunk.result.keys + c.rank_of-at.result.below))
 
 pub overflow_cast-slot : goal.overflow_cast-slot
 overflow_cast-slot c = omega (arith, (room (goal.at.overflow_cast-slot c).Else-count-slot).low)
@@ -53,8 +47,6 @@ overflow_add-chunk c = let p = room (goal.at.overflow_add-chunk c).Else-count-sl
 
 pub returns : goal.returns
 returns c =
-    let t = c in
-    let a = t in
     rw c.cursor_at.ensures
-    (from_slot _ _ a.requires.0 _ _ t.seek_chunk-i.ensures _ t.chunk_at-chunk.ensures _ t.rank_of-at.ensures _ (omega (arith, c.if-count-slot.false)) refl
-    (c.shared_slice_known-2-1.given (t.chunk_at-chunk.result.keys + t.rank_of-at.result.below)).fits)
+    (from_slot _ _ c.requires.0 _ _ c.seek_chunk-i.ensures _ c.chunk_at-chunk.ensures _ c.rank_of-at.ensures _ (omega (arith, c.if-count-slot.false)) refl
+    (c.shared_slice_known-2-1.given (c.chunk_at-chunk.result.keys + c.rank_of-at.result.below)).fits)

@@ -4,7 +4,7 @@ use Rattle.walk.proofs.Ends.{walked_few, walked_stretch}
 use Rattle.walk.proofs.list_stretch.Goals as goal
 
 pub enter-from-requires : goal.enter-from-requires
-enter-from-requires c = let a = c in (c.deepest_last-l.ensures.formed _ a.requires.0, omega (arith, a.requires.1.0))
+enter-from-requires c = (c.deepest_last-l.ensures.formed _ c.requires.0, omega (arith, c.requires.1.0))
 
 pub returns : goal.returns
 returns c =

@@ -14,8 +14,7 @@ at_least : (c : After-smaller-k)
     let l = c.loop-d0 in
     Passing a.s.now a.l a.from a.stop a.keys.now a.pays.now (record { c0 = l.c0; c1 = l.c1; c2 = l.c2; c3 = l.c3 }) p.result.cursor p.result.live p.new.keys p.new.pays c.smaller-k.result
 at_least c =
-    let k = c in
-    passing _ _ _ _ _ _ k.requires.0 _ _ _ _ k.loop-d0.invariant _ _ _ c.smaller.ensures c.smaller-in-loop-d0.ensures c.smaller-bound.ensures _ _ _ _ c.copy_below-passed.ensures _ c.smaller-k.ensures
+    passing _ _ _ _ _ _ c.requires.0 _ _ _ _ c.loop-d0.invariant _ _ _ c.smaller.ensures c.smaller-in-loop-d0.ensures c.smaller-bound.ensures _ _ _ _ c.copy_below-passed.ensures _ c.smaller-k.ensures
 
 -- and where it is below `stop` it is a key
 key_in : (c : After-smaller-k) → c.smaller-k.result < c.args.stop → c.smaller-k.result < 4294967296
@@ -35,9 +34,7 @@ smaller-bound-requires c = tt
 
 pub copy_below-passed-requires : goal.copy_below-passed-requires
 copy_below-passed-requires c =
-    let k = c in
-    let a = k in
-    (k.loop-d0.invariant.abreast.good3, (bound_high _ _ _ _ _ _ a.requires.0 _ _ _ _ k.loop-d0.invariant _ _ _ c.smaller.ensures c.smaller-in-loop-d0.ensures c.smaller-bound.ensures a.requires.1, walking_few _ _ _ _ _ _ a.requires.0 _ _ _ _ k.loop-d0.invariant))
+    (c.loop-d0.invariant.abreast.good3, (bound_high _ _ _ _ _ _ c.requires.0 _ _ _ _ c.loop-d0.invariant _ _ _ c.smaller.ensures c.smaller-in-loop-d0.ensures c.smaller-bound.ensures c.requires.1, walking_few _ _ _ _ _ _ c.requires.0 _ _ _ _ c.loop-d0.invariant))
 
 pub smaller-k-requires : goal.smaller-k-requires
 smaller-k-requires c = tt
@@ -68,23 +65,22 @@ upper-chunk-requires c = tt
 
 pub list_one-n-requires : goal.list_one-n-requires
 list_one-n-requires c =
-    let a = c in
     let p = at_least (goal.at.list_one-n-requires c).After-smaller-k in
     let s = c.if-stop-k.false in
     let g = p.walking.abreast in
-    (key_in (goal.at.list_one-n-requires c).After-smaller-k s, (upper_pay_in _ _ _ g _ (p.nearest.least s) (key_in (goal.at.list_one-n-requires c).After-smaller-k s) _ c.upper-chunk.ensures, (g.good0.formed.within.short, omega (arith, walking_few _ _ _ _ _ _ a.requires.0 _ _ _ _ p.walking))))
+    (key_in (goal.at.list_one-n-requires c).After-smaller-k s, (upper_pay_in _ _ _ g _ (p.nearest.least s) (key_in (goal.at.list_one-n-requires c).After-smaller-k s) _ c.upper-chunk.ensures, (g.good0.formed.within.short, omega (arith, walking_few _ _ _ _ _ _ c.requires.0 _ _ _ _ p.walking))))
 
 pub step-c0-requires : goal.step-c0-requires
-step-c0-requires c = let k = c in ((at_least (goal.at.step-c0-requires c).After-smaller-k).walking.abreast.good0, key_in (goal.at.step-c0-requires c).After-smaller-k c.if-stop-k.false)
+step-c0-requires c = ((at_least (goal.at.step-c0-requires c).After-smaller-k).walking.abreast.good0, key_in (goal.at.step-c0-requires c).After-smaller-k c.if-stop-k.false)
 
 pub step-c1-requires : goal.step-c1-requires
-step-c1-requires c = let k = c in ((at_least (goal.at.step-c1-requires c).After-smaller-k).walking.abreast.good1, key_in (goal.at.step-c1-requires c).After-smaller-k c.if-stop-k.false)
+step-c1-requires c = ((at_least (goal.at.step-c1-requires c).After-smaller-k).walking.abreast.good1, key_in (goal.at.step-c1-requires c).After-smaller-k c.if-stop-k.false)
 
 pub step-c2-requires : goal.step-c2-requires
-step-c2-requires c = let k = c in ((at_least (goal.at.step-c2-requires c).After-smaller-k).walking.abreast.good2, key_in (goal.at.step-c2-requires c).After-smaller-k c.if-stop-k.false)
+step-c2-requires c = ((at_least (goal.at.step-c2-requires c).After-smaller-k).walking.abreast.good2, key_in (goal.at.step-c2-requires c).After-smaller-k c.if-stop-k.false)
 
 pub step-c3-requires : goal.step-c3-requires
-step-c3-requires c = let k = c in ((at_least (goal.at.step-c3-requires c).After-smaller-k).walking.abreast.good3, key_in (goal.at.step-c3-requires c).After-smaller-k c.if-stop-k.false)
+step-c3-requires c = ((at_least (goal.at.step-c3-requires c).After-smaller-k).walking.abreast.good3, key_in (goal.at.step-c3-requires c).After-smaller-k c.if-stop-k.false)
 
 -- what a turn leaves
 turned : (c : After-step-c3)
@@ -99,10 +95,8 @@ turned c =
     let at_least_here : (let a = c.args in
     let p = c.copy_below-passed in
     let l = c.loop-d0 in
-    Passing a.s.now a.l a.from a.stop a.keys.now a.pays.now (record { c0 = l.c0; c1 = l.c1; c2 = l.c2; c3 = l.c3 }) p.result.cursor p.result.live p.new.keys p.new.pays c.smaller-k.result) = (let k = c in
-    passing _ _ _ _ _ _ k.requires.0 _ _ _ _ k.loop-d0.invariant _ _ _ c.smaller.ensures c.smaller-in-loop-d0.ensures c.smaller-bound.ensures _ _ _ _ c.copy_below-passed.ensures _ c.smaller-k.ensures) in
+    Passing a.s.now a.l a.from a.stop a.keys.now a.pays.now (record { c0 = l.c0; c1 = l.c1; c2 = l.c2; c3 = l.c3 }) p.result.cursor p.result.live p.new.keys p.new.pays c.smaller-k.result) = (passing _ _ _ _ _ _ c.requires.0 _ _ _ _ c.loop-d0.invariant _ _ _ c.smaller.ensures c.smaller-in-loop-d0.ensures c.smaller-bound.ensures _ _ _ _ c.copy_below-passed.ensures _ c.smaller-k.ensures) in
     let key_in_here : (c.smaller-k.result < c.args.stop → c.smaller-k.result < 4294967296) = (λ h. omega (arith, c.requires.1)) in
-    let k = c in
     let p = at_least_here in
     let s = c.if-stop-k.false in
     let o = c.list_one-n.ensures in
@@ -110,7 +104,7 @@ turned c =
     let r1 = c.step-c1.ensures in
     let r2 = c.step-c2.ensures in
     let r3 = c.step-c3.ensures in
-    walking_turn _ _ _ _ _ _ k.requires.0 _ _ _ _ p.walking _ (p.nearest.least s) (key_in_here s) s _ c.upper-chunk.ensures _ _ _ o.0 o.1.0 o.1.1 _ (record { good0 = r0.0; good1 = r1.0; good2 = r2.0; good3 = r3.0 }) r0.1 r1.1 r2.1 r3.1
+    walking_turn _ _ _ _ _ _ c.requires.0 _ _ _ _ p.walking _ (p.nearest.least s) (key_in_here s) s _ c.upper-chunk.ensures _ _ _ o.0 o.1.0 o.1.1 _ (record { good0 = r0.0; good1 = r1.0; good2 = r2.0; good3 = r3.0 }) r0.1 r1.1 r2.1 r3.1
 
 pub loop-d0-smaller : goal.loop-d0-smaller
 loop-d0-smaller c = omega (arith, (at_least (goal.at.loop-d0-smaller c).After-smaller-k).shorter, (turned (goal.at.loop-d0-smaller c).After-step-c3).1)

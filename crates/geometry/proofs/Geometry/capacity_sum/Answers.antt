@@ -15,10 +15,9 @@ capacity-sum-requires c = (c.requires.0, omega arith)
 
 pub overflow_add-sum : goal.overflow_add-sum
 overflow_add-sum c =
-    let a = c in
     let i = c.loop-i.i in
     omega
-    (arith, capacity_sum_high _ a.requires.0 a.args.first i (omega arith), capacity_high _ a.requires.0 {i = a.args.first + i} (omega arith))
+    (arith, capacity_sum_high _ c.requires.0 c.args.first i (omega arith), capacity_high _ c.requires.0 {i = c.args.first + i} (omega arith))
 
 pub loop-i-preserved : goal.loop-i-preserved
 unfolding capacity_sum
