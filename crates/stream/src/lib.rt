@@ -184,19 +184,12 @@ fn choose(s: &[u32], z: Offsets, bottom: bool, st: Progress, x: Head, y: Head, e
     }
 }
 
-// The smaller of two numbers.
-fn fewer(x: usize, y: usize) -> usize
-    ensures { (result ≤ x) × (result ≤ y) }
-{
-    if y < x { y } else { x }
-}
-
 // How many records of a's block after record j come before the other side's next, `room` at most.
 fn ahead(s: &[u32], a: Head, j: usize, other: Head, room: usize) -> usize
     requires { (j < a.n) × Searchable s.now a }
     ensures { Ahead s.now a other j room result }
 {
-    let left = fewer(a.n - j - 1, room);
+    let left = (a.n - j - 1).min(room);
     if !other.some {
         return left;
     }

@@ -1,5 +1,5 @@
 use mathlib.Core.Path.{◌∙◌}
-use Rattle.stream.specs.Machine.{Movable, emitted_run}
+use Rattle.stream.specs.Machine.{emitted_run}
 use Rattle.stream.proofs.Laws.{moved_movable}
 use Rattle.stream.proofs.Taking.{moved_runnable}
 use Rattle.stream.proofs.Desk.emit.Goals as goal
