@@ -1,9 +1,6 @@
 use Prim.Native.Nat.{◌-◌}
-use borrow.Author.Rules.{rules}
 use native.Mathlib.Omega.{arith}
 use mathlib.Core.Path.{◌≡◌, ◌∙◌}
-use Rattle.slices.specs.Slices.{put_at}
-use lib.ListN.{length, take, drop}
 use Rattle.joins.specs.Joins.{rested_out}
 use Rattle.joins.proofs.Laws.{rested_put}
 use Rattle.merging.proofs.Merge.{ready, ended, closing, leaves_in}
