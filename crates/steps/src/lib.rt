@@ -15,6 +15,7 @@ use geometry::Geometry;
 use layout::Layout;
 use levels::Ticket;
 use pair::Lengths;
+use stream::Desk;
 
 // Of one level: merges into it, blocks written by them, blocks written compacting it.
 #[derive(Clone, Copy)]
@@ -152,13 +153,12 @@ fn compact_level(
     if !compaction::needs_compacting(s, list, z) {
         return r;
     }
-    let mut used = [false; Geometry::MAX_P];
-    marks(&mut used, lists, h, ns);
-    let mut out = [0u32; Geometry::LIST_ROOM];
+    let mut desk = Desk::new();
+    marks(&mut desk.used, lists, h, ns);
     let old = lists::entries(lists, h, level, n);
-    let m = compaction::compact(s, &mut used, &mut out, old, z, r.cursor);
+    let m = compaction::compact(s, &mut desk, old, z, r.cursor);
     let at = lists::start_of(h, level);
-    slices::copy(&out, 0, m.count, lists, at);
+    slices::copy(&desk.out, 0, m.count, lists, at);
     let counts = Counts {
         merges: 0,
         written: 0,
@@ -176,20 +176,20 @@ fn compact_level(
 // A merge from a listed level to the next without its step 5.
 fn merge_two(
     s: &mut [u32],
-    used: &mut [bool; Geometry::MAX_P],
+    desk: &mut Desk,
     lists: &mut [u32; Geometry::LIST_ROOM],
     z: Layout,
     level: usize,
     r: Run,
 ) -> Ticketed
-    requires { StepReady counts_most z s.old lists.old level r × (Marking used.old (store_of z s.old lists.old r) × (1 ≤ level)) }
+    requires { StepReady counts_most z s.old lists.old level r × (Marking desk.old.used (store_of z s.old lists.old r) × (1 ≤ level)) }
     ensures { LevelMerged z level s.old lists.old r s.new lists.new result }
 {
     let ns = r.ns;
     let above = ns[level - 1];
     let under = ns[level];
     let lengths = Lengths { above, under };
-    let m = pair::merge_pair(s, used, lists, z, level, lengths, r.cursor);
+    let m = pair::merge_pair(s, desk, lists, z, level, lengths, r.cursor);
     let counts = Counts {
         merges: 1,
         written: m.writes,
@@ -211,17 +211,17 @@ fn merge_two(
 // A merge out of level 0, which is full, without its step 5.
 fn merge_top(
     s: &mut [u32],
-    used: &mut [bool; Geometry::MAX_P],
+    desk: &mut Desk,
     lists: &mut [u32; Geometry::LIST_ROOM],
     z: Layout,
     r: Run,
 ) -> Ticketed
-    requires { StepReady counts_most z s.old lists.old 0 r × Marking used.old (store_of z s.old lists.old r) }
+    requires { StepReady counts_most z s.old lists.old 0 r × Marking desk.old.used (store_of z s.old lists.old r) }
     ensures { LevelMerged z 0 s.old lists.old r s.new lists.new result }
 {
     let ns = r.ns;
     let n = ns[0];
-    let m = pair::merge_pages(s, used, lists, z, n, r.cursor);
+    let m = pair::merge_pages(s, desk, lists, z, n, r.cursor);
     let g = z.geo;
     let w = g.window(0);
     top::close_gap(s, z, m.first, w);
@@ -258,10 +258,10 @@ pub fn merge_step(
     let ns = r.ns;
     let g = z.geo;
     let h = g.levels();
-    let mut used = [false; Geometry::MAX_P];
-    marks(&mut used, lists, h, ns);
+    let mut desk = Desk::new();
+    marks(&mut desk.used, lists, h, ns);
     if level == 0 {
-        let merged = merge_top(s, &mut used, lists, z, r);
+        let merged = merge_top(s, &mut desk, lists, z, r);
         let a = merged.run;
         let ticket = merged.ticket;
         return Ticketed {
@@ -269,7 +269,7 @@ pub fn merge_step(
             ticket: ticket,
         };
     }
-    let merged = merge_two(s, &mut used, lists, z, level, r);
+    let merged = merge_two(s, &mut desk, lists, z, level, r);
     let a = merged.run;
     let ticket = merged.ticket;
     let next = compact_level(s, lists, z, level, a);

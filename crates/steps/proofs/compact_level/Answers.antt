@@ -26,7 +26,7 @@ pub compact-m-requires : goal.compact-m-requires
 compact-m-requires c =
     let p = c.requires in
     let h = rw c.entries-list.ensures at (sym c.needs_compacting.ensures ∙ c.if-not-needs_compacting.false) in
-    (rw c.entries-old.ensures (list_asks _ _ _ _ p.0 (c.args.level - 1) _ _ (omega (arith, p.1.0)) p.1.1 c.levels-h.ensures h c.marks.new.used c.marks.ensures), refl)
+    rw c.entries-old.ensures (list_asks _ _ _ _ p.0 (c.args.level - 1) _ _ (omega (arith, p.1.0)) p.1.1 c.levels-h.ensures h c.marks.new.used c.marks.ensures)
 
 pub start_of-at-requires : goal.start_of-at-requires
 start_of-at-requires c = let e = c.levels-h.ensures in (omega (arith, e, c.requires.1.1), omega (arith, e, c.requires.0.proper.valid.ranged.h_high))

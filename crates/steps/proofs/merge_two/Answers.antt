@@ -24,7 +24,7 @@ overflow_add-level c = let k = c.requires.0 in omega (arith, level_low _ _ _ _ k
 
 pub count-more-requires : goal.count-more-requires
 count-more-requires c =
-    let w = two_few _ _ _ _ _ c.requires.0 c.args.used.now c.requires.1.0 (c.args.level - 1) (omega (arith, c.requires.1.1)) _ _ _ _ c.merge_pair-m.ensures in
+    let w = two_few _ _ _ _ _ c.requires.0 c.args.desk.now.used c.requires.1.0 (c.args.level - 1) (omega (arith, c.requires.1.1)) _ _ _ _ c.merge_pair-m.ensures in
     (c.requires.0.small, record { merges = omega arith; written = w; compacted = omega arith })
 
 pub relist-upper-requires : goal.relist-upper-requires
@@ -34,7 +34,7 @@ pub relist-requires : goal.relist-requires
 relist-requires c = let k = c.requires.0 in omega (arith, level_low _ _ _ _ k.proper k.facts, k.proper.valid.ranged.h_high)
 
 pub ticket-requires : goal.ticket-requires
-ticket-requires c = two_words _ _ _ _ _ c.requires.0 c.args.used.now c.requires.1.0 (c.args.level - 1) (omega (arith, c.requires.1.1)) _ _ _ _ c.merge_pair-m.ensures
+ticket-requires c = two_words _ _ _ _ _ c.requires.0 c.args.desk.now.used c.requires.1.0 (c.args.level - 1) (omega (arith, c.requires.1.1)) _ _ _ _ c.merge_pair-m.ensures
 
 pub returns : goal.returns
-returns c = two_merged _ _ _ _ _ c.requires.0 c.args.used.now c.requires.1.0 (c.args.level - 1) (omega (arith, c.requires.1.1)) _ _ _ _ c.merge_pair-m.ensures _ _ _ _ c.count-more.ensures (c.relist.ensures ∙ rw c.relist-upper.ensures) c.ticket.ensures refl
+returns c = two_merged _ _ _ _ _ c.requires.0 c.args.desk.now.used c.requires.1.0 (c.args.level - 1) (omega (arith, c.requires.1.1)) _ _ _ _ c.merge_pair-m.ensures _ _ _ _ c.count-more.ensures (c.relist.ensures ∙ rw c.relist-upper.ensures) c.ticket.ensures refl
