@@ -30,6 +30,7 @@ pub struct Progress {
 
 // What a merge works at besides the words: the marks of the places in use, the list that it builds, and where it stands. It is
 // large, so it is made once for a merge and lent.
+#[derive(Drop)]
 pub struct Desk {
     pub used: [bool; blocks::PLACES],
     pub out: [u32; blocks::LIST_ROOM],
