@@ -9,6 +9,7 @@ use Rattle.sides.specs.declared.Head.{Head}
 use Rattle.sides.specs.Sides.{Readable, Searchable, HeadOk, head_of, last_size, first, follows}
 use Rattle.stream.specs.declared.Point.{Point}
 use Rattle.stream.specs.declared.Progress.{Progress}
+use Rattle.stream.specs.declared.Desk.{Desk}
 use Rattle.stream.specs.declared.Move.{Move}
 use Rattle.stream.specs.declared.Run.{Run}
 use Rattle.stream.specs.declared.Inputs.{Inputs}
@@ -19,6 +20,10 @@ pub record Memory : Type 0 where
   pub used : List Bool
   pub out : List ℕ
   pub st : Progress
+
+-- the words, and the desk that a merge works at
+abbrev pub memory : List ℕ → Desk → Memory
+memory ws d = record { words = ws; used = d.used; out = d.out; st = d.st }
 
 -- a buffer can be written
 pub record Flushable (z : Offsets) (xs : List ℕ) (used : List Bool) (w : Progress) : Type 0 where

@@ -4,7 +4,7 @@
 ghost use Rattle.std.specs.Prelude.{◌≡◌, true, false, ℕ, ◌+◌, ◌-◌, ◌≤◌, ◌<◌};
 ghost use Rattle.blocks.specs.Room.{places_most, list_room};
 ghost use Rattle.sides.specs.Sides.{HeadOk, Searchable};
-ghost use Rattle.stream.specs.Machine.{Memory, Flushable, Gatherable, Movable, Choosable, Standing, Runnable, Ahead, Grows, Ready, Turned, flushed, reused, gathered, gathered_run, point_after, moved_to, chosen, emitted_run, turns, idle};
+ghost use Rattle.stream.specs.Machine.{memory, Flushable, Gatherable, Movable, Choosable, Standing, Runnable, Ahead, Grows, Ready, Turned, flushed, reused, gathered, gathered_run, point_after, chosen, emitted_run, turns, idle};
 
 use blocks::{Buffer, Offsets};
 use sides::Head;
@@ -26,6 +26,14 @@ pub struct Progress {
     pub writes: usize,
     pub cursor: usize,
     pub buf: Buffer,
+}
+
+// What a merge works at besides the words: the marks of the places in use, the list that it builds, and where it stands. It is
+// large, so it is made once for a merge and lent.
+pub struct Desk {
+    pub used: [bool; blocks::PLACES],
+    pub out: [u32; blocks::LIST_ROOM],
+    pub st: Progress,
 }
 
 // What a step does: where X and Y stand then, the record that comes, and whether its whole block
@@ -56,82 +64,54 @@ pub struct Inputs {
     pub bottom: bool,
 }
 
-// A buffer that is not empty is written at the first free place after the cursor, and listed.
-pub fn flush(
-    s: &mut [u32],
-    used: &mut [bool; blocks::PLACES],
-    out: &mut [u32; blocks::LIST_ROOM],
-    z: Offsets,
-    st: Progress,
-) -> Progress
-    requires { Flushable z s.old used.old st }
-    ensures { ◌≡◌ {A = Memory} (record { words = s.new; used = used.new; out = out.new; st = result }) (flushed z (record { words = s.old; used = used.old; out = out.old; st = st })) }
-{
-    let buf = st.buf;
-    let n = buf.n;
-    if n == 0 {
-        return st;
+impl Desk {
+    // A buffer that is not empty is written at the first free place after the cursor, and listed.
+    pub fn flush(&mut self, s: &mut [u32], z: Offsets)
+        requires { Flushable z s.old self.old.used self.old.st }
+        ensures { memory s.new self.new ≡ flushed z (memory s.old self.old) }
+    {
+        let buf = self.st.buf;
+        let n = buf.n;
+        if n == 0 {
+            return;
+        }
+        let m = self.st.m;
+        let q = blocks::first_free(&self.used, z.p, self.st.cursor);
+        self.used[q] = true;
+        blocks::write_block(s, z, q, buf);
+        self.out[m] = q as u32;
+        self.st.m = m + 1;
+        self.st.writes = self.st.writes + 1;
+        self.st.cursor = q;
+        self.st.buf = blocks::empty();
     }
-    let m = st.m;
-    let p = z.p;
-    let cursor = st.cursor;
-    let q = blocks::first_free(used, p, cursor);
-    used[q] = true;
-    blocks::write_block(s, z, q, buf);
-    out[m] = q as u32;
-    let mut v = st;
-    v.m = m + 1;
-    v.writes = st.writes + 1;
-    v.cursor = q;
-    v.buf = blocks::empty();
-    v
-}
 
-// The buffer is written, and the block at place q follows as it stands.
-fn reuse(
-    s: &mut [u32],
-    used: &mut [bool; blocks::PLACES],
-    out: &mut [u32; blocks::LIST_ROOM],
-    z: Offsets,
-    st: Progress,
-    q: usize,
-) -> Progress
-    requires { Flushable z s.old used.old st × (st.m + 2 ≤ list_room) × (q < places_most) }
-    ensures { ◌≡◌ {A = Memory} (record { words = s.new; used = used.new; out = out.new; st = result }) (reused z (record { words = s.old; used = used.old; out = out.old; st = st }) q) }
-{
-    let mut v = flush(s, used, out, z, st);
-    let m = v.m;
-    out[m] = q as u32;
-    v.m = m + 1;
-    v
-}
+    // The buffer is written, and the block at place q follows as it stands.
+    fn reuse(&mut self, s: &mut [u32], z: Offsets, q: usize)
+        requires { Flushable z s.old self.old.used self.old.st × (self.old.st.m + 2 ≤ list_room) × (q < places_most) }
+        ensures { memory s.new self.new ≡ reused z (memory s.old self.old) q }
+    {
+        self.flush(s, z);
+        let m = self.st.m;
+        self.out[m] = q as u32;
+        self.st.m = m + 1;
+    }
 
-// One record into the buffer, which is written when it has B; the last level drops tombstones.
-pub fn gather(
-    s: &mut [u32],
-    used: &mut [bool; blocks::PLACES],
-    out: &mut [u32; blocks::LIST_ROOM],
-    z: Offsets,
-    bottom: bool,
-    st: Progress,
-    head: Head,
-) -> Progress
-    requires { Flushable z s.old used.old st × Gatherable z st × (head.tombstone < 2) }
-    ensures { ◌≡◌ {A = Memory} (record { words = s.new; used = used.new; out = out.new; st = result }) (gathered z bottom (record { words = s.old; used = used.old; out = out.old; st = st }) head) }
-{
-    if bottom & (head.tombstone == 1) {
-        return st;
+    // One record into the buffer, which is written when it has B; the last level drops tombstones.
+    pub fn gather(&mut self, s: &mut [u32], z: Offsets, bottom: bool, head: Head)
+        requires { Flushable z s.old self.old.used self.old.st × Gatherable z self.old.st × (head.tombstone < 2) }
+        ensures { memory s.new self.new ≡ gathered z bottom (memory s.old self.old) head }
+    {
+        if bottom & (head.tombstone == 1) {
+            return;
+        }
+        let buf = self.st.buf;
+        let more = buf.push(head.key, head.tombstone, head.pay);
+        self.st.buf = more;
+        if z.b <= more.n {
+            self.flush(s, z);
+        }
     }
-    let buf = st.buf;
-    let more = buf.push(head.key, head.tombstone, head.pay);
-    let n = more.n;
-    let b = z.b;
-    let mut v = st;
-    v.buf = more;
-    if b <= n {
-        return flush(s, used, out, z, v);
-    }
-    v
 }
 
 impl Point {
@@ -161,17 +141,6 @@ impl Move {
             from: from,
             more: more,
         }
-    }
-}
-
-impl Progress {
-    // The same, with X and Y further on.
-    fn moved(mut self, x: Point, y: Point) -> Progress
-        ensures { result ≡ moved_to self x y }
-    {
-        self.x = x;
-        self.y = y;
-        self
     }
 }
 
@@ -215,19 +184,12 @@ fn choose(s: &[u32], z: Offsets, bottom: bool, st: Progress, x: Head, y: Head, e
     }
 }
 
-// The smaller of two numbers.
-fn fewer(x: usize, y: usize) -> usize
-    ensures { (result ≤ x) × (result ≤ y) }
-{
-    if y < x { y } else { x }
-}
-
 // How many records of a's block after record j come before the other side's next, `room` at most.
 fn ahead(s: &[u32], a: Head, j: usize, other: Head, room: usize) -> usize
     requires { (j < a.n) × Searchable s.now a }
     ensures { Ahead s.now a other j room result }
 {
-    let left = fewer(a.n - j - 1, room);
+    let left = (a.n - j - 1).min(room);
     if !other.some {
         return left;
     }
@@ -269,126 +231,104 @@ fn run_on(s: &[u32], z: Offsets, st: Progress, next: Move, x: Head, y: Head) -> 
     m.run(px.j, 0)
 }
 
-// The records of a run into the buffer, which is written when it has B; the last level drops tombstones.
-fn gather_run(
-    s: &mut [u32],
-    used: &mut [bool; blocks::PLACES],
-    out: &mut [u32; blocks::LIST_ROOM],
-    z: Offsets,
-    bottom: bool,
-    st: Progress,
-    run: Run,
-) -> Progress
-    requires { Flushable z s.old used.old st × Runnable z s.old st run }
-    ensures { ◌≡◌ {A = Memory} (record { words = s.new; used = used.new; out = out.new; st = result }) (gathered_run z bottom (record { words = s.old; used = used.old; out = out.old; st = st }) run) }
-{
-    let mut buf = st.buf;
-    let next = run.next;
-    let head = next.head;
-    let from = run.from;
-    let end = run.more + 1;
-    for k in 0..end {
-        let i = from + k;
-        let t = (head.marks >> i) % 2;
-        if !(bottom & (t == 1)) {
-            let n = buf.n;
-            buf.keys[n] = s[head.keys + i];
-            buf.pays[n] = s[head.pays + i];
-            buf.marks = buf.marks + (t << n);
-            buf.n = n + 1;
+impl Desk {
+    // The records of a run into the buffer, which is written when it has B; the last level drops tombstones.
+    fn gather_run(&mut self, s: &mut [u32], z: Offsets, bottom: bool, run: Run)
+        requires { Flushable z s.old self.old.used self.old.st × Runnable z s.old self.old.st run }
+        ensures { memory s.new self.new ≡ gathered_run z bottom (memory s.old self.old) run }
+    {
+        let mut buf = self.st.buf;
+        let next = run.next;
+        let head = next.head;
+        let from = run.from;
+        let end = run.more + 1;
+        for k in 0..end {
+            let i = from + k;
+            let t = (head.marks >> i) % 2;
+            if !(bottom & (t == 1)) {
+                let n = buf.n;
+                buf.keys[n] = s[head.keys + i];
+                buf.pays[n] = s[head.pays + i];
+                buf.marks = buf.marks + (t << n);
+                buf.n = n + 1;
+            }
+        }
+        let n = buf.n;
+        self.st.buf = buf;
+        if z.b <= n {
+            self.flush(s, z);
         }
     }
-    let n = buf.n;
-    let mut v = st;
-    v.buf = buf;
-    if z.b <= n {
-        return flush(s, used, out, z, v);
-    }
-    v
-}
 
-// The sides move on, and the block follows as it stands, or its next records are gathered. A step
-// calls this at one place only, so that it is compiled into the loop.
-fn emit(
-    s: &mut [u32],
-    used: &mut [bool; blocks::PLACES],
-    out: &mut [u32; blocks::LIST_ROOM],
-    z: Offsets,
-    bottom: bool,
-    st: Progress,
-    run: Run,
-) -> Progress
-    requires { Movable z s.old used.old st × HeadOk run.next.head × (run.next.whole ≡ false → Runnable z s.old st run) }
-    ensures { ◌≡◌ {A = Memory} (record { words = s.new; used = used.new; out = out.new; st = result }) (emitted_run z bottom (record { words = s.old; used = used.old; out = out.old; st = st }) run) }
-{
-    let next = run.next;
-    let x = next.x;
-    let y = next.y;
-    let head = next.head;
-    let v = st.moved(x, y);
-    if next.whole {
-        let q = head.place;
-        return reuse(s, used, out, z, v, q);
-    }
-    gather_run(s, used, out, z, bottom, v, run)
-}
-
-// One step of the merge: the block that stands next is reused, or its next records are gathered in one go; of equal keys the upper record stands alone.
-pub fn step(
-    s: &mut [u32],
-    used: &mut [bool; blocks::PLACES],
-    out: &mut [u32; blocks::LIST_ROOM],
-    xs: &[u32; blocks::LIST_ROOM],
-    ys: &[u32; blocks::LIST_ROOM],
-    z: Offsets,
-    t: Inputs,
-    st: Progress,
-) -> Progress
-    requires ready { Ready z t xs.now ys.now (record { words = s.old; used = used.old; out = out.old; st = st }) }
-    requires going { idle z t xs.now ys.now (record { words = s.old; used = used.old; out = out.old; st = st }) ≡ false }
-    ensures { Turned z t xs.now ys.now 1 (record { words = s.old; used = used.old; out = out.old; st = st }) (record { words = s.new; used = used.new; out = out.new; st = result }) }
-{
-    let px = st.x;
-    let py = st.y;
-    let xe = t.x;
-    let ye = t.y;
-    let pages = t.pages;
-    let bottom = t.bottom;
-    let x = sides::peek(s, z, pages, xs, px.i, px.j, xe);
-    let y = sides::peek(s, z, false, ys, py.i, py.j, ye);
-    let m = st.m;
-    let e = sides::last_size(s, z, out, m);
-    let next = choose(s, z, bottom, st, x, y, e);
-    let run = run_on(s, z, st, next, x, y);
-    emit(s, used, out, z, bottom, st, run)
-}
-
-// The merge of the two sides, in at most `limit` steps.
-pub fn stream(
-    s: &mut [u32],
-    used: &mut [bool; blocks::PLACES],
-    out: &mut [u32; blocks::LIST_ROOM],
-    xs: &[u32; blocks::LIST_ROOM],
-    ys: &[u32; blocks::LIST_ROOM],
-    z: Offsets,
-    t: Inputs,
-    st: Progress,
-    limit: usize,
-) -> Progress
-    requires ready { (i : ℕ) → i ≤ limit → Ready z t xs.now ys.now (turns z t xs.now ys.now i (record { words = s.old; used = used.old; out = out.old; st = st })) }
-    requires ends { idle z t xs.now ys.now (turns z t xs.now ys.now limit (record { words = s.old; used = used.old; out = out.old; st = st })) ≡ true }
-    ensures { ◌≡◌ {A = Memory} (record { words = s.new; used = used.new; out = out.new; st = result }) (turns z t xs.now ys.now limit (record { words = s.old; used = used.old; out = out.old; st = st })) }
-{
-    let mut v = st;
-    let xe = t.x;
-    let ye = t.y;
-    for k in 0..limit {
-        let px = v.x;
-        let py = v.y;
-        if (xe <= px.i) & (ye <= py.i) {
-            return v;
+    // The sides move on, and the block follows as it stands, or its next records are gathered. A step
+    // calls this at one place only, so that it is compiled into the loop.
+    fn emit(&mut self, s: &mut [u32], z: Offsets, bottom: bool, run: Run)
+        requires { Movable z s.old self.old.used self.old.st × HeadOk run.next.head × (run.next.whole ≡ false → Runnable z s.old self.old.st run) }
+        ensures { memory s.new self.new ≡ emitted_run z bottom (memory s.old self.old) run }
+    {
+        let next = run.next;
+        self.st.x = next.x;
+        self.st.y = next.y;
+        if next.whole {
+            let head = next.head;
+            self.reuse(s, z, head.place);
+            return;
         }
-        v = step(s, used, out, xs, ys, z, t, v);
+        self.gather_run(s, z, bottom, run);
     }
-    v
+
+    // One step of the merge: the block that stands next is reused, or its next records are gathered in one go; of equal keys the upper record stands alone.
+    pub fn step(
+        &mut self,
+        s: &mut [u32],
+        xs: &[u32; blocks::LIST_ROOM],
+        ys: &[u32; blocks::LIST_ROOM],
+        z: Offsets,
+        t: Inputs,
+    )
+        requires ready { Ready z t xs.now ys.now (memory s.old self.old) }
+        requires going { idle z t xs.now ys.now (memory s.old self.old) ≡ false }
+        ensures { Turned z t xs.now ys.now 1 (memory s.old self.old) (memory s.new self.new) }
+    {
+        let st = self.st;
+        let px = st.x;
+        let py = st.y;
+        let xe = t.x;
+        let ye = t.y;
+        let pages = t.pages;
+        let bottom = t.bottom;
+        let x = sides::peek(s, z, pages, xs, px.i, px.j, xe);
+        let y = sides::peek(s, z, false, ys, py.i, py.j, ye);
+        let m = st.m;
+        let e = sides::last_size(s, z, &self.out, m);
+        let next = choose(s, z, bottom, st, x, y, e);
+        let run = run_on(s, z, st, next, x, y);
+        self.emit(s, z, bottom, run);
+    }
+
+    // The merge of the two sides, in at most `limit` steps.
+    pub fn stream(
+        &mut self,
+        s: &mut [u32],
+        xs: &[u32; blocks::LIST_ROOM],
+        ys: &[u32; blocks::LIST_ROOM],
+        z: Offsets,
+        t: Inputs,
+        limit: usize,
+    )
+        requires ready { (i : ℕ) → i ≤ limit → Ready z t xs.now ys.now (turns z t xs.now ys.now i (memory s.old self.old)) }
+        requires ends { idle z t xs.now ys.now (turns z t xs.now ys.now limit (memory s.old self.old)) ≡ true }
+        ensures { memory s.new self.new ≡ turns z t xs.now ys.now limit (memory s.old self.old) }
+    {
+        let xe = t.x;
+        let ye = t.y;
+        for k in 0..limit {
+            let px = self.st.x;
+            let py = self.st.y;
+            if (xe <= px.i) & (ye <= py.i) {
+                return;
+            }
+            self.step(s, xs, ys, z, t);
+        }
+    }
 }
