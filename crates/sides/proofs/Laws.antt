@@ -1,12 +1,12 @@
 -- Laws of what a side reads.
 use Prim.Native.Nat.{ℕ, suc, ◌+◌, ◌-◌, ◌*◌, ◌^◌, ◌≤◌, ◌<◌}
 use mathlib.Core.Path.{◌≡◌, refl, sym, ◌∙◌, subst}
-use mathlib.Core.Bool.{Bool, true, false, true≢false}
+use mathlib.Core.Bool.{Bool, true, false}
 use mathlib.Core.List.{List}
 use native.Mathlib.Nat.{mul-le-mul_right}
 use native.Mathlib.Omega.{arith}
 use lib.Dec.{leb, ltb, eqb}
-use borrow.Author.Tests.{leb-false}
+use borrow.Author.Tests.{leb-true, leb-false}
 use lib.ListN.{length, get_or, take, drop, length-drop}
 use lib.Seq.{length-take-le, get_or-take, get_or-drop}
 use Rattle.std.specs.Prelude.{Option, Some, None}
@@ -43,10 +43,18 @@ unfolding chunk_of
 chunk_place_lem z true xs list i k q e = absurd (cc)
 chunk_place_lem z false xs list i k q e = let f : get_or list i 0 ≡ q = cc in let l = k.place refl in let s = k.sized in omega arith
 
--- the place that a record has is its block's
-place_of_start : (t : Bool) (o : Option ℕ) (q : ℕ) → (if t then o otherwise None) ≡ Some q → o ≡ Some q
+-- the place that a record has, or a block that follows, is its block's
+pub place_of_start : (t : Bool) (o : Option ℕ) (q : ℕ) → (if t then o otherwise None) ≡ Some q → o ≡ Some q
 place_of_start true o q e = e
 place_of_start false o q e = absurd (cc)
+
+pub head_none : (z : Offsets) (pages : Bool) (xs list : List ℕ) (i j end : ℕ) → head_of z pages xs list i j end ≡ None → end ≤ i
+unfolding head_of
+head_none z pages xs list i j end e = go (leb end i) refl e
+  where
+    go : (t : Bool) → leb end i ≡ t → (if t then no_head otherwise Some (head_at xs (chunk_of z pages xs list i) j)) ≡ None → end ≤ i
+    go true f e = leb-true end i f
+    go false f e = absurd (cc)
 
 -- a side that is not used up stands at a record of its chunk
 pub head_reads : (z : Offsets) (pages : Bool) (xs list : List ℕ) (i j end : ℕ) (h : Head) → head_of z pages xs list i j end ≡ Some h → (i < end) × (head_at xs (chunk_of z pages xs list i) j ≡ h)
