@@ -11,7 +11,7 @@ ghost use Rattle.stream.specs.Machine.{memory};
 ghost use Rattle.merging.specs.Contract.{Leaves};
 ghost use Rattle.compaction.specs.Machine.{begin_at, chunk_gathered, blocks_gathered, Gathering, record_sum, Summable, Countable, Compactable};
 
-use blocks::Offsets;
+use blocks::{Buffer, Offsets};
 use layout::Layout;
 use merging::Merged;
 use stream::{Desk, Point, Progress};
@@ -44,7 +44,6 @@ fn gather_blocks(s: &mut [u32], desk: &mut Desk, list: &[u32], z: Offsets)
 fn begin(cursor: usize) -> Progress
     ensures { result ≡ begin_at cursor }
 {
-    let empty = blocks::empty();
     let none = Point { i: 0, j: 0 };
     Progress {
         x: none,
@@ -52,7 +51,7 @@ fn begin(cursor: usize) -> Progress
         m: 0,
         writes: 0,
         cursor: cursor,
-        buf: empty,
+        buf: Buffer::default(),
     }
 }
 
