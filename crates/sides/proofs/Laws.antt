@@ -1,15 +1,15 @@
 -- Laws of what a side reads.
 use Prim.Native.Nat.{ℕ, suc, ◌+◌, ◌-◌, ◌*◌, ◌^◌, ◌≤◌, ◌<◌}
 use mathlib.Core.Path.{◌≡◌, refl, sym, ◌∙◌, subst}
-use mathlib.Core.Bool.{Bool, true, false}
+use mathlib.Core.Bool.{Bool, true, false, ◌&&◌, true≢false}
 use mathlib.Core.List.{List}
 use native.Mathlib.Nat.{mul-le-mul_right}
 use native.Mathlib.Omega.{arith}
 use lib.Dec.{leb, ltb, eqb}
-use borrow.Author.Tests.{leb-true, leb-false}
+use borrow.Author.Tests.{leb-true, leb-false, lt-leb, ne_eqb}
 use lib.ListN.{length, get_or, take, drop, length-drop}
 use lib.Seq.{length-take-le, get_or-take, get_or-drop}
-use Rattle.std.specs.Prelude.{Option, Some, None}
+use Rattle.std.specs.Prelude.{Option, Some, None, is_some}
 use Rattle.slices.specs.Ranks.{count_below}
 use Rattle.slices.proofs.Ranks.{all_below}
 use Rattle.levels.specs.Basics.{if◌then◌otherwise◌}
@@ -19,7 +19,7 @@ use Rattle.blocks.specs.Blocks.{Sized, start_of}
 use Rattle.blocks.proofs.Laws.{ends}
 use Rattle.sides.specs.declared.Chunk.{Chunk}
 use Rattle.sides.specs.declared.Head.{Head}
-use Rattle.sides.specs.Sides.{HeadOk, Chunked, Readable, Searchable, chunk_of, head_of, head_at, no_head, last_size}
+use Rattle.sides.specs.Sides.{HeadOk, Chunked, Readable, Searchable, chunk_of, head_of, head_at, no_head, last_size, whole_below, follows, follows_at}
 
 -- the words of a chunk lie in the store
 pub chunk_inside : (z : Offsets) (pages : Bool) (xs list : List ℕ) (i : ℕ) → Chunked z pages xs list i → (chunk_of z pages xs list i).n ≤ z.b
@@ -55,6 +55,10 @@ head_none z pages xs list i j end e = go (leb end i) refl e
     go : (t : Bool) → leb end i ≡ t → (if t then no_head otherwise Some (head_at xs (chunk_of z pages xs list i) j)) ≡ None → end ≤ i
     go true f e = leb-true end i f
     go false f e = absurd (cc)
+
+pub head_is : (z : Offsets) (pages : Bool) (xs list : List ℕ) (i j end : ℕ) → i < end → head_of z pages xs list i j end ≡ Some (head_at xs (chunk_of z pages xs list i) j)
+unfolding head_of
+head_is z pages xs list i j end l = rw (lt-leb end i l)
 
 -- a side that is not used up stands at a record of its chunk
 pub head_reads : (z : Offsets) (pages : Bool) (xs list : List ℕ) (i j end : ℕ) (h : Head) → head_of z pages xs list i j end ≡ Some h → (i < end) × (head_at xs (chunk_of z pages xs list i) j ≡ h)
@@ -100,6 +104,33 @@ module _ (z : Offsets) (pages : Bool) (xs list : List ℕ) (i j end : ℕ) (k : 
 pub last_low : (z : Offsets) (xs out : List ℕ) (m : ℕ) → Sized z xs → ((i : ℕ) → get_or xs i 0 < 2 ^ 32) → last_size z xs out m < 2 ^ 32
 unfolding last_size
 last_low z xs out m k f = if_either (λ (n : ℕ). n < 2 ^ 32) (eqb m 0) z.b (get_or xs (start_of z (get_or out (m - 1) 0)) 0) (omega (arith, k.b_high)) (f _)
+
+and_no : (p q : Bool) → p ≡ false → (p && q) ≡ false
+and_no true q e = absurd (true≢false e)
+and_no false q e = refl
+
+-- a block that has no place does not follow
+follows_placed : (z : Offsets) (bottom : Bool) (xs : List ℕ) (h : Head) (o : Option Head) (n e : ℕ) → is_some h.place ≡ false → follows z bottom xs h o n e ≡ false
+unfolding follows whole_below
+follows_placed z bottom xs h o n e w = if_either (λ (v : Bool). v ≡ false) (eqb n 0) _ _ (and_no _ _ (and_no _ _ w)) (and_no _ _ (and_no _ _ w))
+
+-- nor does that of a record that is not its first
+pub follows_late : (z : Offsets) (bottom : Bool) (xs : List ℕ) (c : Chunk) (j : ℕ) (o : Option Head) (n e : ℕ) → 1 ≤ j → follows z bottom xs (head_at xs c j) o n e ≡ false
+follows_late z bottom xs c j o n e l =
+    let w : is_some (if eqb j 0 then c.place otherwise None) ≡ false = rw (ne_eqb j 0 (λ s. omega arith)) in
+    follows_placed z bottom xs (head_at xs c j) o n e w
+
+-- so a place is given exactly where the block follows
+pub follows_some : (z : Offsets) (bottom : Bool) (xs : List ℕ) (h : Head) (o : Option Head) (n e : ℕ) → is_some (follows_at z bottom xs h o n e) ≡ follows z bottom xs h o n e
+follows_some z bottom xs h o n e = go (follows z bottom xs h o n e) (is_some h.place) refl refl
+  where
+    go : (t u : Bool) → follows z bottom xs h o n e ≡ t → is_some h.place ≡ u → is_some (if t then h.place otherwise None) ≡ t
+    go true true f w = w
+    go true false f w = absurd (true≢false (sym f ∙ follows_placed z bottom xs h o n e w))
+    go false u f w = refl
+
+pub not_at : (z : Offsets) (bottom : Bool) (xs : List ℕ) (h : Head) (o : Option Head) (n e : ℕ) → follows z bottom xs h o n e ≡ false → follows_at z bottom xs h o n e ≡ None
+not_at z bottom xs h o n e f = rw f
 
 -- all keys of a block are below a key exactly if its last one is
 pub row_below : (xs : List ℕ) (h : Head) (k n : ℕ) → Searchable xs h → n ≡ count_below k (take h.n (drop h.keys xs)) → eqb n h.n ≡ ltb (get_or xs (h.keys + (h.n - 1)) 0) k

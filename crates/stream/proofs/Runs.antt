@@ -7,16 +7,15 @@ use mathlib.Core.List.{List}
 use native.Mathlib.Omega.{arith}
 use lib.Dec.{leb, eqb}
 use lib.ListN.{length, get_or}
-use borrow.Author.Tests.{lt-leb, le-ltb, ltb-true, ne_eqb}
+use borrow.Author.Tests.{lt-leb, le-ltb, ltb-true}
 use Rattle.levels.specs.Basics.{if◌then◌otherwise◌}
-use Rattle.levels.proofs.Basics.{if_either}
 use Rattle.blocks.specs.declared.Offsets.{Offsets}
 use Rattle.blocks.specs.declared.Buffer.{Buffer}
 use Rattle.blocks.specs.Blocks.{pushed}
 use Rattle.sides.specs.declared.Chunk.{Chunk}
 use Rattle.sides.specs.declared.Head.{Head}
-use Rattle.sides.specs.Sides.{Readable, chunk_of, head_of, head_at, no_head, last_size, first, follows, follows_at, whole_below}
-use Rattle.sides.proofs.Laws.{head_ok, head_some, head_inside, head_row, head_none, head_reads, place_of_start}
+use Rattle.sides.specs.Sides.{Readable, chunk_of, head_of, head_at, last_size, first, follows}
+use Rattle.sides.proofs.Laws.{head_ok, head_some, head_inside, head_row, head_none, head_reads, head_is, place_of_start, follows_late, follows_some, not_at}
 use Rattle.stream.specs.declared.Point.{Point}
 use Rattle.stream.specs.declared.Progress.{Progress}
 use Rattle.stream.specs.declared.Move.{Move}
@@ -51,34 +50,6 @@ and_no false q e = refl
 and_none : (p q : Bool) → q ≡ false → (p && q) ≡ false
 and_none true q e = e
 and_none false q e = refl
-
--- the block of a record that is not its first does not follow as it stands
-follows_late : (z : Offsets) (bottom : Bool) (ws : List ℕ) (c : Chunk) (j : ℕ) (o : Option Head) (n e : ℕ) → 1 ≤ j → follows z bottom ws (head_at ws c j) o n e ≡ false
-unfolding follows whole_below
-follows_late z bottom ws c j o n e l =
-    let w : is_some (if eqb j 0 then c.place otherwise None) ≡ false = rw (ne_eqb j 0 (λ s. omega arith)) in
-    if_either (λ (v : Bool). v ≡ false) (eqb n 0) _ _ (and_no _ _ (and_no _ _ w)) (and_no _ _ (and_no _ _ w))
-
--- a block that follows has a place
-follows_placed : (z : Offsets) (bottom : Bool) (ws : List ℕ) (h : Head) (o : Option Head) (n e : ℕ) → is_some h.place ≡ false → follows z bottom ws h o n e ≡ false
-unfolding follows whole_below
-follows_placed z bottom ws h o n e w = if_either (λ (v : Bool). v ≡ false) (eqb n 0) _ _ (and_no _ _ (and_no _ _ w)) (and_no _ _ (and_no _ _ w))
-
--- so where none is given the block does not follow
-follows_none : (z : Offsets) (bottom : Bool) (ws : List ℕ) (h : Head) (o : Option Head) (n e : ℕ) → is_some (follows_at z bottom ws h o n e) ≡ false → follows z bottom ws h o n e ≡ false
-follows_none z bottom ws h o n e = go (follows z bottom ws h o n e) refl
-  where
-    go : (t : Bool) → follows z bottom ws h o n e ≡ t → is_some (if t then h.place otherwise None) ≡ false → t ≡ false
-    go true f w = absurd (true≢false (sym f ∙ follows_placed z bottom ws h o n e w))
-    go false f w = refl
-
-not_at : (z : Offsets) (bottom : Bool) (ws : List ℕ) (h : Head) (o : Option Head) (n e : ℕ) → follows z bottom ws h o n e ≡ false → follows_at z bottom ws h o n e ≡ None
-not_at z bottom ws h o n e f = if_false (follows z bottom ws h o n e) h.place None f
-
--- a side that is not used up stands at a record of its block
-head_is : (z : Offsets) (pages : Bool) (ws list : List ℕ) (i j end : ℕ) → i < end → head_of z pages ws list i j end ≡ Some (head_at ws (chunk_of z pages ws list i) j)
-unfolding head_of
-head_is z pages ws list i j end l = if_false (leb end i) no_head (Some (head_at ws (chunk_of z pages ws list i) j)) (lt-leb _ _ l)
 
 pub first_not : (x y : Option Head) → first x y ≡ true → first y x ≡ false
 first_not None y f = absurd (true≢false (sym f))
@@ -293,13 +264,13 @@ module _ (z : Offsets) (t : Inputs) (xs ys : List ℕ) (a : Memory) where
     lower_one : is_some c.whole ≡ false → first y x ≡ true → (follows z t.bottom a.words c.head x n e ≡ false) × (c ≡ record { x = p; y = point_after q c.head.n false; head = c.head; whole = None })
     lower_one w f =
         let m = (lower_is f).1 in
-        let k = follows_none z t.bottom a.words c.head x n e (sym (ap (λ (v : Move). is_some v.whole) m) ∙ w) in
+        let k = sym (follows_some z t.bottom a.words c.head x n e) ∙ (sym (ap (λ (v : Move). is_some v.whole) m) ∙ w) in
         (k, m ∙ ap (λ (v : Option ℕ). record { x = p; y = point_after q c.head.n (is_some v); head = c.head; whole = v }) (not_at z t.bottom a.words c.head x n e k))
 
     upper_one : is_some c.whole ≡ false → first y x ≡ false → first x y ≡ true → (follows z t.bottom a.words c.head y n e ≡ false) × (c ≡ record { x = point_after p c.head.n false; y = q; head = c.head; whole = None })
     upper_one w u f =
         let m = (upper_is u f).1 in
-        let k = follows_none z t.bottom a.words c.head y n e (sym (ap (λ (v : Move). is_some v.whole) m) ∙ w) in
+        let k = sym (follows_some z t.bottom a.words c.head y n e) ∙ (sym (ap (λ (v : Move). is_some v.whole) m) ∙ w) in
         (k, m ∙ ap (λ (v : Option ℕ). record { x = point_after p c.head.n (is_some v); y = q; head = c.head; whole = v }) (not_at z t.bottom a.words c.head y n e k))
 
     lower_turns : (more : ℕ) → n < z.b → is_some c.whole ≡ false → first y x ≡ true → Ahead a.words c.head x q.j (z.b - n - 1) more
