@@ -5,79 +5,108 @@ use mathlib.Core.Bool.{Bool, true, false, not, ◌&&◌, ◌||◌, and_assoc}
 use mathlib.Core.List.{List, [], ◌∷◌, ◌++◌}
 use native.Mathlib.Numerals.{add-one}
 use native.Mathlib.Omega.{arith}
-use borrow.Author.Tests.{le-leb, lt-leb, eq-eqb, ne_eqb}
+use Rattle.std.specs.Prelude.{Option, Some, None, length, get_or, take, drop}
+use Rattle.std.specs.Option.{option_to_list}
+use Rattle.std.specs.List.{slice_range, slice_get, list_all}
+use Rattle.std.proofs.Math.Seq.{drop-cons}
+use Rattle.std.proofs.lemmas.List.{drop_at, length-append, get_or-take, get_or-drop}
+use borrow.Author.Tests.{le-leb, lt-leb}
 use lib.Dec.{leb, eqb}
 use Rattle.levels.specs.Basics.{if◌then◌otherwise◌}
 use Rattle.levels.specs.Record.{Rec, rising, clean_tombstones}
 use Rattle.words.specs.Stores.{word, slots_at}
 use Rattle.words.proofs.Slots.{shift_suc}
-use Rattle.chunks.specs.declared.Rise.{Rise}
-use Rattle.chunks.specs.declared.Rise.TheVariants.{To, Broken}
 use Rattle.chunks.specs.Chunks.{zeros_at, rise_of, clean_of}
 
--- one word of `zeros`
-module _ (ws : List ℕ) (start n i : ℕ) where
-  pub zeros_next : i < n → word ws (start + i) ≡ 0 → zeros_at ws (start + i) (n - i) ≡ zeros_at ws (start + (i + 1)) (n - (i + 1))
-  unfolding zeros_at
-  zeros_next l e =
-      let p : n - i ≡ suc (n - (i + 1)) = omega arith in
-      let q : start + (i + 1) ≡ suc (start + i) = omega arith in
-      rw (p, q, eq-eqb _ _ e)
+-- `zeros` looks at each word of a part
+pub zeros_all : (ws : List ℕ) (start n : ℕ) → start + n ≤ length ws → list_all (λ x. eqb x 0) (slice_range ws start (start + n)) ≡ zeros_at ws start n
+unfolding zeros_at
+zeros_all ws start zero h = let p : start + 0 - start ≡ 0 = omega arith in rw p
+zeros_all ws start (suc n) h =
+    let p : start + suc n - start ≡ suc n = omega arith in
+    let q : suc start + n ≡ start + suc n = omega arith in
+    let r : start + suc n - suc start ≡ n = omega arith in
+    let ih : list_all (λ x. eqb x 0) (take (start + suc n - suc start) (drop (suc start) ws)) ≡ zeros_at ws (suc start) n = rw q at (zeros_all ws (suc start) n (omega arith)) in
+    rw (p, drop-cons ws start 0 (omega arith), ← ih, r)
 
-  pub zeros_stop : i < n → (word ws (start + i) ≡ 0 → ⊥) → zeros_at ws (start + i) (n - i) ≡ false
-  unfolding zeros_at
-  zeros_stop l e = let p : n - i ≡ suc (n - (i + 1)) = omega arith in rw (p, ne_eqb _ _ e)
+-- keys in a row, rising strictly from `low` on: the least number that the next key may be
+unfoldable pub keys_rise : List ℕ → ℕ → Option ℕ
+keys_rise [] low = Some low
+keys_rise (x ∷ xs) low = if leb low x then keys_rise xs (x + 1) otherwise None
 
-  pub zeros_end : n ≤ i → zeros_at ws (start + i) (n - i) ≡ true
-  unfolding zeros_at
-  zeros_end h = let p : n - i ≡ 0 = omega arith in rw p
+-- where no mark bit is set, the pass over records is one over their keys
+pub rise_keys : (ws : List ℕ) (k v n low : ℕ) → k + n ≤ length ws → keys_rise (slice_range ws k (k + n)) low ≡ rise_of ws 0 k v n low
+unfolding rise_of keys_rise
+rise_keys ws k v zero low h = let p : k + 0 - k ≡ 0 = omega arith in rw p
+rise_keys ws k v (suc n) low h =
+    let p : k + suc n - k ≡ suc n = omega arith in
+    let q : suc k + n - suc k ≡ n = omega arith in
+    let ih = rw q at (rise_keys ws (suc k) (suc v) n (suc (word ws k)) (omega arith)) in
+    rw (p, drop-cons ws k 0 (omega arith), add-one (word ws k), ← ih) (go (leb low (word ws k)) (keys_rise (take n (drop (suc k) ws)) (suc (word ws k))))
+  where
+    go : (a : Bool) (x : Option ℕ) → (if a then x otherwise None) ≡ (if a && true then x otherwise None)
+    go true x = refl
+    go false x = refl
 
-pub zeros_start : (ws : List ℕ) (start n : ℕ) → zeros_at ws (start + 0) (n - 0) ≡ zeros_at ws start n
-zeros_start ws start n = let p : start + 0 ≡ start = omega arith in let q : n - 0 ≡ n = omega arith in rw (p, q)
+-- what two keys say
+pub pair_low : (p xs : List ℕ) (low : ℕ) → length p ≡ 2 → get_or p 0 0 < low → keys_rise (p ++ xs) low ≡ None
+unfolding keys_rise
+pair_low [] xs low e h = absurd (omega arith)
+pair_low (a ∷ p) xs low e h = rw (lt-leb low a h)
 
--- one record of the pass
-module _ (ws : List ℕ) (m k v n j low : ℕ) (l : j < n) where
-  pub rise_low : word ws (k + j) < low → rise_of ws m (k + j) (v + j) (n - j) low ≡ Broken
-  unfolding rise_of
-  rise_low h = let p : n - j ≡ suc (n - (j + 1)) = omega arith in rw (p, lt-leb _ _ h)
+pub pair_second : (p xs : List ℕ) (low : ℕ) → length p ≡ 2 → low ≤ get_or p 0 0 → get_or p 1 0 ≤ get_or p 0 0 → keys_rise (p ++ xs) low ≡ None
+unfolding keys_rise
+pair_second [] xs low e h g = absurd (omega arith)
+pair_second (a ∷ []) xs low e h g = absurd (omega arith)
+pair_second (a ∷ b ∷ p) xs low e h g = rw (le-leb low a h, lt-leb (a + 1) b (omega arith))
 
-  pub rise_next : (eqb (m % 2) 1 && not (eqb (word ws (v + j)) 0)) ≡ false → low ≤ word ws (k + j) → rise_of ws m (k + j) (v + j) (n - j) low ≡ rise_of ws (m / 2) (k + (j + 1)) (v + (j + 1)) (n - (j + 1)) (word ws (k + j) + 1)
-  unfolding rise_of
-  rise_next e h =
-      let p : n - j ≡ suc (n - (j + 1)) = omega arith in
-      let q : k + (j + 1) ≡ suc (k + j) = omega arith in
-      let r : v + (j + 1) ≡ suc (v + j) = omega arith in
-      rw (p, q, r, add-one (word ws (k + j)), le-leb _ _ h, e)
+pub pair_on : (p xs : List ℕ) (low : ℕ) → length p ≡ 2 → low ≤ get_or p 0 0 → get_or p 0 0 < get_or p 1 0 → keys_rise (p ++ xs) low ≡ keys_rise xs (get_or p 1 0 + 1)
+unfolding keys_rise
+pair_on [] xs low e h g = absurd (omega arith)
+pair_on (a ∷ []) xs low e h g = absurd (omega arith)
+pair_on (a ∷ b ∷ []) xs low e h g = rw (le-leb low a h, le-leb (a + 1) b (omega arith))
+pair_on (a ∷ b ∷ c ∷ p) xs low e h g = absurd (omega arith)
 
-pub rise_start : (ws : List ℕ) (m k v n low : ℕ) → rise_of ws m (k + 0) (v + 0) (n - 0) low ≡ rise_of ws m k v n low
-rise_start ws m k v n low = let p : k + 0 ≡ k = omega arith in let q : n - 0 ≡ n = omega arith in let r : v + 0 ≡ v = omega arith in rw (p, q, r)
+-- the first of what `chunks_exact` leaves over is all that pairs leave
+pub pairs_left : (p xs keys rest : List ℕ) (o : Option ℕ) → p ++ xs ≡ keys → length p % 2 ≡ 0 → length xs < 2 → rest ≡ drop (length keys - length keys % 2) keys → o ≡ slice_get rest 0 → xs ≡ option_to_list o
+pairs_left p xs keys rest o f e h d v =
+    let g : rest ≡ drop (length (p ++ xs) - length (p ++ xs) % 2) (p ++ xs) = rw f d in
+    let x : rest ≡ xs = g ∙ drop_at p xs _ (omega (arith, length-append p xs)) in
+    let w : o ≡ slice_get xs 0 = rw x at v in
+    rw w (go xs h)
+  where
+    go : (ys : List ℕ) → length ys < 2 → ys ≡ option_to_list (slice_get ys 0)
+    go [] h = refl
+    go (y ∷ []) h = refl
+    go (y ∷ z ∷ ys) h = absurd (omega arith)
 
-module _ (ws : List ℕ) (m k v n j low : ℕ) (h : n ≤ j) where
-  pub rise_end : m ≡ 0 → rise_of ws m (k + j) (v + j) (n - j) low ≡ To low
-  unfolding rise_of
-  rise_end e = let p : n - j ≡ 0 = omega arith in rw (p, eq-eqb _ _ e)
+-- what that one, if it is there, says
+module _ (xs : List ℕ) (low : ℕ) where
+  pub tail_none : xs ≡ option_to_list {X = ℕ} None → keys_rise xs low ≡ Some low
+  unfolding keys_rise
+  tail_none e = rw e
 
--- two records of `rise_plain`, or the last one
-module _ (ws : List ℕ) (k v n j low : ℕ) (h : low ≤ word ws (k + j)) where
-  pub rise_two : j + 1 < n → word ws (k + j) < word ws (k + (j + 1)) → rise_of ws 0 (k + j) (v + j) (n - j) low ≡ rise_of ws 0 (k + (j + 2)) (v + (j + 2)) (n - (j + 2)) (word ws (k + (j + 1)) + 1)
-  rise_two l g =
-      let e : j + 1 + 1 ≡ j + 2 = omega arith in
-      rise_next ws 0 k v n j low (omega arith) refl h ∙ rw e at (rise_next ws 0 k v n (j + 1) (word ws (k + j) + 1) l refl (omega arith))
+  module _ (x : ℕ) (e : xs ≡ option_to_list (Some x)) where
+    pub tail_low : x < low → keys_rise xs low ≡ None
+    unfolding keys_rise
+    tail_low h = rw (e, lt-leb low x h)
 
-  pub rise_second : j + 1 < n → word ws (k + (j + 1)) ≤ word ws (k + j) → rise_of ws 0 (k + j) (v + j) (n - j) low ≡ Broken
-  rise_second l g = rise_next ws 0 k v n j low (omega arith) refl h ∙ rise_low ws 0 k v n (j + 1) (word ws (k + j) + 1) l (omega arith)
+    pub tail_on : low ≤ x → keys_rise xs low ≡ Some (x + 1)
+    unfolding keys_rise
+    tail_on h = rw (e, le-leb low x h)
 
-  pub rise_last : j < n → n ≤ j + 1 → rise_of ws 0 (k + j) (v + j) (n - j) low ≡ To (word ws (k + j) + 1)
-  rise_last l g = rise_next ws 0 k v n j low l refl h ∙ rise_end ws 0 k v n (j + 1) (word ws (k + j) + 1) g refl
+-- word i of a part
+pub part_word : (ws : List ℕ) (start n i : ℕ) → i < n → get_or (slice_range ws start (start + n)) i 0 ≡ word ws (start + i)
+part_word ws start n i l = get_or-take (start + n - start) (drop start ws) i 0 (omega arith) ∙ get_or-drop start ws i 0
 
 -- one record of `clean`, with what the records before it said
 module _ (ws : List ℕ) (ok : Bool) (m v n j : ℕ) where
-  pub clean_next : j < n → (ok && clean_of ws m (v + j) (n - j)) ≡ ((ok && not (eqb (m % 2) 1 && not (eqb (word ws (v + j)) 0))) && clean_of ws (m / 2) (v + (j + 1)) (n - (j + 1)))
+  pub clean_next : j < n → (ok && clean_of ws m (v + j) (n - j)) ≡ ((ok && not (eqb (m % 2) 1 && not (eqb (get_or (slice_range ws v (v + n)) j 0) 0))) && clean_of ws (m / 2) (v + (j + 1)) (n - (j + 1)))
   unfolding clean_of
   clean_next l =
       let p : n - j ≡ suc (n - (j + 1)) = omega arith in
       let q : v + (j + 1) ≡ suc (v + j) = omega arith in
-      rw (p, q) (sym (and_assoc ok (not (eqb (m % 2) 1 && not (eqb (word ws (v + j)) 0))) (clean_of ws (m / 2) (suc (v + j)) (n - (j + 1)))))
+      rw (part_word ws v n j l, p, q) (sym (and_assoc ok (not (eqb (m % 2) 1 && not (eqb (word ws (v + j)) 0))) (clean_of ws (m / 2) (suc (v + j)) (n - (j + 1)))))
 
   pub clean_end : n ≤ j → (ok && clean_of ws m (v + j) (n - j)) ≡ (ok && eqb m 0)
   unfolding clean_of
@@ -93,13 +122,13 @@ clean_zero ws v zero = refl
 clean_zero ws v (suc n) = clean_zero ws (suc v) n
 
 -- the pass is one over the payloads and mark bits, and then one over the keys
-pub rise_clean : (ws : List ℕ) (m k v n low : ℕ) → rise_of ws m k v n low ≡ (if clean_of ws m v n then rise_of ws 0 k v n low otherwise Broken)
+pub rise_clean : (ws : List ℕ) (m k v n low : ℕ) → rise_of ws m k v n low ≡ (if clean_of ws m v n then rise_of ws 0 k v n low otherwise None)
 unfolding rise_of clean_of
 rise_clean ws m k v zero low = refl
 rise_clean ws m k v (suc n) low =
     rw (rise_clean ws (m / 2) (suc k) (suc v) n (suc (word ws k))) (go (leb low (word ws k)) (eqb (m % 2) 1 && not (eqb (word ws v) 0)) (clean_of ws (m / 2) (suc v) n) (rise_of ws 0 (suc k) (suc v) n (suc (word ws k))))
   where
-    go : (a d c : Bool) (x : Rise) → (if a && not d then (if c then x otherwise Broken) otherwise Broken) ≡ (if not d && c then (if a && true then x otherwise Broken) otherwise Broken)
+    go : (a d c : Bool) (x : Option ℕ) → (if a && not d then (if c then x otherwise None) otherwise None) ≡ (if not d && c then (if a && true then x otherwise None) otherwise None)
     go true true c x = refl
     go false true c x = refl
     go true false c x = refl
@@ -112,13 +141,13 @@ next_low low [] = low
 next_low low (r ∷ rs) = next_low (suc r.key) rs
 
 -- the pass says: keys rise strictly, payloads of tombstones are 0, and no bit is set past the count
-pub rise_is : (ws : List ℕ) (m k v n low : ℕ) → rise_of ws m k v n low ≡ (if rising low (slots_at ws m k v n) && (clean_tombstones (slots_at ws m k v n) && eqb (m / 2 ^ n) 0) then To (next_low low (slots_at ws m k v n)) otherwise Broken)
+pub rise_is : (ws : List ℕ) (m k v n low : ℕ) → rise_of ws m k v n low ≡ (if rising low (slots_at ws m k v n) && (clean_tombstones (slots_at ws m k v n) && eqb (m / 2 ^ n) 0) then Some (next_low low (slots_at ws m k v n)) otherwise None)
 unfolding rise_of slots_at next_low
 rise_is ws m k v zero low = let e : m / 2 ^ 0 ≡ m = omega arith in rw e
 rise_is ws m k v (suc n) low =
     rw (shift_suc m n, rise_is ws (m / 2) (suc k) (suc v) n (suc (word ws k))) (go (leb low (word ws k)) (eqb (m % 2) 1) (eqb (word ws v) 0) _ _ _ _)
   where
-    go : (a t z c d e : Bool) (x : Rise) → (if a && not (t && not z) then (if c && (d && e) then x otherwise Broken) otherwise Broken) ≡ (if (a && c) && (((not t || z) && d) && e) then x otherwise Broken)
+    go : (a t z c d e : Bool) (x : Option ℕ) → (if a && not (t && not z) then (if c && (d && e) then x otherwise None) otherwise None) ≡ (if (a && c) && (((not t || z) && d) && e) then x otherwise None)
     go false t z c d e x = refl
     go true false z c d e x = refl
     go true true true c d e x = refl

@@ -14,56 +14,43 @@ pub struct Chunk {
     pub count: usize,
 }
 
-// Where the keys of a chunk got to: the least number that the next key may be.
-#[derive(Clone, Copy)]
-pub enum Rise {
-    To(usize),
-    Broken,
-}
-
 // The n words from word `start` on are 0.
 pub fn zeros(s: &[u32], start: usize, n: usize) -> bool
     requires { start + n ≤ length s.now }
     ensures { result ≡ zeros_at s.now start n }
 {
-    for i in 0..n {
-        if s[start + i] != 0 {
-            return false;
-        }
-    }
-    true
+    s[start..start + n].iter().all(|&x| x == 0)
 }
 
-// The keys of a chunk rise strictly from `low` on: what `rise_over` finds where no mark bit is set. It leaves
+// What `rise_over` finds where no mark bit is set: whether the keys of a chunk rise strictly from `low` on. It leaves
 // the payloads alone, and takes two keys at a time.
-fn rise_plain(s: &[u32], chunk: Chunk, low: usize) -> Rise
+fn rise_plain(s: &[u32], chunk: Chunk, low: usize) -> Option<usize>
     requires { Inside chunk s.now }
     ensures { result ≡ rise_of s.now 0 chunk.keys chunk.pays chunk.count low }
 {
-    let k = chunk.keys;
-    let n = chunk.count;
+    let keys = &s[chunk.keys..chunk.keys + chunk.count];
+    let pairs = keys.chunks_exact(2);
+    let rest = pairs.remainder();
     let mut least = low;
-    let mut j: usize = 0;
-    while j + 1 < n {
-        let key = s[k + j] as usize;
+    for pair in pairs {
+        let key = pair[0] as usize;
         if key < least {
-            return Rise::Broken;
+            return None;
         }
-        let second = s[k + (j + 1)] as usize;
+        let second = pair[1] as usize;
         if second <= key {
-            return Rise::Broken;
+            return None;
         }
         least = second + 1;
-        j += 2;
     }
-    if n <= j {
-        return Rise::To(least);
+    let Some(&last) = rest.first() else {
+        return Some(least);
+    };
+    let key = last as usize;
+    if key < least {
+        return None;
     }
-    let last = s[k + j] as usize;
-    if last < least {
-        return Rise::Broken;
-    }
-    Rise::To(last + 1)
+    Some(key + 1)
 }
 
 // The payload of a tombstone is 0, and no mark bit is set past the count. The mark word is halved with each
@@ -78,21 +65,21 @@ fn clean(s: &[u32], marks: u32, pays: usize, count: usize) -> bool
     }
     let mut m = marks;
     let mut ok = true;
-    for j in 0..count {
-        ok = ok & !((m % 2 == 1) & (s[pays + j] != 0));
+    for &pay in &s[pays..pays + count] {
+        ok = ok & !((m % 2 == 1) & (pay != 0));
         m = m / 2;
     }
     ok & (m == 0)
 }
 
-// The keys of a chunk rise strictly from `low` on, the payload of a tombstone is 0, and no mark bit is
-// set past the count.
-pub fn rise_over(s: &[u32], chunk: Chunk, low: usize) -> Rise
+// The least number that the next key may be, if the keys of a chunk rise strictly from `low` on, the payload of
+// a tombstone is 0, and no mark bit is set past the count.
+pub fn rise_over(s: &[u32], chunk: Chunk, low: usize) -> Option<usize>
     requires { Inside chunk s.now }
     ensures { result ≡ rise_of s.now chunk.marks chunk.keys chunk.pays chunk.count low }
 {
     if clean(s, chunk.marks, chunk.pays, chunk.count) {
         return rise_plain(s, chunk, low);
     }
-    Rise::Broken
+    None
 }

@@ -3,6 +3,10 @@
 
 ghost use Rattle.std.specs.Prelude.{◌≡◌, ◌+◌, ◌^◌, ◌≤◌};
 ghost use Rattle.geometry.specs.Geometry.{capacity_of, window_of, capacity_sum, flash_capacity_of, key_limit_of, in_ranges, in_sizes, built_of, Ranged, block_width, top_capacity_of};
+ghost use Rattle.geometry.specs.Refusals.{number_of};
+
+use std::error::Error;
+use std::fmt;
 
 // The fields are private, so that a geometry outside this crate comes from `new` and keeps every limit.
 #[derive(Clone, Copy)]
@@ -15,12 +19,44 @@ pub struct Geometry {
     p: usize,
 }
 
-// What six words are: a geometry, or that they break a limit (refusal 2).
-#[derive(Clone, Copy)]
-pub enum Built {
-    Legal(Geometry),
-    Broken,
+// Why a call is turned down (document 01, "Why a call is turned down"), in the order of the tests.
+#[derive(Clone, Copy, Debug, PartialEq, Eq)]
+pub enum Refusal {
+    TooShort,
+    BrokenLimit,
+    WrongLength,
+    Damaged,
+    Full,
 }
+
+// Document 01's number of a reason.
+impl From<Refusal> for u32 {
+    ghost from_gives = { λ r n. n ≡ number_of r };
+
+    fn from(r: Refusal) -> u32 {
+        match r {
+            Refusal::TooShort => 1,
+            Refusal::BrokenLimit => 2,
+            Refusal::WrongLength => 3,
+            Refusal::Damaged => 4,
+            Refusal::Full => 5,
+        }
+    }
+}
+
+impl fmt::Display for Refusal {
+    fn fmt<W: fmt::Write>(&self, f: &mut fmt::Formatter<W>) -> fmt::Result {
+        f.write_str(match self {
+            Refusal::TooShort => "the store has fewer than 12 words",
+            Refusal::BrokenLimit => "the geometry breaks a limit",
+            Refusal::WrongLength => "the length is not the one that the geometry needs",
+            Refusal::Damaged => "the store is damaged",
+            Refusal::Full => "the store is full",
+        })
+    }
+}
+
+impl Error for Refusal {}
 
 // g to the power i, for the few powers that a store has.
 fn power(g: usize, i: usize) -> usize
@@ -66,7 +102,7 @@ impl Geometry {
     pub const LIST_ROOM: usize = 4096;
 
     // Every six words are legal input. The tests of the ranges come first, so that no product overflows.
-    pub fn new(b: u32, w: u32, d: u32, g: u32, h: u32, p: u32) -> Built
+    pub fn new(b: u32, w: u32, d: u32, g: u32, h: u32, p: u32) -> Result<Geometry, Refusal>
         ensures { result ≡ built_of (record { b = b; w = w; d = d; g = g; h = h; p = p }) }
     {
         let s = Geometry {
@@ -79,10 +115,10 @@ impl Geometry {
         };
         if s.in_ranges() {
             if s.in_sizes() {
-                return Built::Legal(s);
+                return Ok(s);
             }
         }
-        Built::Broken
+        Err(Refusal::BrokenLimit)
     }
 
     // `&` and not `&&`: the value is then the definition's, test for test.

@@ -61,9 +61,8 @@ fn pull_last(s: &[u32], desk: &mut Desk, z: Offsets)
     ensures { desk.new ≡ record desk.old { st = pulled z s.now desk.old.out desk.old.st } }
 {
     let m = desk.st.m - 1;
-    let q = sides::listed(&desk.out, m);
-    let none = blocks::empty();
-    let last = append_block(s, z, q, none);
+    let q = desk.out[m] as usize;
+    let last = append_block(s, z, q, Buffer::default());
     desk.st.m = m;
     desk.st.buf = append_buffer(last, desk.st.buf);
 }
@@ -105,7 +104,7 @@ fn join_after(s: &[u32], desk: &mut Desk, ys: &[u32; blocks::LIST_ROOM], z: Offs
     if end <= i {
         return;
     }
-    let q = sides::listed(ys, i);
+    let q = ys[i] as usize;
     let at = blocks::place_start(z, q);
     let size = slices::word(s, at);
     let n = desk.st.buf.n;

@@ -8,7 +8,7 @@ ghost use Rattle.geometry.specs.Room.{places_most};
 ghost use Rattle.layout.specs.Layouts.{old, list_start, place_start, Proper};
 ghost use Rattle.layout.specs.Opening.{fit_of, opened_of};
 
-use geometry::{Built, Geometry};
+use geometry::{Geometry, Refusal};
 
 // The geometry, and word numbers: of the first of the geometry's six words, of live, of hand and of c, behind which stand the block
 // counts of levels 1 to 3; of the first mark word, key and payload of level 0; of the first entry of level 1's place list, behind
@@ -80,37 +80,27 @@ impl Layout {
     }
 }
 
-// The layout of lent words, or why they are turned down (document 01, reasons 1 to 3). The form check of crate `form`, which goes
-// on from here to reason 4, answers the same.
-#[derive(Clone, Copy)]
-pub enum Opened {
-    Ready(Layout),
-    Refused(u32),
-}
-
-// The layout of six words for a store of n words. The length is tested first: it is the first reason.
-pub fn fit(n: usize, b: u32, w: u32, d: u32, g: u32, h: u32, p: u32) -> Opened
+// The layout of six words for a store of n words, or why it is turned down (reasons 1 to 3; the form check of crate `form` goes on
+// from here to reason 4). The length is tested first: it is the first reason.
+pub fn fit(n: usize, b: u32, w: u32, d: u32, g: u32, h: u32, p: u32) -> Result<Layout, Refusal>
     ensures { result ≡ fit_of n (record { b = b; w = w; d = d; g = g; h = h; p = p }) }
 {
     if n < 12 {
-        return Opened::Refused(1);
+        return Err(Refusal::TooShort);
     }
-    let Built::Legal(t) = Geometry::new(b, w, d, g, h, p) else {
-        return Opened::Refused(2);
-    };
-    let z = Layout::old(t);
+    let z = Layout::old(Geometry::new(b, w, d, g, h, p)?);
     if n == z.length {
-        return Opened::Ready(z);
+        return Ok(z);
     }
-    Opened::Refused(3)
+    Err(Refusal::WrongLength)
 }
 
 // The layout that the first six words of a lent store give. A store of fewer than 12 words may not have them.
-pub fn open(s: &[u32]) -> Opened
+pub fn open(s: &[u32]) -> Result<Layout, Refusal>
     ensures { result ≡ opened_of s.now }
 {
     if s.len() < 12 {
-        return Opened::Refused(1);
+        return Err(Refusal::TooShort);
     }
     fit(s.len(), s[0], s[1], s[2], s[3], s[4], s[5])
 }

@@ -1,5 +1,5 @@
 -- Document 02, card 3: "A ticket for each merge." A `Ticket` is four numbers; the code declares it.
-use Rattle.std.specs.Prelude.{ℕ, suc, ◌+◌, ◌≤◌, ◌<◌, ◌≡◌, List, ◌++◌, map, eqb, length, take, drop}
+use Rattle.std.specs.Prelude.{ℕ, suc, ◌+◌, ◌≤◌, ◌<◌, ◌≡◌, List, [], ◌∷◌, ◌++◌, map, eqb, length, take, drop, get_or}
 use Rattle.geometry.specs.declared.Geometry.{Geometry}
 use Rattle.geometry.specs.Geometry.{window_of}
 use Rattle.levels.specs.declared.Ticket.{Ticket}
@@ -10,6 +10,13 @@ use Rattle.levels.specs.Count.{overlap_of, blocks_merged}
 -- "each with upper level, number of the run's first block in that level from 0, overlap, and blocks written"
 unfoldable pub ticket_of : Geometry → Merge → Ticket
 ticket_of g m = record { level = m.level; first = m.first; overlap = overlap_of g m; written = blocks_merged m }
+
+-- a ticket's four numbers, in the order in which card 3 names them, and the ticket of a row of four numbers
+abbrev pub row_of : Ticket → List ℕ
+row_of t = t.level ∷ t.first ∷ t.overlap ∷ t.written ∷ []
+
+abbrev pub ticket_from : List ℕ → Ticket
+ticket_from row = record { level = get_or row 0 0; first = get_or row 1 0; overlap = get_or row 2 0; written = get_or row 3 0 }
 
 -- "Tickets are filled in the order of the merges"
 abbrev pub tickets_of : Geometry → List Merge → List Ticket

@@ -5,6 +5,7 @@
 
 ghost use Rattle.std.specs.Prelude.{◌≡◌, ◌*◌, ◌≤◌};
 ghost use Rattle.levels.specs.Waste.{wasteful};
+ghost use Rattle.levels.specs.Tickets.{row_of, ticket_from};
 
 // What a merge did (document 02, card 3; a ticket is the document's word): its upper level, the number of the run's first
 // block in that level, from 0, at the merge's start, the overlap, and the blocks written.
@@ -15,6 +16,29 @@ pub struct Ticket {
     pub first: u32,
     pub overlap: u32,
     pub written: u32,
+}
+
+// The merges of a call gather rows of four words; a ticket is made of a row where it is handed out.
+impl From<Ticket> for [u32; 4] {
+    ghost from_gives = { λ t row. row ≡ row_of t };
+
+    fn from(t: Ticket) -> [u32; 4] {
+        [t.level, t.first, t.overlap, t.written]
+    }
+}
+
+impl From<[u32; 4]> for Ticket {
+    ghost from_gives = { λ row t. t ≡ ticket_from row };
+
+    fn from(row: [u32; 4]) -> Ticket {
+        let [level, first, overlap, written] = row;
+        Ticket {
+            level,
+            first,
+            overlap,
+            written,
+        }
+    }
 }
 
 // The level rule: a blocks of b slots hold the records in more blocks than needed, and more than a

@@ -1,20 +1,23 @@
 -- Laws of reading: the machine of `specs/Machine.antt` finds at a line's end what the line says.
 use Prim.Native.Nat.{ℕ, ◌+◌, ◌-◌, ◌*◌, ◌≤◌, ◌<◌}
-use mathlib.Core.Path.{◌≡◌, refl, sym}
+use mathlib.Core.Path.{◌≡◌, refl, sym, subst}
 use mathlib.Core.Bool.{Bool, true, false, ◌&&◌, ◌||◌, and-eq-true_iff, and-false}
 use mathlib.Core.List.{List, [], ◌∷◌, ◌++◌, map, append_assoc}
 use native.Mathlib.Omega.{arith}
-use borrow.Author.Tests.{ltb-true, ltb-false, leb-true, lt-ltb, le-ltb, ne_eqb}
+use borrow.Author.Tests.{eqb-true, ltb-true, ltb-false, leb-true, lt-ltb, le-ltb, ne_eqb}
 use lib.Dec.{ltb, eqb}
 use lib.ListN.{length, length-append}
+use Rattle.std.specs.Prelude.{Option, None, Some, IfSome}
+use Rattle.lines.specs.declared.Call.{Call}
+use Rattle.lines.specs.declared.Call.TheVariants.{Format as AFormat, Put as APut, Delete as ADelete, Get as AGet}
 use Rattle.lines.specs.declared.Line.{Line}
 use Rattle.lines.specs.declared.Line.TheVariants.{Unreadable}
 use Rattle.lines.specs.declared.Numbers.{Numbers}
 use Rattle.lines.specs.declared.Reading.{Reading}
 use Rattle.lines.specs.declared.Reading.TheVariants.{Start, Letter, Space, Digits, Spoiled}
-use Rattle.lines.specs.Bytes.{digit_nine, space, letter_d, letter_f, letter_p, is_digit, if◌then◌otherwise◌, every}
+use Rattle.lines.specs.Bytes.{digit_nine, space, letter_d, letter_f, letter_g, letter_p, is_digit, if◌then◌otherwise◌, every}
 use Rattle.lines.specs.Lines.{first_field, further_fields, value_from, value_of, word_limit, is_number, spoken, named, line_of}
-use Rattle.lines.specs.Machine.{no_numbers, pushed, is_letter, after_start, after_letter, after_space, grown, after_digits, step, run, said, line_after, is_start}
+use Rattle.lines.specs.Machine.{letter_of, call_of, no_numbers, pushed, last_of, is_letter, after_start, after_letter, after_space, grown, after_digits, step, run, said, line_after, is_start}
 
 -- small facts of tests
 pub if_same : {A : Type 0} (t : Bool) (a : A) → (if t then a otherwise a) ≡ a
@@ -98,17 +101,57 @@ unfolding held_from
 held_count n [] = omega arith
 held_count n (u ∷ vs) = omega (arith, held_count (pushed n u) vs)
 
--- up to six numbers are held whole, so the letter says of them what it says of the list
-pub said_held : (letter : ℕ) (vs : List ℕ) → length vs ≤ 6 → said letter (held vs) ≡ spoken letter vs
+-- of each call
+format_held : (vs : List ℕ) → length vs ≤ 6 → said AFormat (held vs) ≡ spoken (letter_of AFormat) vs
 unfolding said spoken held_from
-said_held letter [] h = refl
-said_held letter (a ∷ []) h = refl
-said_held letter (a ∷ b ∷ []) h = refl
-said_held letter (a ∷ b ∷ c ∷ []) h = refl
-said_held letter (a ∷ b ∷ c ∷ d ∷ []) h = refl
-said_held letter (a ∷ b ∷ c ∷ d ∷ e ∷ []) h = refl
-said_held letter (a ∷ b ∷ c ∷ d ∷ e ∷ f ∷ []) h = refl
-said_held letter (a ∷ b ∷ c ∷ d ∷ e ∷ f ∷ g ∷ vs) h = absurd (omega arith)
+format_held [] h = refl
+format_held (a ∷ []) h = refl
+format_held (a ∷ b ∷ []) h = refl
+format_held (a ∷ b ∷ c ∷ []) h = refl
+format_held (a ∷ b ∷ c ∷ d ∷ []) h = refl
+format_held (a ∷ b ∷ c ∷ d ∷ e ∷ []) h = refl
+format_held (a ∷ b ∷ c ∷ d ∷ e ∷ f ∷ []) h = refl
+format_held (a ∷ b ∷ c ∷ d ∷ e ∷ f ∷ g ∷ vs) h = absurd (omega arith)
+
+put_held : (vs : List ℕ) → length vs ≤ 6 → said APut (held vs) ≡ spoken (letter_of APut) vs
+unfolding said spoken held_from
+put_held [] h = refl
+put_held (a ∷ []) h = refl
+put_held (a ∷ b ∷ []) h = refl
+put_held (a ∷ b ∷ c ∷ []) h = refl
+put_held (a ∷ b ∷ c ∷ d ∷ []) h = refl
+put_held (a ∷ b ∷ c ∷ d ∷ e ∷ []) h = refl
+put_held (a ∷ b ∷ c ∷ d ∷ e ∷ f ∷ []) h = refl
+put_held (a ∷ b ∷ c ∷ d ∷ e ∷ f ∷ g ∷ vs) h = absurd (omega arith)
+
+delete_held : (vs : List ℕ) → length vs ≤ 6 → said ADelete (held vs) ≡ spoken (letter_of ADelete) vs
+unfolding said spoken held_from
+delete_held [] h = refl
+delete_held (a ∷ []) h = refl
+delete_held (a ∷ b ∷ []) h = refl
+delete_held (a ∷ b ∷ c ∷ []) h = refl
+delete_held (a ∷ b ∷ c ∷ d ∷ []) h = refl
+delete_held (a ∷ b ∷ c ∷ d ∷ e ∷ []) h = refl
+delete_held (a ∷ b ∷ c ∷ d ∷ e ∷ f ∷ []) h = refl
+delete_held (a ∷ b ∷ c ∷ d ∷ e ∷ f ∷ g ∷ vs) h = absurd (omega arith)
+
+get_held : (vs : List ℕ) → length vs ≤ 6 → said AGet (held vs) ≡ spoken (letter_of AGet) vs
+unfolding said spoken held_from
+get_held [] h = refl
+get_held (a ∷ []) h = refl
+get_held (a ∷ b ∷ []) h = refl
+get_held (a ∷ b ∷ c ∷ []) h = refl
+get_held (a ∷ b ∷ c ∷ d ∷ []) h = refl
+get_held (a ∷ b ∷ c ∷ d ∷ e ∷ []) h = refl
+get_held (a ∷ b ∷ c ∷ d ∷ e ∷ f ∷ []) h = refl
+get_held (a ∷ b ∷ c ∷ d ∷ e ∷ f ∷ g ∷ vs) h = absurd (omega arith)
+
+-- up to six numbers are held whole, so the call says of them what its letter says of the list
+pub said_held : (call : Call) (vs : List ℕ) → length vs ≤ 6 → said call (held vs) ≡ spoken (letter_of call) vs
+said_held AFormat vs h = format_held vs h
+said_held APut vs h = put_held vs h
+said_held ADelete vs h = delete_held vs h
+said_held AGet vs h = get_held vs h
 
 -- no letter has more than six numbers, and none has none
 pub spoken_long : (letter : ℕ) (vs : List ℕ) → 6 < length vs → spoken letter vs ≡ Unreadable
@@ -148,38 +191,38 @@ space_line letter ns xs =
     otherwise Unreadable
 
 -- One byte after a space.
-pub after_space_digit : (letter : ℕ) (ns : Numbers) (x : ℕ) → ns.count < 6 → is_digit x ≡ true → step (Space letter ns) x ≡ Digits letter (pushed ns (x - 48))
+pub after_space_digit : (call : Call) (ns : Numbers) (x : ℕ) → ns.count < 6 → is_digit x ≡ true → step (Space call ns) x ≡ Digits call (pushed ns (x - 48))
 unfolding step after_space
-after_space_digit letter ns x h e = rw (lt-ltb _ _ h, e)
+after_space_digit call ns x h e = rw (lt-ltb _ _ h, e)
 
-pub after_space_full : (letter : ℕ) (ns : Numbers) (x : ℕ) → 6 ≤ ns.count → step (Space letter ns) x ≡ Spoiled
+pub after_space_full : (call : Call) (ns : Numbers) (x : ℕ) → 6 ≤ ns.count → step (Space call ns) x ≡ Spoiled
 unfolding step after_space
-after_space_full letter ns x h = rw (le-ltb _ _ h)
+after_space_full call ns x h = rw (le-ltb _ _ h)
 
-pub after_space_bad : (letter : ℕ) (ns : Numbers) (x : ℕ) → is_digit x ≡ false → step (Space letter ns) x ≡ Spoiled
+pub after_space_bad : (call : Call) (ns : Numbers) (x : ℕ) → is_digit x ≡ false → step (Space call ns) x ≡ Spoiled
 unfolding step after_space
-after_space_bad letter ns x e = rw (e, and-false)
+after_space_bad call ns x e = rw (e, and-false)
 
 -- One byte after a digit.
-pub after_digits_space : (letter : ℕ) (ns : Numbers) (x : ℕ) → eqb x space ≡ true → step (Digits letter ns) x ≡ Space letter ns
+pub after_digits_space : (call : Call) (ns : Numbers) (x : ℕ) → eqb x space ≡ true → step (Digits call ns) x ≡ Space call ns
 unfolding step after_digits
-after_digits_space letter ns x e = rw e
+after_digits_space call ns x e = rw e
 
-pub after_digits_digit : (letter : ℕ) (ns : Numbers) (x : ℕ) → is_digit x ≡ true → step (Digits letter ns) x ≡ grown letter ns (ns.n1 * 10 + (x - 48))
+pub after_digits_digit : (call : Call) (ns : Numbers) (x : ℕ) → is_digit x ≡ true → step (Digits call ns) x ≡ grown call ns (last_of ns * 10 + (x - 48))
 unfolding step after_digits
-after_digits_digit letter ns x e = rw (digit_no_space x e, e)
+after_digits_digit call ns x e = rw (digit_no_space x e, e)
 
-pub after_digits_bad : (letter : ℕ) (ns : Numbers) (x : ℕ) → eqb x space ≡ false → is_digit x ≡ false → step (Digits letter ns) x ≡ Spoiled
+pub after_digits_bad : (call : Call) (ns : Numbers) (x : ℕ) → eqb x space ≡ false → is_digit x ≡ false → step (Digits call ns) x ≡ Spoiled
 unfolding step after_digits
-after_digits_bad letter ns x e f = rw (e, f)
+after_digits_bad call ns x e f = rw (e, f)
 
-pub grown_below : (letter : ℕ) (ns : Numbers) (u v : ℕ) → v < word_limit → grown letter (pushed ns u) v ≡ Digits letter (pushed ns v)
+pub grown_below : (call : Call) (ns : Numbers) (u v : ℕ) → v < word_limit → grown call (pushed ns u) v ≡ Digits call (pushed ns v)
 unfolding grown
-grown_below letter ns u v h = rw (lt-ltb _ _ h)
+grown_below call ns u v h = rw (lt-ltb _ _ h)
 
-pub grown_above : (letter : ℕ) (ns : Numbers) (v : ℕ) → word_limit ≤ v → grown letter ns v ≡ Spoiled
+pub grown_above : (call : Call) (ns : Numbers) (v : ℕ) → word_limit ≤ v → grown call ns v ≡ Spoiled
 unfolding grown
-grown_above letter ns v h = rw (le-ltb _ _ h)
+grown_above call ns v h = rw (le-ltb _ _ h)
 
 -- The rest of a line after a space, byte by byte.
 pub space_line_end : (letter : ℕ) (ns : List ℕ) → space_line letter ns [] ≡ Unreadable
@@ -235,8 +278,8 @@ digits_line_bad letter ns v x xs s e = rw (first_more x xs s, e)
 
 -- What the machine finds in the rest xs of a line, after a space and after a digit.
 pub record Rest (xs : List ℕ) : Type 0 where
-  pub spaced : (letter : ℕ) (ns : List ℕ) → length ns ≤ 6 → line_after (run (Space letter (held ns)) xs) ≡ space_line letter ns xs
-  pub within : (letter : ℕ) (ns : List ℕ) (v : ℕ) → length ns < 6 → v < word_limit → line_after (run (Digits letter (pushed (held ns) v)) xs) ≡ digits_line letter ns v xs
+  pub spaced : (call : Call) (ns : List ℕ) → length ns ≤ 6 → line_after (run (Space call (held ns)) xs) ≡ space_line (letter_of call) ns xs
+  pub within : (call : Call) (ns : List ℕ) (v : ℕ) → length ns < 6 → v < word_limit → line_after (run (Digits call (pushed (held ns) v)) xs) ≡ digits_line (letter_of call) ns v xs
 
 pub spoiled_line : (xs : List ℕ) → line_after (run Spoiled xs) ≡ Unreadable
 unfolding line_after
@@ -249,98 +292,128 @@ run_cons r x xs = refl
 held_length : (ns : List ℕ) → (held ns).count ≡ length ns
 held_length ns = omega (arith, held_count no_numbers ns)
 
-spaced_step : (x : ℕ) (xs : List ℕ) → Rest xs → (letter : ℕ) (ns : List ℕ) → length ns ≤ 6 → line_after (run (Space letter (held ns)) (x ∷ xs)) ≡ space_line letter ns (x ∷ xs)
-spaced_step x xs rest letter ns h = go (is_digit x) refl (ltb (length ns) 6) refl
+spaced_step : (x : ℕ) (xs : List ℕ) → Rest xs → (call : Call) (ns : List ℕ) → length ns ≤ 6 → line_after (run (Space call (held ns)) (x ∷ xs)) ≡ space_line (letter_of call) ns (x ∷ xs)
+spaced_step x xs rest call ns h = go (is_digit x) refl (ltb (length ns) 6) refl
   where
-    go : (t : Bool) → is_digit x ≡ t → (u : Bool) → ltb (length ns) 6 ≡ u → line_after (run (Space letter (held ns)) (x ∷ xs)) ≡ space_line letter ns (x ∷ xs)
+    go : (t : Bool) → is_digit x ≡ t → (u : Bool) → ltb (length ns) 6 ≡ u → line_after (run (Space call (held ns)) (x ∷ xs)) ≡ space_line (letter_of call) ns (x ∷ xs)
     go true e true k =
         let l : length ns < 6 = ltb-true _ _ k in
         let c : (held ns).count < 6 = omega (arith, held_length ns) in
         let b : x - 48 < word_limit = omega (arith, digit_high x e) in
-        rw (run_cons, after_space_digit letter (held ns) x c e, space_line_digit letter ns x xs e) (rest.within letter ns (x - 48) l b)
+        rw (run_cons, after_space_digit call (held ns) x c e, space_line_digit (letter_of call) ns x xs e) (rest.within call ns (x - 48) l b)
     go true e false k =
         let l : 6 ≤ length ns = ltb-false _ _ k in
         let c : 6 ≤ (held ns).count = omega (arith, held_length ns) in
-        rw (run_cons, after_space_full letter (held ns) x c, spoiled_line xs, space_line_full letter ns (x ∷ xs) l)
+        rw (run_cons, after_space_full call (held ns) x c, spoiled_line xs, space_line_full (letter_of call) ns (x ∷ xs) l)
     go false e u k =
-        rw (run_cons, after_space_bad letter (held ns) x e, spoiled_line xs, space_line_bad letter ns x xs e)
+        rw (run_cons, after_space_bad call (held ns) x e, spoiled_line xs, space_line_bad (letter_of call) ns x xs e)
 
-within_step : (x : ℕ) (xs : List ℕ) → Rest xs → (letter : ℕ) (ns : List ℕ) (v : ℕ) → length ns < 6 → v < word_limit → line_after (run (Digits letter (pushed (held ns) v)) (x ∷ xs)) ≡ digits_line letter ns v (x ∷ xs)
-within_step x xs rest letter ns v h b = go (eqb x space) refl (is_digit x) refl
+within_step : (x : ℕ) (xs : List ℕ) → Rest xs → (call : Call) (ns : List ℕ) (v : ℕ) → length ns < 6 → v < word_limit → line_after (run (Digits call (pushed (held ns) v)) (x ∷ xs)) ≡ digits_line (letter_of call) ns v (x ∷ xs)
+within_step x xs rest call ns v h b = go (eqb x space) refl (is_digit x) refl
   where
-    grow_on : (t : Bool) → ltb (v * 10 + (x - 48)) word_limit ≡ t → line_after (run (grown letter (pushed (held ns) v) (v * 10 + (x - 48))) xs) ≡ digits_line letter ns (v * 10 + (x - 48)) xs
+    grow_on : (t : Bool) → ltb (v * 10 + (x - 48)) word_limit ≡ t → line_after (run (grown call (pushed (held ns) v) (v * 10 + (x - 48))) xs) ≡ digits_line (letter_of call) ns (v * 10 + (x - 48)) xs
     grow_on true k =
         let l = ltb-true _ _ k in
-        rw (grown_below letter (held ns) v (v * 10 + (x - 48)) l) (rest.within letter ns (v * 10 + (x - 48)) h l)
+        rw (grown_below call (held ns) v (v * 10 + (x - 48)) l) (rest.within call ns (v * 10 + (x - 48)) h l)
     grow_on false k =
         let l = ltb-false _ _ k in
-        rw (grown_above letter (pushed (held ns) v) (v * 10 + (x - 48)) l, spoiled_line xs, digits_line_high letter ns (v * 10 + (x - 48)) xs l)
+        rw (grown_above call (pushed (held ns) v) (v * 10 + (x - 48)) l, spoiled_line xs, digits_line_high (letter_of call) ns (v * 10 + (x - 48)) xs l)
 
-    go : (s : Bool) → eqb x space ≡ s → (t : Bool) → is_digit x ≡ t → line_after (run (Digits letter (pushed (held ns) v)) (x ∷ xs)) ≡ digits_line letter ns v (x ∷ xs)
+    go : (s : Bool) → eqb x space ≡ s → (t : Bool) → is_digit x ≡ t → line_after (run (Digits call (pushed (held ns) v)) (x ∷ xs)) ≡ digits_line (letter_of call) ns v (x ∷ xs)
     go true e t k =
         let l : length (ns ++ (v ∷ [])) ≤ 6 = simp length-append (omega arith) in
-        rw (run_cons, after_digits_space letter (pushed (held ns) v) x e, ← held_more no_numbers ns v, digits_line_space letter ns v x xs b e) (rest.spaced letter (ns ++ (v ∷ [])) l)
+        rw (run_cons, after_digits_space call (pushed (held ns) v) x e, ← held_more no_numbers ns v, digits_line_space (letter_of call) ns v x xs b e) (rest.spaced call (ns ++ (v ∷ [])) l)
     go false e true k =
-        rw (run_cons, after_digits_digit letter (pushed (held ns) v) x k, digits_line_digit letter ns v x xs k) (grow_on (ltb (v * 10 + (x - 48)) word_limit) refl)
+        rw (run_cons, after_digits_digit call (pushed (held ns) v) x k, digits_line_digit (letter_of call) ns v x xs k) (grow_on (ltb (v * 10 + (x - 48)) word_limit) refl)
     go false e false k =
-        rw (run_cons, after_digits_bad letter (pushed (held ns) v) x e k, spoiled_line xs, digits_line_bad letter ns v x xs e k)
+        rw (run_cons, after_digits_bad call (pushed (held ns) v) x e k, spoiled_line xs, digits_line_bad (letter_of call) ns v x xs e k)
 
-within_end : (letter : ℕ) (ns : List ℕ) (v : ℕ) → length ns < 6 → v < word_limit → line_after (run (Digits letter (pushed (held ns) v)) []) ≡ digits_line letter ns v []
+within_end : (call : Call) (ns : List ℕ) (v : ℕ) → length ns < 6 → v < word_limit → line_after (run (Digits call (pushed (held ns) v)) []) ≡ digits_line (letter_of call) ns v []
 unfolding run line_after
-within_end letter ns v h b =
+within_end call ns v h b =
     let l : length (ns ++ (v ∷ [])) ≤ 6 = simp length-append (omega arith) in
-    rw (digits_line_end letter ns v b, ← held_more no_numbers ns v) (said_held letter (ns ++ (v ∷ [])) l)
+    rw (digits_line_end (letter_of call) ns v b, ← held_more no_numbers ns v) (said_held call (ns ++ (v ∷ [])) l)
 
-spaced_end : (letter : ℕ) (ns : List ℕ) → length ns ≤ 6 → line_after (run (Space letter (held ns)) []) ≡ space_line letter ns []
+spaced_end : (call : Call) (ns : List ℕ) → length ns ≤ 6 → line_after (run (Space call (held ns)) []) ≡ space_line (letter_of call) ns []
 unfolding run line_after
-spaced_end letter ns h = sym (space_line_end letter ns)
+spaced_end call ns h = sym (space_line_end (letter_of call) ns)
 
 pub rest_is : (xs : List ℕ) → Rest xs
 rest_is [] = record { spaced = spaced_end; within = within_end }
 rest_is (x ∷ xs) = record { spaced = spaced_step x xs (rest_is xs); within = within_step x xs (rest_is xs) }
 
 -- The first bytes of a line.
-pub after_start_letter : (x : ℕ) → is_letter x ≡ true → step Start x ≡ Letter x
+pub after_start_letter : (x : ℕ) (call : Call) → call_of x ≡ Some call → step Start x ≡ Letter call
 unfolding step after_start
-after_start_letter x e = rw e
+after_start_letter x call e = rw (e, after_start)
 
-pub after_start_other : (x : ℕ) → is_letter x ≡ false → step Start x ≡ Spoiled
+pub after_start_other : (x : ℕ) → call_of x ≡ None → step Start x ≡ Spoiled
 unfolding step after_start
-after_start_other x e = rw e
+after_start_other x e = rw (e, after_start)
 
-pub after_letter_space : (letter x : ℕ) → eqb x space ≡ true → step (Letter letter) x ≡ Space letter no_numbers
+pub after_letter_space : (call : Call) (x : ℕ) → eqb x space ≡ true → step (Letter call) x ≡ Space call no_numbers
 unfolding step after_letter
-after_letter_space letter x e = rw e
+after_letter_space call x e = rw e
 
-pub after_letter_bad : (letter x : ℕ) → eqb x space ≡ false → step (Letter letter) x ≡ Spoiled
+pub after_letter_bad : (call : Call) (x : ℕ) → eqb x space ≡ false → step (Letter call) x ≡ Spoiled
 unfolding step after_letter
-after_letter_bad letter x e = rw e
+after_letter_bad call x e = rw e
 
-space_no_letter : (x : ℕ) → x ≡ space → is_letter x ≡ false
-unfolding is_letter
-space_no_letter x e = rw e
-
--- a letter and a space, and what follows as after any space; a letter and another byte name nothing
-letter_more : (x : ℕ) → eqb x space ≡ false → (y : ℕ) (ys : List ℕ) → line_after (run (Letter x) (y ∷ ys)) ≡ line_of (x ∷ y ∷ ys)
-unfolding line_of named space_line held_from
-letter_more x e y ys = go (eqb y space) refl
+-- a call is named by its letter, and by no other
+pub call_letter : (x : ℕ) (call : Call) → call_of x ≡ Some call → letter_of call ≡ x
+unfolding call_of
+call_letter x call = go (eqb x letter_f) refl (eqb x letter_p) refl (eqb x letter_d) refl (eqb x letter_g) refl
   where
-    go : (t : Bool) → eqb y space ≡ t → line_after (run (Letter x) (y ∷ ys)) ≡ line_of (x ∷ y ∷ ys)
-    go true s =
-        rw (run_cons, after_letter_space x y s, first_more x (y ∷ ys) e, further_past x (y ∷ ys) e, first_end y ys s, further_here y ys s)
-        ((rest_is ys).spaced x [] (omega arith))
-    go false s =
-        rw (run_cons, after_letter_bad x y s, spoiled_line ys, first_more x (y ∷ ys) e, first_more y ys s, if_same)
+    go : (f : Bool) → eqb x letter_f ≡ f → (p : Bool) → eqb x letter_p ≡ p → (d : Bool) → eqb x letter_d ≡ d → (g : Bool) → eqb x letter_g ≡ g
+        → (if f then Some AFormat otherwise if p then Some APut otherwise if d then Some ADelete otherwise if g then Some AGet otherwise None) ≡ Some call → letter_of call ≡ x
+    go true a p b d c g e k = subst (λ (o : Option Call). IfSome o (λ c. letter_of c ≡ x)) k (sym (eqb-true _ _ a))
+    go false a true b d c g e k = subst (λ (o : Option Call). IfSome o (λ c. letter_of c ≡ x)) k (sym (eqb-true _ _ b))
+    go false a false b true c g e k = subst (λ (o : Option Call). IfSome o (λ c. letter_of c ≡ x)) k (sym (eqb-true _ _ c))
+    go false a false b false c true e k = subst (λ (o : Option Call). IfSome o (λ c. letter_of c ≡ x)) k (sym (eqb-true _ _ e))
+    go false a false b false c false e k = cc
 
--- After the letter alone.
-pub letter_line : (x : ℕ) → eqb x space ≡ false → (xs : List ℕ) → line_after (run (Letter x) xs) ≡ line_of (x ∷ xs)
-unfolding run line_after line_of named spoken first_field further_fields
-letter_line x e [] = rw e
-letter_line x e (y ∷ ys) = letter_more x e y ys
+-- a byte that names no call is no letter
+pub no_call : (x : ℕ) → call_of x ≡ None → is_letter x ≡ false
+unfolding call_of is_letter
+no_call x = go (eqb x letter_f) (eqb x letter_p) (eqb x letter_d) (eqb x letter_g)
+  where
+    go : (f p d g : Bool) → (if f then Some AFormat otherwise if p then Some APut otherwise if d then Some ADelete otherwise if g then Some AGet otherwise None) ≡ None → (f || (p || (d || g))) ≡ false
+    go true p d g k = cc
+    go false true d g k = cc
+    go false false true g k = cc
+    go false false false true k = cc
+    go false false false false k = refl
 
 -- a letter is no space
-pub letter_no_space : (x : ℕ) → is_letter x ≡ true → eqb x space ≡ false
-letter_no_space x e = ne_eqb x space (λ s. let f = space_no_letter x s in let z : ◌≡◌ {A = ℕ} 0 1 = cc in omega arith)
+pub letter_no_space : (call : Call) → eqb (letter_of call) space ≡ false
+letter_no_space AFormat = refl
+letter_no_space APut = refl
+letter_no_space ADelete = refl
+letter_no_space AGet = refl
+
+-- a letter and a space, and what follows as after any space; a letter and another byte name nothing
+letter_more : (call : Call) (y : ℕ) (ys : List ℕ) → line_after (run (Letter call) (y ∷ ys)) ≡ line_of (letter_of call ∷ y ∷ ys)
+unfolding line_of named space_line held_from
+letter_more call y ys = go (eqb y space) refl
+  where
+    x : ℕ
+    x = letter_of call
+
+    e : eqb x space ≡ false
+    e = letter_no_space call
+
+    go : (t : Bool) → eqb y space ≡ t → line_after (run (Letter call) (y ∷ ys)) ≡ line_of (x ∷ y ∷ ys)
+    go true s =
+        rw (run_cons, after_letter_space call y s, first_more x (y ∷ ys) e, further_past x (y ∷ ys) e, first_end y ys s, further_here y ys s)
+        ((rest_is ys).spaced call [] (omega arith))
+    go false s =
+        rw (run_cons, after_letter_bad call y s, spoiled_line ys, first_more x (y ∷ ys) e, first_more y ys s, if_same)
+
+-- After the letter alone.
+pub letter_line : (call : Call) (xs : List ℕ) → line_after (run (Letter call) xs) ≡ line_of (letter_of call ∷ xs)
+unfolding run line_after line_of named spoken first_field further_fields
+letter_line call [] = rw (letter_no_space call)
+letter_line call (y ∷ ys) = letter_more call y ys
 
 -- a first field that begins with another byte names nothing
 pub named_other : (x : ℕ) (f ns : List ℕ) → is_letter x ≡ false → named (x ∷ f) ns ≡ Unreadable
@@ -360,11 +433,11 @@ other_line x xs e = go (eqb x space) refl
 pub line_is : (xs : List ℕ) → line_after (run Start xs) ≡ line_of xs
 unfolding run line_after line_of named first_field further_fields
 line_is [] = refl
-line_is (x ∷ xs) = go (is_letter x) refl
+line_is (x ∷ xs) = go (call_of x) refl
   where
-    go : (t : Bool) → is_letter x ≡ t → line_after (run Start (x ∷ xs)) ≡ line_of (x ∷ xs)
-    go true e = rw (run_cons, after_start_letter x e) (letter_line x (letter_no_space x e) xs)
-    go false e = rw (run_cons, after_start_other x e, spoiled_line xs, other_line x xs e)
+    go : (t : Option Call) → call_of x ≡ t → line_after (run Start (x ∷ xs)) ≡ line_of (x ∷ xs)
+    go (Some call) e = rw (run_cons, after_start_letter x call e) (subst (λ (y : ℕ). line_after (run (Letter call) xs) ≡ line_of (y ∷ xs)) (call_letter x call e) (letter_line call xs))
+    go None e = rw (run_cons, after_start_other x e, spoiled_line xs, other_line x xs (no_call x e))
 
 -- one byte more at the end
 pub run_then : (r : Reading) (xs : List ℕ) (x : ℕ) → run r (xs ++ (x ∷ [])) ≡ step (run r xs) x
@@ -375,12 +448,16 @@ run_then r (y ∷ xs) x = run_then (step r y) xs x
 -- a line that has begun does not go back to its start
 step_begun : (r : Reading) (x : ℕ) → is_start (step r x) ≡ false
 unfolding step after_start after_letter after_space after_digits grown
-step_begun Start x = if_either (λ r. is_start r ≡ false) (is_letter x) _ _ refl refl
-step_begun (Letter letter) x = if_either (λ r. is_start r ≡ false) (eqb x space) _ _ refl refl
-step_begun (Space letter ns) x = if_either (λ r. is_start r ≡ false) (ltb ns.count 6 && is_digit x) _ _ refl refl
-step_begun (Digits letter ns) x =
+step_begun Start x = begun (call_of x)
+  where
+    begun : (t : Option Call) → is_start (elim t [ Some call ↦ Letter call | None ↦ Spoiled ]) ≡ false
+    begun (Some call) = refl
+    begun None = refl
+step_begun (Letter call) x = if_either (λ r. is_start r ≡ false) (eqb x space) _ _ refl refl
+step_begun (Space call ns) x = if_either (λ r. is_start r ≡ false) (ltb ns.count 6 && is_digit x) _ _ refl refl
+step_begun (Digits call ns) x =
     if_either (λ r. is_start r ≡ false) (eqb x space) _ _ refl
-    (if_either (λ r. is_start r ≡ false) (is_digit x) _ _ (if_either (λ r. is_start r ≡ false) (ltb (ns.n1 * 10 + (x - 48)) word_limit) _ _ refl refl) refl)
+    (if_either (λ r. is_start r ≡ false) (is_digit x) _ _ (if_either (λ r. is_start r ≡ false) (ltb (last_of ns * 10 + (x - 48)) word_limit) _ _ refl refl) refl)
 step_begun Spoiled x = refl
 
 pub run_begun : (r : Reading) (x : ℕ) (xs : List ℕ) → is_start (run r (x ∷ xs)) ≡ false

@@ -1,6 +1,7 @@
 -- Document 01, "Call list program": what a line says, and what is printed for it, as bytes.
 -- A line is its bytes without the line end.
 use Rattle.std.specs.Prelude.{ℕ, zero, suc, ◌+◌, ◌-◌, ◌*◌, ◌/◌, ◌%◌, Bool, true, false, ◌&&◌, List, [], ◌∷◌, ◌++◌, map, ltb, eqb, length, get_or}
+use Rattle.std.specs.List.{flat_map}
 use Rattle.lines.specs.declared.Line.{Line}
 use Rattle.lines.specs.declared.Line.TheVariants.{Format, Put, Delete, Get, Unreadable}
 use Rattle.lines.specs.Bytes.{line_end, space, question, letter_d, letter_f, letter_g, letter_p, is_digit, digit, if◌then◌otherwise◌, every}
@@ -69,7 +70,19 @@ decimal n = decimal_within n n
 unfoldable pub field : ℕ → ℕ → List ℕ
 field n after = decimal n ++ (after ∷ [])
 
--- No line is longer: a letter, a space, and four numbers of at most ten digits with a byte after each.
+-- "Fields are parted by one space"
+abbrev pub spaced : ℕ → List ℕ
+spaced n = space ∷ decimal n
+
+-- A line with a letter and any numbers. Each printed line is one: laws `format_is`, `get_is`, `change_is` and `unreadable_is` of proofs/Print.
+unfoldable pub printed_line : ℕ → List ℕ → List ℕ
+printed_line letter ns = letter ∷ (flat_map spaced ns ++ (line_end ∷ []))
+
+-- No line with k numbers is longer: a letter, for each number a space and at most ten digits, and the line end.
+abbrev pub room : ℕ → ℕ
+room k = 2 + 11 * k
+
+-- No line is longer than one with four numbers.
 abbrev pub longest_line : ℕ
 longest_line = 46
 

@@ -7,7 +7,7 @@ ghost use Rattle.blocks.specs.Blocks.{Marks};
 ghost use Rattle.geometry.specs.Room.{list_room};
 ghost use Rattle.merging.specs.Contract.{merge_of, Mergeable, Leaves, inputs_of, begin_of, limit_of};
 
-use blocks::Offsets;
+use blocks::{Buffer, Offsets};
 use geometry::Geometry;
 use layout::Layout;
 use stream::{Desk, Inputs, Point, Progress};
@@ -53,7 +53,6 @@ impl Cut {
         requires { self.start ≤ self.y }
         ensures { result ≡ begin_of self cursor }
     {
-        let empty = blocks::empty();
         let x = Point { i: self.x, j: 0 };
         let y = Point { i: self.y, j: 0 };
         Progress {
@@ -62,7 +61,7 @@ impl Cut {
             m: self.y - self.start,
             writes: 0,
             cursor: cursor,
-            buf: empty,
+            buf: Buffer::default(),
         }
     }
 

@@ -1,6 +1,6 @@
 -- Where a key stands among rising keys: everything before is below it, everything from there on is not, and it is found where
 -- it is one of them.
-use Prim.Native.Nat.{ℕ, zero, suc, ◌+◌, ◌-◌, ◌*◌, ◌/◌, ◌≤◌, ◌<◌}
+use Prim.Native.Nat.{ℕ, zero, suc, ◌+◌, ◌-◌, ◌/◌, ◌≤◌, ◌<◌}
 use mathlib.Core.Path.{◌≡◌, refl, sym, ap, ◌∙◌}
 use mathlib.Core.Bool.{Bool, true, false, ◌||◌}
 use mathlib.Core.Logic.{dite}
@@ -13,6 +13,8 @@ use lib.Dec.{leb, ltb, eqb}
 use lib.ListN.{length, get_or, take, drop, length-drop}
 use lib.Seq.{length-take-le, take-nil, take-suc, drop-drop, get_or-take, get_or-drop}
 use borrow.Author.Tests.{ltb-true, ltb-false, lt-ltb, le-ltb, lt-leb, le-leb, eqb-true, eqb-false, eq-eqb, ne_eqb}
+use Rattle.std.specs.List.Sorted.{IsPartitionedBy, IsPartitionPoint}
+use Rattle.std.proofs.lemmas.Grind.{get_or_default_zero}
 use Rattle.slices.specs.Ranks.{Rising, count_below, among}
 
 pub count_in : (k x : ℕ) (xs : List ℕ) → x < k → count_below k (x ∷ xs) ≡ suc (count_below k xs)
@@ -184,22 +186,37 @@ count_append k (x ∷ xs) ys =
     (λ n. rw (count_out k x (xs ++ ys) (omega arith), count_out k x xs (omega arith)) (count_append k xs ys))
 
 -- one key more is counted
-pub count_more : (k a i : ℕ) (ws : List ℕ) → a + i < length ws → k ≤ 4294967296 → get_or ws (a + i) 0 < 4294967296
-    → count_below k (take i (drop a ws)) + (k + 4294967295 - get_or ws (a + i) 0) / 4294967296 ≡ count_below k (take (i + 1) (drop a ws))
+pub count_more : (k i : ℕ) (xs : List ℕ) → i < length xs → k ≤ 4294967296 → get_or xs i 0 < 4294967296
+    → count_below k (take i xs) + (k + 4294967295 - get_or xs i 0) / 4294967296 ≡ count_below k (take (i + 1) xs)
 unfolding count_below
-count_more k a i ws h b l =
-    let t : take (i + 1) (drop a ws) ≡ take i (drop a ws) ++ (get_or ws (a + i) 0 ∷ []) = rw (add-one i, ← get_or-drop a ws i 0) (take-suc (drop a ws) i 0 (rw length-drop (omega arith))) in
-    rw (t, count_append k (take i (drop a ws)) (get_or ws (a + i) 0 ∷ [])) (ap (◌+◌ (count_below k (take i (drop a ws)))) (go (dec_lt (get_or ws (a + i) 0) k)))
+count_more k i xs h b l =
+    let t : take (i + 1) xs ≡ take i xs ++ (get_or xs i 0 ∷ []) = rw (add-one i) (take-suc xs i 0 h) in
+    rw (t, count_append k (take i xs) (get_or xs i 0 ∷ [])) (ap (◌+◌ (count_below k (take i xs))) (go (dec_lt (get_or xs i 0) k)))
   where
-    go : Dec (get_or ws (a + i) 0 < k) → (k + 4294967295 - get_or ws (a + i) 0) / 4294967296 ≡ count_below k (get_or ws (a + i) 0 ∷ [])
+    go : Dec (get_or xs i 0 < k) → (k + 4294967295 - get_or xs i 0) / 4294967296 ≡ count_below k (get_or xs i 0 ∷ [])
     go (yes y) = up_below k _ b y ∙ sym (count_in k _ [] y)
     go (no n) = up_not k _ (omega arith) l ∙ sym (count_out k _ [] (omega arith))
 
--- what a search among n keys knows: at least `below` of them are below k, and at most `left` more
-abbrev pub Narrowed : ℕ → List ℕ → ℕ → ℕ → ℕ → Type 0
-Narrowed k xs n below left = (below ≤ count_below k xs) × ((count_below k xs ≤ below + left) × (below + left ≤ n))
+-- Rising keys are parted by being below k, and where they are parted is how many are below it.
+module _ (k : ℕ) (xs : List ℕ) (r : Rising 0 xs) where
+  pub rising_parted : IsPartitionedBy (λ y. ltb y k) xs
+  rising_parted i j d h l t =
+      let u = rw (get_or_default_zero xs j d l) at t in
+      let p = count_past k 0 xs j r l (ltb-true _ _ u) in
+      rw (get_or_default_zero xs i d (omega arith)) (lt-ltb _ _ (rank_before k 0 xs i r (omega (arith, p))))
 
--- The search among the n keys from word a on: what a look at key i tells, a turn of its loop, and its end.
+  pub parted_count : (i : ℕ) → i ≤ length xs → IsPartitionPoint (λ y. ltb y k ≡ true) (λ y. ltb y k ≡ false) xs i → i ≡ count_below k xs
+  parted_count i l p = omega (arith, low i l p.0, high (dec_lt i (length xs)))
+    where
+      low : (i : ℕ) → i ≤ length xs → ((j d : ℕ) → 0 ≤ j → j < i → ltb (get_or xs j d) k ≡ true) → i ≤ count_below k xs
+      low zero l q = omega arith
+      low (suc i) l q = count_past k 0 xs i r l (ltb-true _ _ (q i 0 (omega arith) (omega arith)))
+
+      high : Dec (i < length xs) → count_below k xs ≤ i
+      high (yes y) = count_stop k 0 xs i r y (ltb-false _ _ (p.1 i 0 (omega arith) y))
+      high (no n) = omega (arith, count_high k xs)
+
+-- The search among the n keys from word a on.
 module _ (k a n : ℕ) (ws : List ℕ) (h : a + n ≤ length ws) (r : Rising 0 (take n (drop a ws))) where
   abbrev keys : List ℕ
   keys = take n (drop a ws)
@@ -212,34 +229,6 @@ module _ (k a n : ℕ) (ws : List ℕ) (h : a + n ≤ length ws) (r : Rising 0 (
 
   pub search_room : count_below k keys ≤ n
   search_room = omega (arith, count_high k keys, long)
-
-  search_past : (i : ℕ) → i < n → get_or ws (a + i) 0 < k → suc i ≤ count_below k keys
-  search_past i l p = count_past k 0 keys i r (omega (arith, long)) (rw (key_is i l) p)
-
-  search_stop : (i : ℕ) → i < n → k ≤ get_or ws (a + i) 0 → count_below k keys ≤ i
-  search_stop i l p = count_stop k 0 keys i r (omega (arith, long)) (rw (key_is i l) p)
-
-  pub search_turn : (below left key : ℕ) → 1 ≤ left → k ≤ 4294967296 → key < 4294967296 → key ≡ get_or ws (a + below + (left - left / 2 - 1)) 0 → Narrowed k keys n below left
-      → Narrowed k keys n (below + (left - left / 2) * ((k + 4294967295 - key) / 4294967296)) (left / 2)
-  search_turn below left key l b f e i = dite (dec_lt key k) low high
-    where
-      at : ℕ
-      at = below + (left - left / 2 - 1)
-
-      here : get_or ws (a + at) 0 ≡ key
-      here = let q : a + at ≡ a + below + (left - left / 2 - 1) = omega arith in rw q (sym e)
-
-      low : key < k → Narrowed k keys n (below + (left - left / 2) * ((k + 4294967295 - key) / 4294967296)) (left / 2)
-      low y =
-          let q = up_below k key b y in
-          let p = search_past at (omega arith) (rw here y) in
-          rw q (omega (arith, p), (omega arith, omega arith))
-
-      high : (key < k → ⊥) → Narrowed k keys n (below + (left - left / 2) * ((k + 4294967295 - key) / 4294967296)) (left / 2)
-      high m =
-          let q = up_not k key (omega arith) f in
-          let p = search_stop at (omega arith) (rw here (omega arith)) in
-          rw q (omega arith, (omega (arith, p), omega arith))
 
   -- found, as the code tells it: the key there is k
   pub search_found : (i : ℕ) → i ≡ count_below k keys → i < n → eqb (get_or ws (a + i) 0) k ≡ among k keys

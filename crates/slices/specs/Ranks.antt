@@ -1,6 +1,5 @@
 -- Where a key stands among keys in a row.
-use Rattle.std.specs.Prelude.{ℕ, suc, ◌≤◌, Bool, true, false, ◌||◌, List, [], ◌∷◌, ltb, eqb}
-use Rattle.slices.specs.declared.Rank.{Rank}
+use Rattle.std.specs.Prelude.{ℕ, suc, ◌≤◌, Bool, true, false, ◌||◌, List, [], ◌∷◌, ltb, eqb, Result, Ok, Err}
 
 -- each key is at least `low`, and above the key before it
 abbrev pub Rising : ℕ → List ℕ → Type 0
@@ -17,6 +16,11 @@ unfoldable pub among : ℕ → List ℕ → Bool
 among k [] = false
 among k (x ∷ xs) = eqb x k || among k xs
 
+-- an entry that is there (`Ok`), or would stand there (`Err`)
+abbrev pub ranked : Bool → ℕ → Result ℕ ℕ
+ranked true i = Ok i
+ranked false i = Err i
+
 -- where k stands: so many keys are below it, and it is one of them or not
-abbrev pub rank_of : ℕ → List ℕ → Rank
-rank_of k xs = record { below = count_below k xs; found = among k xs }
+abbrev pub rank_of : ℕ → List ℕ → Result ℕ ℕ
+rank_of k xs = ranked (among k xs) (count_below k xs)

@@ -28,9 +28,8 @@ use Rattle.lists.proofs.Laws.{part_over}
 use Rattle.lists.specs.Lists.{lists_of}
 use Rattle.blocks.specs.Blocks.{Marks}
 use Rattle.steps.specs.declared.Counts.{Counts}
-use Rattle.steps.specs.declared.Tally.{Tally}
 use Rattle.steps.specs.declared.Run.{Run}
-use Rattle.steps.specs.Running.{named, store_of, Stands, Markable, Marking, numbers_of, plus, Few, Small, Grown, Leaving, Running, compacted_counts, merged_counts, StepReady, step_counts}
+use Rattle.steps.specs.Running.{Tally, counts_in, named, store_of, Stands, Markable, Marking, numbers_of, plus, Few, Small, Grown, Leaving, Running, compacted_counts, merged_counts, StepReady, step_counts}
 use Rattle.steps.proofs.Compacting.{needed_is, not_needed}
 use Rattle.steps.proofs.Standing.{top_fits_lem, markable, marking}
 use Rattle.steps.proofs.Merging.{start_inside, level_low, merged_few}
@@ -46,18 +45,10 @@ plus_assoc a b c =
     λ i. record { merges = x i; written = y i; compacted = z i }
 
 pub grown_chain : (f h : ℕ → levels.Counts) (t u v : Tally) → Grown f t u → Grown h u v → Grown (λ j. plus (f j) (h j)) t v
-grown_chain f h t u v a b = record {
-  one = b.one ∙ ap (λ (x : levels.Counts). plus x (h 1)) a.one ∙ plus_assoc (numbers_of t.one) (f 1) (h 1);
-  two = b.two ∙ ap (λ (x : levels.Counts). plus x (h 2)) a.two ∙ plus_assoc (numbers_of t.two) (f 2) (h 2);
-  three = b.three ∙ ap (λ (x : levels.Counts). plus x (h 3)) a.three ∙ plus_assoc (numbers_of t.three) (f 3) (h 3);
-}
+grown_chain f h t u v a b = (b.0 ∙ a.0, λ j l. b.1 j l ∙ ap (λ (x : levels.Counts). plus x (h (suc j))) (a.1 j l) ∙ plus_assoc (numbers_of (counts_in t j)) (f (suc j)) (h (suc j)))
 
 pub grown_same : (f h : ℕ → levels.Counts) (t u : Tally) → ((j : ℕ) → f j ≡ h j) → Grown f t u → Grown h t u
-grown_same f h t u e a = record {
-  one = a.one ∙ ap (plus (numbers_of t.one)) (e 1);
-  two = a.two ∙ ap (plus (numbers_of t.two)) (e 2);
-  three = a.three ∙ ap (plus (numbers_of t.three)) (e 3);
-}
+grown_same f h t u e a = (a.0, λ j l. a.1 j l ∙ ap (plus (numbers_of (counts_in t j))) (e (suc j)))
 
 -- how much a tally grows
 few_more : (n m b : ℕ) (c d : Counts) (f : levels.Counts) → Few n c → numbers_of d ≡ plus (numbers_of c) f → (f.merges ≤ b) × (f.written ≤ b) × (f.compacted ≤ b) → n + b ≤ m → Few m d
@@ -68,16 +59,12 @@ few_more n m b c d f k e h l = record {
 }
 
 pub grown_small : (f : ℕ → levels.Counts) (t u : Tally) (n m b : ℕ) → ((j : ℕ) → ((f j).merges ≤ b) × ((f j).written ≤ b) × ((f j).compacted ≤ b)) → n + b ≤ m → Small n t → Grown f t u → Small m u
-grown_small f t u n m b h l k a = record {
-  one = few_more n m b t.one u.one (f 1) k.one a.one (h 1) l;
-  two = few_more n m b t.two u.two (f 2) k.two a.two (h 2) l;
-  three = few_more n m b t.three u.three (f 3) k.three a.three (h 3) l;
-}
+grown_small f t u n m b h l k a = record { three = a.0 ∙ k.three; few = λ j i. few_more n m b (counts_in t j) (counts_in u j) (f (suc j)) (k.few j i) (a.1 j i) (h (suc j)) l }
 
 pub small_more : (n m : ℕ) (t : Tally) → n ≤ m → Small n t → Small m t
 small_more n m t l k =
     let few : (c : Counts) → Few n c → Few m c = λ c d. record { merges = omega (arith, d.merges); written = omega (arith, d.written); compacted = omega (arith, d.compacted) } in
-    record { one = few t.one k.one; two = few t.two k.two; three = few t.three k.three }
+    record { three = k.three; few = λ j i. few (counts_in t j) (k.few j i) }
 
 -- one change after another
 pub leaving_chain : (z : Layout) → Proper z → (t1 t2 : Store) (b1 b2 : List Block) (f1 f2 : ℕ → levels.Counts) (ws : List ℕ) (r : Run) (ws1 lists1 : List ℕ) (r1 : Run) (ws2 lists2 : List ℕ) (r2 : Run)

@@ -1,15 +1,16 @@
 -- Step 5 for one level, on words and lists.
-use Prim.Native.Nat.{ℕ, zero, suc, ◌+◌, ◌≤◌, ◌<◌}
+use Prim.Native.Nat.{ℕ, suc, ◌+◌, ◌-◌, ◌≤◌, ◌<◌}
 use mathlib.Core.Path.{◌≡◌, refl, sym, ap, ◌∙◌, subst}
 use mathlib.Core.Bool.{Bool, true, false}
 use mathlib.Core.List.{List, [], ◌∷◌, map, append-nil}
 use mathlib.Core.Logic.{◌≢◌}
+use native.Mathlib.Decide.{ℕ_discrete}
 use native.Mathlib.Nat.{add-zero}
-use native.Mathlib.Numerals.{add-one}
 use native.Mathlib.Omega.{arith}
 use lib.Dec.{eqb}
-use lib.ListN.{length, take, drop, get_or, set}
-use lib.Seq.{get_or-set_same}
+use lib.ListN.{length, take, drop, get_or, set, length-set}
+use lib.Seq.{get_or-set_same, get_or-set_other}
+use borrow.Author.Tests.{eq-eqb, ne_eqb}
 use Rattle.slices.specs.Slices.{put_at}
 use Rattle.levels.specs.Basics.{if◌then◌otherwise◌}
 use Rattle.levels.specs.Waste.{needs_compact}
@@ -40,9 +41,8 @@ use Rattle.merging.specs.Contract.{Leaves}
 use Rattle.compaction.specs.Machine.{Countable, Compactable}
 use Rattle.pair.proofs.Room.{count_few}
 use Rattle.steps.specs.declared.Counts.{Counts}
-use Rattle.steps.specs.declared.Tally.{Tally}
 use Rattle.steps.specs.declared.Run.{Run}
-use Rattle.steps.specs.Running.{named, store_of, Marking, numbers_of, plus, sum_of, counted, Grown, Leaving, Running, compacted_counts}
+use Rattle.steps.specs.Running.{Tally, counts_in, no_counts, named, store_of, Marking, numbers_of, plus, sum_of, counted, Grown, Leaving, Running, compacted_counts}
 use Rattle.steps.proofs.Standing.{inside_short, stand, top_fits_lem, held_words, places_new, level_is, entries_are, in_part, countable, mergeables, marking}
 use Rattle.layout.specs.declared.Layout.{Layout}
 
@@ -64,33 +64,23 @@ same_counts a b x y z =
     λ i. record { merges = m i; written = w i; compacted = c i }
 
 pub grown_none : (f : ℕ → levels.Counts) (t : Tally) → ((j : ℕ) → ((f j).merges ≡ 0) × ((f j).written ≡ 0) × ((f j).compacted ≡ 0)) → Grown f t t
-grown_none f t h = record {
-  one = same_counts (numbers_of t.one) (f 1) (h 1).0 (h 1).1 (h 1).2;
-  two = same_counts (numbers_of t.two) (f 2) (h 2).0 (h 2).1 (h 2).2;
-  three = same_counts (numbers_of t.three) (f 3) (h 3).0 (h 3).1 (h 3).2;
-}
+grown_none f t h = (refl, λ j l. let n = h (suc j) in same_counts (numbers_of (counts_in t j)) (f (suc j)) n.0 n.1 n.2)
 
 abbrev none : levels.Counts
-none = record { merges = 0; written = 0; compacted = 0 }
+none = numbers_of no_counts
 
--- c more for level 1, 2 or 3
-counted_is : (t : Tally) (level : ℕ) (c : Counts) → 1 ≤ level → level ≤ 3 → counted t level c ≡ record { one = if eqb level 1 then sum_of t.one c otherwise t.one; two = if eqb level 2 then sum_of t.two c otherwise t.two; three = if eqb level 3 then sum_of t.three c otherwise t.three }
-unfolding counted
-counted_is t zero c l h = absurd (omega arith)
-counted_is t (suc zero) c l h = refl
-counted_is t (suc (suc zero)) c l h = refl
-counted_is t (suc (suc (suc zero))) c l h = refl
-counted_is t (suc (suc (suc (suc n)))) c l h = absurd (omega arith)
-
-pub grown_counted : (f : ℕ → levels.Counts) (t u : Tally) (level : ℕ) (c : Counts) → 1 ≤ level → level ≤ 3 → u ≡ counted t level c → ((i : ℕ) → f i ≡ (if eqb level i then numbers_of c otherwise none)) → Grown f t u
-grown_counted f t u level c l h e q = rw (e ∙ counted_is t level c l h) (record { one = more 1 t.one; two = more 2 t.two; three = more 3 t.three })
+-- c more for level j + 1
+pub grown_counted : (f : ℕ → levels.Counts) (t u : Tally) (level j : ℕ) (c : Counts) → level ≡ suc j → j < length t → u ≡ counted t level c → ((i : ℕ) → f i ≡ (if eqb level i then numbers_of c otherwise none)) → Grown f t u
+grown_counted f t u level j c el h e q =
+    let b : level - 1 ≡ j = omega arith in
+    let d : u ≡ set t j (sum_of (counts_in t j) c) = e ∙ rw b in
+    rw d (length-set t j (sum_of (counts_in t j) c), λ i l. more i (ℕ_discrete i j))
   where
-    at : (a : Counts) (b : Bool) → numbers_of (if b then sum_of a c otherwise a) ≡ plus (numbers_of a) (if b then numbers_of c otherwise none)
-    at a true = refl
-    at a false = same_counts (numbers_of a) none refl refl refl
-
-    more : (i : ℕ) (a : Counts) → numbers_of (if eqb level i then sum_of a c otherwise a) ≡ plus (numbers_of a) (f i)
-    more i a = at a (eqb level i) ∙ ap (plus (numbers_of a)) (sym (q i))
+    more : (i : ℕ) → Dec (i ≡ j) → numbers_of (counts_in (set t j (sum_of (counts_in t j) c)) i) ≡ plus (numbers_of (counts_in t i)) (f (suc i))
+    more i (yes y) = rw (y, get_or-set_same t j (sum_of (counts_in t j) c) no_counts h) (ap (plus (numbers_of (counts_in t j))) (sym (q (suc j) ∙ rw (eq-eqb level (suc j) el))))
+    more i (no n) =
+        rw (get_or-set_other t j i (sum_of (counts_in t j) c) no_counts n)
+        (same_counts (numbers_of (counts_in t i)) none refl refl refl ∙ ap (plus (numbers_of (counts_in t i))) (sym (q (suc i) ∙ rw (ne_eqb level (suc i) (λ y. n (omega arith))))))
 
 -- the counts of one compaction
 compacted_one : (c : Compaction) (n level : ℕ) → c.level ≡ level → blocks_compacted c ≡ n → (i : ℕ) → compacted_counts (c ∷ []) i ≡ (if eqb level i then (record { merges = 0; written = 0; compacted = n }) otherwise none)
@@ -225,7 +215,7 @@ module _ (z : Layout) (ws lists : List ℕ) (r : Run) (k : Running 2000000000 z 
             other : (i : ℕ) → i ≢ j → get_or c.finish.levels i [] ≡ get_or t.levels i []
             other = rw (needed_is z t j needs) at (needed_keeps z t j).1
 
-        pub compacted : (lists' : List ℕ) (u : Run) (tally : Tally) → lists' ≡ put_at at (take m.count (drop 0 out)) lists → tally ≡ counted r.tally (j + 1) (record { merges = 0; written = 0; compacted = m.writes })
+        pub compacted : (lists' : List ℕ) (u : Run) (tally : Tally) → lists' ≡ put_at at (take m.count (drop 0 out)) lists → tally ≡ counted r.tally level (record { merges = 0; written = 0; compacted = m.writes })
             → u ≡ record { ns = set r.ns j m.count; cursor = m.cursor; tally = tally } → (s : Store) → s ≡ t
             → Leaving z (after_compactions s (compact_if_needed z.geo level s)) (compacted_blocks (compact_if_needed z.geo level s)) (compacted_counts (compact_if_needed z.geo level s)) ws r ws' lists' u
         unfolding c st compact_level
@@ -237,6 +227,6 @@ module _ (z : Layout) (ws lists : List ℕ) (r : Run) (k : Running 2000000000 z 
             (record {
               stands = stand z k.entry c.finish ws' _ _ k.proper facts.finish_inside held fits relisted left_is.cursor;
               words = held_words z c.finish st.written ws ws' held left_is.words;
-              counts = grown_counted (compacted_counts (c ∷ [])) r.tally tally (suc j) (record { merges = 0; written = 0; compacted = m.writes }) (omega arith) (omega (arith, low, k.proper.valid.ranged.h_high))
-                  (et ∙ ap (λ (i : ℕ). counted r.tally i (record { merges = 0; written = 0; compacted = m.writes })) (add-one j)) (compacted_one c m.writes (suc j) refl w);
+              counts = grown_counted (compacted_counts (c ∷ [])) r.tally tally level j (record { merges = 0; written = 0; compacted = m.writes }) el (omega (arith, low, k.proper.valid.ranged.h_high, k.small.three)) et
+                  (λ i. compacted_one c m.writes (suc j) refl w i ∙ ap (λ (x : ℕ). if eqb x i then (record { merges = 0; written = 0; compacted = m.writes }) otherwise none) (sym el));
             })

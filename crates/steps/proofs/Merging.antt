@@ -45,10 +45,9 @@ use Rattle.words.proofs.Steps.{standing_merge}
 use Rattle.blocks.specs.Blocks.{Marks}
 use Rattle.pair.specs.declared.Step.{Step}
 use Rattle.pair.specs.Contract.{listed, cut_of, upper_after, lower_after, PairReady, PairLeaves, PairMerged}
-use Rattle.steps.specs.declared.Tally.{Tally}
 use Rattle.steps.specs.declared.Run.{Run}
 use Rattle.steps.specs.declared.Ticketed.{Ticketed}
-use Rattle.steps.specs.Running.{store_of, Marking, counted, Grown, Leaving, merged_counts, StepReady, LevelMerged}
+use Rattle.steps.specs.Running.{Tally, store_of, Marking, counted, Grown, Leaving, merged_counts, StepReady, LevelMerged}
 use Rattle.steps.proofs.Standing.{inside_short, places_new, stand, top_fits_lem, held_words, level_is, entries_are, stored}
 use Rattle.steps.proofs.Compacting.{grown_counted}
 use Rattle.layout.specs.Layouts.{Proper}
@@ -98,10 +97,10 @@ module _ (z : Layout) (e t : Store) (i : ℕ) (v : Proper z) (f : MergeFacts z.g
   merged_few = omega (arith, f.room, v.valid.places_high)
 
   -- the counts of the merge
-  pub merged_grown : (tally u : Tally) (k n : ℕ) → k ≡ suc i → n ≡ length (merge_level z.geo i t).written → u ≡ counted tally k (record { merges = 1; written = n; compacted = 0 }) → Grown (merged_counts (merge_level z.geo i t)) tally u
-  merged_grown tally u k n ek en eu =
+  pub merged_grown : (tally u : Tally) (k n : ℕ) → length tally ≡ 3 → k ≡ suc i → n ≡ length (merge_level z.geo i t).written → u ≡ counted tally k (record { merges = 1; written = n; compacted = 0 }) → Grown (merged_counts (merge_level z.geo i t)) tally u
+  merged_grown tally u k n long ek en eu =
       let b : blocks_merged (merge_level z.geo i t) ≡ n = merge_written z.geo e (merge_level z.geo i t) v.valid f ∙ sym en in
-      grown_counted (merged_counts (merge_level z.geo i t)) tally u k (record { merges = 1; written = n; compacted = 0 }) (omega (arith, ek)) (omega (arith, ek, level_low, v.valid.ranged.h_high)) eu
+      grown_counted (merged_counts (merge_level z.geo i t)) tally u k i (record { merges = 1; written = n; compacted = 0 }) ek (omega (arith, long, level_low, v.valid.ranged.h_high)) eu
       (λ x. ap (λ (y : ℕ). of y (blocks_merged (merge_level z.geo i t)) x) (ap suc (merge_level_lem z.geo i t) ∙ sym ek) ∙ ap (λ (y : ℕ). of k y x) b ∙ pick (eqb k x) n)
     where
       of : ℕ → ℕ → ℕ → levels.Counts
@@ -267,6 +266,6 @@ module _ (z : Layout) (ws lists : List ℕ) (level : ℕ) (r : Run) (k : StepRea
         let q : Leaving z o (merge_level z.geo (suc j) t).written (merged_counts (merge_level z.geo (suc j) t)) ws r ws' lists' (record { ns = set (set r.ns j p.above) (suc j) p.under; cursor = p.cursor; tally = more }) = record {
           stands = stand z k.entry o ws' lists' _ v facts.finish_inside held fits relisted left_is.below.cursor;
           words = held_words z o (merge_level z.geo (suc j) t).written ws ws' held left_is.words;
-          counts = merged_grown z k.entry t (suc j) v facts r.tally more (level + 1) p.writes (omega (arith, el)) writes_is em;
+          counts = merged_grown z k.entry t (suc j) v facts r.tally more (level + 1) p.writes k.small.three (omega (arith, el)) writes_is em;
         } in
         rw (es, eu, en, el) (q, merged_ticket z k.entry t (suc j) v facts level p.first p.overlap p.writes x el left_is.below.first left_is.below.overlap writes_is ex)

@@ -43,10 +43,9 @@ use Rattle.top.proofs.Laws.{held_ready, pages_close}
 use Rattle.pair.specs.declared.Step.{Step}
 use Rattle.blocks.specs.Blocks.{Marks}
 use Rattle.pair.specs.Contract.{listed, cut_of, lower_after, PagesReady, PagesLeaves, PagesMerged}
-use Rattle.steps.specs.declared.Tally.{Tally}
 use Rattle.steps.specs.declared.Run.{Run}
 use Rattle.steps.specs.declared.Ticketed.{Ticketed}
-use Rattle.steps.specs.Running.{store_of, Marking, counted, StepReady, LevelMerged}
+use Rattle.steps.specs.Running.{Tally, store_of, Marking, counted, StepReady, LevelMerged}
 use Rattle.steps.proofs.Standing.{every_entry, but_count, but_top_held, but_top_read, places_new, stand, level_is, entries_are, stored}
 use Rattle.steps.proofs.Merging.{start_due, start_inside, level_low, due_fits, due_free, due_room, merged_few, merged_grown, merged_words, merged_ticket}
 use Rattle.layout.specs.Layouts.{Proper}
@@ -227,7 +226,7 @@ module _ (z : Layout) (ws lists : List ℕ) (r : Run) (k : StepReady 2000000000 
           record {
             stands = stand z k.entry x ws2 lists' _ v k.facts.finish_inside held gap_short relisted left_is.below.cursor;
             words = words_laid ws2 q;
-            counts = merged_grown z k.entry t 0 v k.facts r.tally more 1 p.writes refl writes_is em;
+            counts = merged_grown z k.entry t 0 v k.facts r.tally more 1 p.writes k.small.three refl writes_is em;
           },
           merged_ticket z k.entry t 0 v k.facts 0 p.first p.overlap p.writes y refl left_is.below.first left_is.below.overlap writes_is ey,
         )

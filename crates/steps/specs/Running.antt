@@ -1,5 +1,5 @@
 -- The store while the merges of a call run: its lists in a work array, its block counts, cursor and counts in numbers.
-use Rattle.std.specs.Prelude.{ℕ, suc, ◌+◌, ◌≤◌, ◌<◌, ◌≡◌, Bool, true, false, List, [], ◌∷◌, ◌++◌, map, eqb, length, get_or}
+use Rattle.std.specs.Prelude.{ℕ, suc, ◌+◌, ◌-◌, ◌≤◌, ◌<◌, ◌≡◌, Bool, List, [], ◌∷◌, ◌++◌, map, eqb, length, get_or, set}
 use Rattle.geometry.specs.Geometry.{top_capacity_of}
 use Rattle.geometry.specs.Room.{places_most, list_room}
 use Rattle.levels.specs.Basics.{if◌then◌otherwise◌}
@@ -19,7 +19,6 @@ use Rattle.lists.specs.Lists.{list_of, lists_of, Listed, places_at}
 use Rattle.lists.specs.Holds.{HoldsBut}
 use Rattle.blocks.specs.Blocks.{Marks}
 use Rattle.steps.specs.declared.Counts.{Counts}
-use Rattle.steps.specs.declared.Tally.{Tally}
 use Rattle.steps.specs.declared.Run.{Run}
 use Rattle.steps.specs.declared.Ticketed.{Ticketed}
 use Rattle.layout.specs.Layouts.{Proper}
@@ -69,15 +68,19 @@ plus a b = record { merges = a.merges + b.merges; written = a.written + b.writte
 abbrev pub sum_of : Counts → Counts → Counts
 sum_of a b = record { merges = a.merges + b.merges; written = a.written + b.written; compacted = a.compacted + b.compacted }
 
+-- A tally has the counts of levels 1 to 3. Those of level j + 1:
+abbrev pub Tally : Type 0
+Tally = List Counts
+
+abbrev pub no_counts : Counts
+no_counts = record { merges = 0; written = 0; compacted = 0 }
+
+abbrev pub counts_in : Tally → ℕ → Counts
+counts_in t j = get_or t j no_counts
+
 -- a tally with c added to the counts of a level
-unfoldable pub counted : Tally → ℕ → Counts → Tally
-counted t level c = elim (eqb level 1) [
-  | true ↦ record { one = sum_of t.one c; two = t.two; three = t.three }
-  | false ↦ elim (eqb level 2) [
-    | true ↦ record { one = t.one; two = sum_of t.two c; three = t.three }
-    | false ↦ record { one = t.one; two = t.two; three = sum_of t.three c }
-  ]
-]
+abbrev pub counted : Tally → ℕ → Counts → Tally
+counted t level c = set t (level - 1) (sum_of (counts_in t (level - 1)) c)
 
 -- No call counts so many of anything: it makes at most 98,304 merges (`cascade`), and each adds at most 16,384 to a count. So no
 -- sum wraps. A step begins with fewer, so that it ends within it.
@@ -94,15 +97,12 @@ pub record Few (n : ℕ) (c : Counts) : Type 0 where
   pub compacted : c.compacted ≤ n
 
 pub record Small (n : ℕ) (t : Tally) : Type 0 where
-  pub one : Few n t.one
-  pub two : Few n t.two
-  pub three : Few n t.three
+  pub three : length t ≡ 3
+  pub few : (j : ℕ) → j < 3 → Few n (counts_in t j)
 
 -- the tally has grown by f of each level
-pub record Grown (f : ℕ → levels.Counts) (t u : Tally) : Type 0 where
-  pub one : numbers_of u.one ≡ plus (numbers_of t.one) (f 1)
-  pub two : numbers_of u.two ≡ plus (numbers_of t.two) (f 2)
-  pub three : numbers_of u.three ≡ plus (numbers_of t.three) (f 3)
+abbrev pub Grown : (ℕ → levels.Counts) → Tally → Tally → Type 0
+Grown f t u = (length u ≡ length t) × ((j : ℕ) → j < 3 → numbers_of (counts_in u j) ≡ plus (numbers_of (counts_in t j)) (f (suc j)))
 
 -- What a change leaves: the words and lists hold the store t, these blocks are written and live, c and level 0 laid anew, every other
 -- word is kept, and the tally has grown.

@@ -1,7 +1,7 @@
 // One merge of a call with its step 5: while the merges run, the place lists stand in a work array apart from the words.
 #![tactic(auto)]
 
-ghost use Rattle.std.specs.Prelude.{◌≡◌, ◌+◌, ◌≤◌, ◌<◌, false, length, set, replicate, ◌++◌};
+ghost use Rattle.std.specs.Prelude.{◌≡◌, ◌+◌, ◌≤◌, false, length, replicate, ◌++◌};
 ghost use Rattle.lists.specs.Lists.{lists_of};
 ghost use Rattle.levels.specs.Store.{Store};
 ghost use Rattle.levels.specs.Call.{compact_if_needed, after_compactions, merge_level, after_merge};
@@ -18,7 +18,7 @@ use pair::Lengths;
 use stream::Desk;
 
 // Of one level: merges into it, blocks written by them, blocks written compacting it.
-#[derive(Clone, Copy)]
+#[derive(Clone, Copy, Default)]
 pub struct Counts {
     pub merges: usize,
     pub written: usize,
@@ -26,12 +26,7 @@ pub struct Counts {
 }
 
 // The counts of levels 1 to 3.
-#[derive(Clone, Copy)]
-pub struct Tally {
-    pub one: Counts,
-    pub two: Counts,
-    pub three: Counts,
-}
+pub type Tally = [Counts; 3];
 
 // The lengths of the lists of levels 1 to 3, the allocation cursor, and the counts so far.
 #[derive(Clone, Copy)]
@@ -60,36 +55,15 @@ fn sum(a: Counts, more: Counts) -> Counts
     }
 }
 
-// c more for a level.
+// As many more for a level.
 fn count(t: Tally, level: usize, more: Counts) -> Tally
-    requires { Small counts_most t × Few places_most more }
+    requires { (1 ≤ level) × ((level ≤ 3) × (Small counts_most t × Few places_most more)) }
     ensures { result ≡ counted t level more }
 {
-    let one = t.one;
-    let two = t.two;
-    let three = t.three;
-    if level == 1 {
-        let grown = sum(one, more);
-        return Tally {
-            one: grown,
-            two: two,
-            three: three,
-        };
-    }
-    if level == 2 {
-        let grown = sum(two, more);
-        return Tally {
-            one: one,
-            two: grown,
-            three: three,
-        };
-    }
-    let grown = sum(three, more);
-    Tally {
-        one: one,
-        two: two,
-        three: grown,
-    }
+    let mut grown = t;
+    let j = level - 1;
+    grown[j] = sum(t[j], more);
+    grown
 }
 
 // The ticket of a merge. Its numbers are words: no level has more blocks than there are places, and no merge writes more.
@@ -121,16 +95,6 @@ fn marks(
     }
 }
 
-// The lengths of the lists, that of level j + 1 anew.
-fn relist(ns: [usize; 3], j: usize, n: usize) -> [usize; 3]
-    requires { j < 3 }
-    ensures { result ≡ set ns j n }
-{
-    let mut r = ns;
-    r[j] = n;
-    r
-}
-
 // Step 5 for one level, by its number: if it needs compacting, its records anew, in the place of its list. The places in use
 // are marked only where something is written.
 fn compact_level(
@@ -144,10 +108,9 @@ fn compact_level(
     ensures { (t : Store) → t ≡ store_of z s.old lists.old r
         → Leaving z (after_compactions t (compact_if_needed z.geo level t)) (compacted_blocks (compact_if_needed z.geo level t)) (compacted_counts (compact_if_needed z.geo level t)) s.old r s.new lists.new result }
 {
-    let ns = r.ns;
+    let mut ns = r.ns;
     let j = level - 1;
-    let g = z.geo;
-    let h = g.levels();
+    let h = z.geo.levels();
     let n = ns[j];
     let list = lists::entries(lists, h, level, n);
     if !compaction::needs_compacting(s, list, z) {
@@ -164,12 +127,11 @@ fn compact_level(
         written: 0,
         compacted: m.writes,
     };
-    let tally = r.tally;
-    let more = count(tally, j + 1, counts);
+    ns[j] = m.count;
     Run {
-        ns: relist(ns, j, m.count),
+        ns,
         cursor: m.cursor,
-        tally: more,
+        tally: count(r.tally, level, counts),
     }
 }
 
@@ -185,24 +147,24 @@ fn merge_two(
     requires { StepReady counts_most z s.old lists.old level r × (Marking desk.old.used (store_of z s.old lists.old r) × (1 ≤ level)) }
     ensures { LevelMerged z level s.old lists.old r s.new lists.new result }
 {
-    let ns = r.ns;
-    let above = ns[level - 1];
-    let under = ns[level];
-    let lengths = Lengths { above, under };
+    let mut ns = r.ns;
+    let lengths = Lengths {
+        above: ns[level - 1],
+        under: ns[level],
+    };
     let m = pair::merge_pair(s, desk, lists, z, level, lengths, r.cursor);
     let counts = Counts {
         merges: 1,
         written: m.writes,
         compacted: 0,
     };
-    let tally = r.tally;
-    let more = count(tally, level + 1, counts);
-    let upper = relist(ns, level - 1, m.above);
+    ns[level - 1] = m.above;
+    ns[level] = m.under;
     Ticketed {
         run: Run {
-            ns: relist(upper, level, m.under),
+            ns,
             cursor: m.cursor,
-            tally: more,
+            tally: count(r.tally, level + 1, counts),
         },
         ticket: ticket(level, m.first, m.overlap, m.writes),
     }
@@ -219,24 +181,21 @@ fn merge_top(
     requires { StepReady counts_most z s.old lists.old 0 r × Marking desk.old.used (store_of z s.old lists.old r) }
     ensures { LevelMerged z 0 s.old lists.old r s.new lists.new result }
 {
-    let ns = r.ns;
-    let n = ns[0];
-    let m = pair::merge_pages(s, desk, lists, z, n, r.cursor);
-    let g = z.geo;
-    let w = g.window(0);
+    let mut ns = r.ns;
+    let m = pair::merge_pages(s, desk, lists, z, ns[0], r.cursor);
+    let w = z.geo.window(0);
     top::close_gap(s, z, m.first, w);
     let counts = Counts {
         merges: 1,
         written: m.writes,
         compacted: 0,
     };
-    let tally = r.tally;
-    let more = count(tally, 1, counts);
+    ns[0] = m.under;
     Ticketed {
         run: Run {
-            ns: relist(ns, 0, m.under),
+            ns,
             cursor: m.cursor,
-            tally: more,
+            tally: count(r.tally, 1, counts),
         },
         ticket: ticket(0, m.first, m.overlap, m.writes),
     }
@@ -255,26 +214,19 @@ pub fn merge_step(
         → Leaving z (after_merge (merge_level z.geo level t)) ((merge_level z.geo level t).written ++ compacted_blocks (merge_level z.geo level t).compactions) (step_counts (merge_level z.geo level t)) s.old r s.new lists.new result.run
         × (result.ticket ≡ ticket_of z.geo (merge_level z.geo level t)) }
 {
-    let ns = r.ns;
-    let g = z.geo;
-    let h = g.levels();
     let mut desk = Desk::new();
-    marks(&mut desk.used, lists, h, ns);
+    marks(&mut desk.used, lists, z.geo.levels(), r.ns);
     if level == 0 {
         let merged = merge_top(s, &mut desk, lists, z, r);
-        let a = merged.run;
-        let ticket = merged.ticket;
         return Ticketed {
-            run: compact_level(s, lists, z, 1, a),
-            ticket: ticket,
+            run: compact_level(s, lists, z, 1, merged.run),
+            ticket: merged.ticket,
         };
     }
     let merged = merge_two(s, &mut desk, lists, z, level, r);
-    let a = merged.run;
-    let ticket = merged.ticket;
-    let next = compact_level(s, lists, z, level, a);
+    let next = compact_level(s, lists, z, level, merged.run);
     Ticketed {
         run: compact_level(s, lists, z, level + 1, next),
-        ticket: ticket,
+        ticket: merged.ticket,
     }
 }

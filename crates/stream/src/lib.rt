@@ -1,9 +1,10 @@
 // Step 3 of a merge: X and Y are read in key order, blocks are reused or their records gathered.
 #![tactic(auto)]
 
-ghost use Rattle.std.specs.Prelude.{◌≡◌, true, false, ℕ, ◌+◌, ◌-◌, ◌≤◌, ◌<◌};
+ghost use Rattle.std.specs.Prelude.{◌≡◌, true, false, ℕ, ◌+◌, ◌-◌, ◌≤◌, ◌<◌, is_some};
+ghost use Rattle.std.specs.Option.{ForSome};
 ghost use Rattle.blocks.specs.Room.{places_most, list_room};
-ghost use Rattle.sides.specs.Sides.{HeadOk, Searchable};
+ghost use Rattle.sides.specs.Sides.{Searchable, first};
 ghost use Rattle.stream.specs.Machine.{memory, Flushable, Gatherable, Movable, Choosable, Standing, Runnable, Ahead, Grows, Ready, Turned, flushed, reused, gathered, gathered_run, begin_at, fresh_desk, point_after, chosen, emitted_run, turns, idle};
 
 use blocks::{Buffer, Offsets};
@@ -37,14 +38,14 @@ pub struct Desk {
     pub st: Progress,
 }
 
-// What a step does: where X and Y stand then, the record that comes, and whether its whole block
-// follows as it stands.
+// What a step does: where X and Y stand then, the record that comes, and the place of its block, if the whole block follows as it
+// stands.
 #[derive(Clone, Copy)]
 pub struct Move {
     pub x: Point,
     pub y: Point,
     pub head: Head,
-    pub whole: bool,
+    pub whole: Option<usize>,
 }
 
 // A move, and how many records more of the same block are gathered with its record, which is record `from` of the block.
@@ -77,7 +78,7 @@ impl Progress {
             m: 0,
             writes: 0,
             cursor: cursor,
-            buf: blocks::empty(),
+            buf: Buffer::default(),
         }
     }
 }
@@ -112,7 +113,7 @@ impl Desk {
         self.st.m = m + 1;
         self.st.writes = self.st.writes + 1;
         self.st.cursor = q;
-        self.st.buf = blocks::empty();
+        self.st.buf = Buffer::default();
     }
 
     // The buffer is written, and the block at place q follows as it stands.
@@ -174,8 +175,16 @@ impl Move {
 }
 
 // The side whose record comes first moves on; of equal keys the upper record comes, and the lower
-// is passed over. The last block has e records.
-fn choose(s: &[u32], z: Offsets, bottom: bool, st: Progress, x: Head, y: Head, e: usize) -> Move
+// is passed over. The last block has e records. None: both sides are used up.
+fn choose(
+    s: &[u32],
+    z: Offsets,
+    bottom: bool,
+    st: Progress,
+    x: Option<Head>,
+    y: Option<Head>,
+    e: usize,
+) -> Option<Move>
     requires { Choosable z s.now st.x st.y x y st.buf.n e }
     ensures { result ≡ chosen z bottom s.now st.x st.y x y st.buf.n e }
 {
@@ -183,78 +192,85 @@ fn choose(s: &[u32], z: Offsets, bottom: bool, st: Progress, x: Head, y: Head, e
     let py = st.y;
     let buf = st.buf;
     let n = buf.n;
-    if sides::before(y, x) {
-        let whole = sides::reusable(s, z, bottom, y, x, n, e);
-        let v = py.after(y.n, whole);
-        return Move {
+    if let Some(b) = y
+        && sides::before(y, x)
+    {
+        let whole = sides::reusable(s, z, bottom, b, x, n, e);
+        let v = py.after(b.n, whole.is_some());
+        return Some(Move {
             x: px,
             y: v,
-            head: y,
+            head: b,
             whole: whole,
-        };
+        });
     }
-    if sides::before(x, y) {
-        let whole = sides::reusable(s, z, bottom, x, y, n, e);
-        let u = px.after(x.n, whole);
-        return Move {
+    if let Some(a) = x
+        && sides::before(x, y)
+    {
+        let whole = sides::reusable(s, z, bottom, a, y, n, e);
+        let u = px.after(a.n, whole.is_some());
+        return Some(Move {
             x: u,
             y: py,
-            head: x,
+            head: a,
             whole: whole,
-        };
+        });
     }
-    let u = px.after(x.n, false);
-    let v = py.after(y.n, false);
-    Move {
+    let (Some(a), Some(b)) = (x, y) else {
+        return None;
+    };
+    let u = px.after(a.n, false);
+    let v = py.after(b.n, false);
+    Some(Move {
         x: u,
         y: v,
-        head: x,
-        whole: false,
-    }
+        head: a,
+        whole: None,
+    })
 }
 
 // How many records of a's block after record j come before the other side's next, `room` at most.
-fn ahead(s: &[u32], a: Head, j: usize, other: Head, room: usize) -> usize
+fn ahead(s: &[u32], a: Head, j: usize, other: Option<Head>, room: usize) -> usize
     requires { (j < a.n) × Searchable s.now a }
     ensures { Ahead s.now a other j room result }
 {
     let left = (a.n - j - 1).min(room);
-    if !other.some {
+    let Some(b) = other else {
         return left;
-    }
-    let at = slices::rank_of(s, a.keys + (j + 1), left, other.key as usize);
-    at.below
+    };
+    slices::count_below(s, a.keys + (j + 1), left, b.key as usize)
 }
 
 // A record that is gathered takes those of its block with it that come next, as many as the buffer has room for.
-fn run_on(s: &[u32], z: Offsets, st: Progress, next: Move, x: Head, y: Head) -> Run
-    requires { (z.b ≤ 16) × (st.buf.n < z.b) × (x.some ≡ true → Standing s.now st.x x) × (y.some ≡ true → Standing s.now st.y y) }
+fn run_on(s: &[u32], z: Offsets, st: Progress, next: Move, x: Option<Head>, y: Option<Head>) -> Run
+    requires { (z.b ≤ 16) × (st.buf.n < z.b) × (first x y ≡ true → Standing s.now st.x next.head) × (first y x ≡ true → Standing s.now st.y next.head) }
     ensures { Grows s.now st.x st.y x y next (z.b - st.buf.n - 1) result }
 {
     let px = st.x;
     let py = st.y;
     let buf = st.buf;
     let room = z.b - buf.n - 1;
+    let head = next.head;
     let mut m = next;
-    if next.whole {
+    if next.whole.is_some() {
         return m.run(0, 0);
     }
     if sides::before(y, x) {
-        let more = ahead(s, y, py.j, x, room);
+        let more = ahead(s, head, py.j, x, room);
         let last = Point {
             i: py.i,
             j: py.j + more,
         };
-        m.y = last.after(y.n, false);
+        m.y = last.after(head.n, false);
         return m.run(py.j, more);
     }
     if sides::before(x, y) {
-        let more = ahead(s, x, px.j, y, room);
+        let more = ahead(s, head, px.j, y, room);
         let last = Point {
             i: px.i,
             j: px.j + more,
         };
-        m.x = last.after(x.n, false);
+        m.x = last.after(head.n, false);
         return m.run(px.j, more);
     }
     m.run(px.j, 0)
@@ -292,21 +308,21 @@ impl Desk {
     // The sides move on, and the block follows as it stands, or its next records are gathered. A step
     // calls this at one place only, so that it is compiled into the loop.
     fn emit(&mut self, s: &mut [u32], z: Offsets, bottom: bool, run: Run)
-        requires { Movable z s.old self.old.used self.old.st × HeadOk run.next.head × (run.next.whole ≡ false → Runnable z s.old self.old.st run) }
+        requires { Movable z s.old self.old.used self.old.st × ForSome run.next.whole (λ q. q < places_most) × (is_some run.next.whole ≡ false → Runnable z s.old self.old.st run) }
         ensures { memory s.new self.new ≡ emitted_run z bottom (memory s.old self.old) run }
     {
         let next = run.next;
         self.st.x = next.x;
         self.st.y = next.y;
-        if next.whole {
-            let head = next.head;
-            self.reuse(s, z, head.place);
+        if let Some(q) = next.whole {
+            self.reuse(s, z, q);
             return;
         }
         self.gather_run(s, z, bottom, run);
     }
 
-    // One step of the merge: the block that stands next is reused, or its next records are gathered in one go; of equal keys the upper record stands alone.
+    // One step of the merge: the block that stands next is reused, or its next records are gathered in one go; of equal keys the upper
+    // record stands alone. Where both sides are used up nothing is left to do.
     pub fn step(
         &mut self,
         s: &mut [u32],
@@ -315,8 +331,7 @@ impl Desk {
         z: Offsets,
         t: Inputs,
     )
-        requires ready { Ready z t xs.now ys.now (memory s.old self.old) }
-        requires going { idle z t xs.now ys.now (memory s.old self.old) ≡ false }
+        requires { Ready z t xs.now ys.now (memory s.old self.old) }
         ensures { Turned z t xs.now ys.now 1 (memory s.old self.old) (memory s.new self.new) }
     {
         let st = self.st;
@@ -330,7 +345,9 @@ impl Desk {
         let y = sides::peek(s, z, false, ys, py.i, py.j, ye);
         let m = st.m;
         let e = sides::last_size(s, z, &self.out, m);
-        let next = choose(s, z, bottom, st, x, y, e);
+        let Some(next) = choose(s, z, bottom, st, x, y, e) else {
+            return;
+        };
         let run = run_on(s, z, st, next, x, y);
         self.emit(s, z, bottom, run);
     }

@@ -1,17 +1,19 @@
+use Rattle.std.proofs.Common.{rules, ◌<◌, ◌≤◌, sym, ◌∙◌}
 use Rattle.chunks.proofs.Slots.{clean_zero, clean_start, clean_next, clean_end}
-use native.Mathlib.Omega.{arith}
-use mathlib.Core.Path.{sym, ◌∙◌}
-use borrow.Author.Rules.{rules}
 use Rattle.chunks.proofs.clean.Goals as goal
 
 pub returns-then-marks-eq0 : goal.returns-then-marks-eq0
 returns-then-marks-eq0 c = rw c.if-marks-eq0.true (sym (clean_zero _ _ _))
 
-pub loop-j-init : goal.loop-j-init
-loop-j-init c = (search rules, clean_start _ _ _ _)
+pub loop-pay-init : goal.loop-pay-init
+loop-pay-init c = (search rules, clean_start _ _ _ _)
 
-pub loop-j-preserved : goal.loop-j-preserved
-loop-j-preserved c = (omega arith, sym (clean_next _ c.loop-j.ok _ _ _ _ c.loop-j-test.true) ∙ c.loop-j.invariant.1)
+pub loop-pay-preserved : goal.loop-pay-preserved
+loop-pay-preserved c =
+    let l : c.loop-pay.pay-index < c.args.count = search rules in
+    (search rules, sym (clean_next _ c.loop-pay.ok _ _ _ _ l) ∙ c.loop-pay.invariant.1)
 
 pub returns : goal.returns
-returns c = sym (clean_end _ c.loop-j.ok _ _ _ _ c.loop-j-test.false) ∙ c.loop-j.invariant.1
+returns c =
+    let l : c.args.count ≤ c.loop-pay.pay-index = search rules in
+    sym (clean_end _ c.loop-pay.ok _ _ _ _ l) ∙ c.loop-pay.invariant.1

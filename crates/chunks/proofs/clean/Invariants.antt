@@ -4,8 +4,8 @@ use mathlib.Core.Bool.{◌&&◌}
 use Rattle.chunks.specs.Chunks.{clean_of}
 use Rattle.chunks.proofs.clean.Given as goal
 
-abbrev pub invariant-loop-j : goal.invariant-loop-j
-invariant-loop-j l = (l.j ≤ l.count) × ((l.ok && clean_of l.s l.m (l.pays + l.j) (l.count - l.j)) ≡ clean_of l.s l.marks l.pays l.count)
+abbrev pub invariant-loop-pay : goal.invariant-loop-pay
+invariant-loop-pay l = (l.pay-index ≤ l.fn.count) × ((l.ok && clean_of l.s l.m (l.fn.pays + l.pay-index) (l.fn.count - l.pay-index)) ≡ clean_of l.s l.marks l.fn.pays l.fn.count)
 
-abbrev pub decreases-loop-j : goal.decreases-loop-j
-decreases-loop-j l = l.count - l.j
+abbrev pub decreases-loop-pay : goal.decreases-loop-pay
+decreases-loop-pay l = l.fn.count - l.pay-index

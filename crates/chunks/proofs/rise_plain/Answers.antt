@@ -1,42 +1,50 @@
-use Rattle.chunks.proofs.Slots.{rise_start, rise_end, rise_low, rise_two, rise_second, rise_last}
-use native.Mathlib.Omega.{arith}
-use Prim.Native.Nat.{◌+◌}
-use mathlib.Core.Path.{refl, sym, ◌∙◌}
-use borrow.Author.Rules.{rules}
+use Rattle.std.proofs.Common.{rules, ◌<◌, [], ◌++◌, length, refl, sym, ap, ◌∙◌, arith}
+use Rattle.std.proofs.lemmas.List.{length-append, append_assoc}
+use Rattle.chunks.proofs.Slots.{keys_rise, rise_keys, pair_low, pair_second, pair_on, pairs_left, tail_none, tail_low, tail_on}
 use Rattle.chunks.proofs.rise_plain.Goals as goal
 
-pub loop-j-init : goal.loop-j-init
-loop-j-init c = (search rules, λ v. rise_start _ _ _ v _ _)
-
-pub overflow_cast-key : goal.overflow_cast-key
-overflow_cast-key c = omega (arith, c.shared_slice_known-1.given (c.args.chunk.keys + c.loop-j.j))
+pub loop-pair-init : goal.loop-pair-init
+loop-pair-init c = (search rules, search rules, ([], search rules, refl))
 
 pub returns-then-key-least : goal.returns-then-key-least
-returns-then-key-least c = let v = c.args.chunk.pays in sym (rise_low _ 0 _ v _ _ _ (omega (arith, c.loop-j-test.true)) c.if-key-least.true) ∙ c.loop-j.invariant.1 v
-
-pub overflow_cast-second : goal.overflow_cast-second
-overflow_cast-second c = omega (arith, c.shared_slice_known-in-loop-j-1.given (c.args.chunk.keys + (c.loop-j.j + 1)))
+returns-then-key-least c =
+    let i = c.loop-pair.invariant in
+    let s = c.in-Some.ensures.steps in
+    sym (pair_low _ _ _ (s.1.1 ∙ i.0) c.if-key-least.true) ∙ ap (λ ks. keys_rise ks c.loop-pair.least) (sym s.1.0) ∙ i.1 ∙ rise_keys _ _ _ _ _ c.requires.keys_end
 
 pub returns-then-second-key : goal.returns-then-second-key
-returns-then-second-key c = let v = c.args.chunk.pays in sym (rise_second _ _ v _ _ _ c.if-key-least.false c.loop-j-test.true c.if-second-key.true) ∙ c.loop-j.invariant.1 v
+returns-then-second-key c =
+    let i = c.loop-pair.invariant in
+    let s = c.in-Some.ensures.steps in
+    sym (pair_second _ _ _ (s.1.1 ∙ i.0) c.if-key-least.false c.if-second-key.true) ∙ ap (λ ks. keys_rise ks c.loop-pair.least) (sym s.1.0) ∙ i.1 ∙ rise_keys _ _ _ _ _ c.requires.keys_end
 
-pub overflow_add-least : goal.overflow_add-least
-overflow_add-least c = omega (arith, c.shared_slice_known-in-loop-j-1.given (c.args.chunk.keys + (c.loop-j.j + 1)))
+pub loop-pair-preserved : goal.loop-pair-preserved
+loop-pair-preserved c =
+    let i = c.loop-pair.invariant in
+    let s = c.in-Some.ensures.steps in
+    let p = i.2.0 in (
+      s.0 ∙ i.0,
+      sym (pair_on _ _ _ (s.1.1 ∙ i.0) c.if-key-least.false c.if-second-key.false) ∙ ap (λ ks. keys_rise ks c.loop-pair.least) (sym s.1.0) ∙ i.1,
+      (p ++ c.in-Some.pair.now, append_assoc p c.in-Some.pair.now c.next.new.self.rest.now ∙ ap (λ ks. p ++ ks) (sym s.1.0) ∙ i.2.1, omega (arith, length-append p c.in-Some.pair.now, s.1.1, i.0, i.2.2)),
+    )
 
-pub loop-j-preserved : goal.loop-j-preserved
-loop-j-preserved c = (omega arith, λ v. sym (rise_two _ _ v _ _ _ c.if-key-least.false c.loop-j-test.true c.if-second-key.false) ∙ c.loop-j.invariant.1 v)
+pub returns-in_default : goal.returns-in_default
+returns-in_default c =
+    let i = c.loop-pair.invariant in
+    let l : length c.loop-pair.pair-iterator.rest.now < 2 = omega (arith, c.in-None.ensures.steps.1.0, i.0) in
+    let e = pairs_left i.2.0 c.loop-pair.pair-iterator.rest.now _ _ _ i.2.1 i.2.2 l (c.remainder-rest.ensures ∙ c.chunks_exact-pairs.ensures.remainder) c.in_default.ensures.value in
+    sym (tail_none _ _ e) ∙ i.1 ∙ rise_keys _ _ _ _ _ c.requires.keys_end
 
-pub returns-then-n-j : goal.returns-then-n-j
-returns-then-n-j c = let v = c.args.chunk.pays in sym (rise_end _ 0 _ v _ _ _ c.if-n-j.true refl) ∙ c.loop-j.invariant.1 v
-
-pub overflow_cast-last : goal.overflow_cast-last
-overflow_cast-last c = omega (arith, c.shared_slice_known-2-1.given (c.args.chunk.keys + c.loop-j.j))
-
-pub returns-then-last-least : goal.returns-then-last-least
-returns-then-last-least c = let v = c.args.chunk.pays in sym (rise_low _ 0 _ v _ _ _ c.if-n-j.false c.if-last-least.true) ∙ c.loop-j.invariant.1 v
-
-pub overflow_add-result : goal.overflow_add-result
-overflow_add-result c = omega (arith, c.shared_slice_known-2-1.given (c.args.chunk.keys + c.loop-j.j))
+pub returns-then-key-least-2 : goal.returns-then-key-least-2
+returns-then-key-least-2 c =
+    let i = c.loop-pair.invariant in
+    let l : length c.loop-pair.pair-iterator.rest.now < 2 = omega (arith, c.in-None.ensures.steps.1.0, i.0) in
+    let e = pairs_left i.2.0 c.loop-pair.pair-iterator.rest.now _ _ _ i.2.1 i.2.2 l (c.remainder-rest.ensures ∙ c.chunks_exact-pairs.ensures.remainder) c.in-Some-first.ensures.value in
+    sym (tail_low _ _ _ e c.if-key-least-2.true) ∙ i.1 ∙ rise_keys _ _ _ _ _ c.requires.keys_end
 
 pub returns : goal.returns
-returns c = let v = c.args.chunk.pays in sym (rise_last _ _ v _ _ _ c.if-last-least.false c.if-n-j.false c.loop-j-test.false) ∙ c.loop-j.invariant.1 v
+returns c =
+    let i = c.loop-pair.invariant in
+    let l : length c.loop-pair.pair-iterator.rest.now < 2 = omega (arith, c.in-None.ensures.steps.1.0, i.0) in
+    let e = pairs_left i.2.0 c.loop-pair.pair-iterator.rest.now _ _ _ i.2.1 i.2.2 l (c.remainder-rest.ensures ∙ c.chunks_exact-pairs.ensures.remainder) c.in-Some-first.ensures.value in
+    sym (tail_on _ _ _ e c.if-key-least-2.false) ∙ i.1 ∙ rise_keys _ _ _ _ _ c.requires.keys_end

@@ -1,10 +1,12 @@
-use Prim.Native.Nat.{ℕ, ◌≤◌, ◌+◌, ◌-◌}
-use mathlib.Core.Path.{◌≡◌}
-use Rattle.chunks.specs.Chunks.{rise_of}
+use Rattle.std.proofs.Common.{◌≡◌, ℕ, ◌+◌, ◌%◌, List, ◌++◌, length}
+use Rattle.std.specs.List.{slice_range}
+use Rattle.chunks.proofs.Slots.{keys_rise}
 use Rattle.chunks.proofs.rise_plain.Given as goal
 
-abbrev pub invariant-loop-j : goal.invariant-loop-j
-invariant-loop-j l = (l.j ≤ l.n) × ((v : ℕ) → rise_of l.s 0 (l.k + l.j) (v + l.j) (l.n - l.j) l.least ≡ rise_of l.s 0 l.k v l.n l.initial.least)
-
-abbrev pub decreases-loop-j : goal.decreases-loop-j
-decreases-loop-j l = l.n - l.j
+-- pairs that are done with, and the keys that are left
+abbrev pub invariant-loop-pair : goal.invariant-loop-pair
+invariant-loop-pair l =
+    let keys = slice_range l.s l.fn.chunk.keys (l.fn.chunk.keys + l.fn.chunk.count) in
+    (l.pair-iterator.size ≡ 2)
+    × (keys_rise l.pair-iterator.rest.now l.least ≡ keys_rise keys l.low)
+    × ((p : List ℕ) × (p ++ l.pair-iterator.rest.now ≡ keys) × (length p % 2 ≡ 0))

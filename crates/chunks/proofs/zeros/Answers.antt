@@ -1,17 +1,10 @@
-use Rattle.chunks.proofs.Slots.{zeros_start, zeros_end, zeros_next, zeros_stop}
-use native.Mathlib.Omega.{arith}
-use mathlib.Core.Path.{sym, ◌∙◌}
-use borrow.Author.Rules.{rules}
+use Rattle.std.proofs.Common.{rules, ◌+◌, ◌∙◌, eqb}
+use Rattle.std.specs.List.{slice_range}
+use Rattle.std.proofs.lemmas.Iterator.{YieldsList-from_slice}
+use Rattle.std.proofs.lemmas.Iterator.Search.{all_from_yields_List}
+use Rattle.chunks.proofs.Slots.{zeros_all}
 use Rattle.chunks.proofs.zeros.Goals as goal
 
-pub loop-i-init : goal.loop-i-init
-loop-i-init c = (search rules, zeros_start _ _ _)
-
-pub returns-then-s-start-ne0 : goal.returns-then-s-start-ne0
-returns-then-s-start-ne0 c = sym (zeros_stop _ _ _ _ c.loop-i-test.true c.if-s-start-ne0.true) ∙ c.loop-i.invariant.1
-
-pub loop-i-preserved : goal.loop-i-preserved
-loop-i-preserved c = (omega arith, sym (zeros_next _ _ _ _ c.loop-i-test.true c.if-s-start-ne0.false) ∙ c.loop-i.invariant.1)
-
 pub returns : goal.returns
-returns c = sym (zeros_end _ _ _ _ c.loop-i-test.false) ∙ c.loop-i.invariant.1
+returns c =
+    all_from_yields_List (λ x. eqb x 0) _ _ _ c.all.ensures.ran (YieldsList-from_slice (slice_range c.args.s.now c.args.start (c.args.start + c.args.n)) cc) (λ x b q k. search rules) ∙ zeros_all _ _ _ c.requires

@@ -1,19 +1,12 @@
-use mathlib.Core.Path.{◌≡◌, refl, sym}
-use native.Mathlib.Omega.{arith}
-use lib.ListN.{length-set}
-use Rattle.slices.proofs.Put.{put_none, clear_more}
+use Rattle.std.proofs.Common.{◌≡◌, ◌+◌, ◌-◌, length, take, drop, replicate, arith}
+use lib.ListN.{length-drop, length-replicate}
+use lib.Seq.{length-take-le}
+use Rattle.slices.proofs.Put.{put_part}
 use Rattle.slices.proofs.clear.Goals as goal
-
-pub loop-i-init : goal.loop-i-init
-loop-i-init c = (omega arith, (refl, sym (put_none _ _)))
-
-pub loop-i-preserved : goal.loop-i-preserved
-loop-i-preserved c =
-    let a = c.args in
-    let l = c.loop-i in
-    (omega arith, (simp length-set (omega arith), rw l.invariant.1.1 (clear_more a.start l.i a.s.now (omega arith))))
 
 pub returns : goal.returns
 returns c =
-    let e : c.loop-i.i ≡ c.args.n = omega arith in
-    rw e at c.loop-i.invariant.1.1
+    let a = c.args in
+    let k : a.start + a.n - a.start ≡ a.n = omega arith in
+    let l : length (take a.n (drop a.start a.s.now)) ≡ a.n = length-take-le a.n (drop a.start a.s.now) (rw length-drop (omega arith)) in
+    rw (k, c.fill.ensures.after (λ y h. h), k, l) (put_part a.start a.n (replicate a.n 0) a.s.now (length-replicate a.n 0))

@@ -1,19 +1,13 @@
-use mathlib.Core.Path.{◌≡◌, refl, sym}
-use native.Mathlib.Omega.{arith}
-use lib.ListN.{length-set}
-use Rattle.slices.proofs.Put.{put_none, copy_more}
+use Rattle.std.proofs.Common.{◌≡◌, ◌+◌, ◌-◌, length, take, drop, arith}
+use lib.ListN.{length-drop}
+use lib.Seq.{length-take-le}
+use Rattle.slices.proofs.Put.{put_part}
 use Rattle.slices.proofs.copy.Goals as goal
-
-pub loop-i-init : goal.loop-i-init
-loop-i-init c = (omega arith, (refl, sym (put_none _ _)))
-
-pub loop-i-preserved : goal.loop-i-preserved
-loop-i-preserved c =
-    let a = c.args in
-    let l = c.loop-i in
-    (omega arith, (simp length-set (omega arith), rw l.invariant.1.1 (copy_more a.to a.from l.i a.s.now a.out.now (omega arith) (omega arith))))
 
 pub returns : goal.returns
 returns c =
-    let e : c.loop-i.i ≡ c.args.n = omega arith in
-    rw e at c.loop-i.invariant.1.1
+    let a = c.args in
+    let k : a.to + a.n - a.to ≡ a.n = omega arith in
+    let j : a.from + a.n - a.from ≡ a.n = omega arith in
+    let l : length (take a.n (drop a.from a.s.now)) ≡ a.n = length-take-le a.n (drop a.from a.s.now) (rw length-drop (omega arith)) in
+    rw (k, c.copy_from_slice.ensures.after, j) (put_part a.to a.n (take a.n (drop a.from a.s.now)) a.out.now l)

@@ -1,19 +1,6 @@
-use mathlib.Core.Path.{◌≡◌, refl, sym}
-use native.Mathlib.Omega.{arith}
-use lib.ListN.{length-set}
-use Rattle.slices.proofs.Put.{put_none, down_more}
+use Rattle.slices.proofs.Put.{put_within}
 use Rattle.slices.proofs.copy_down.Goals as goal
-
-pub loop-i-init : goal.loop-i-init
-loop-i-init c = (omega arith, (refl, sym (put_none _ _)))
-
-pub loop-i-preserved : goal.loop-i-preserved
-loop-i-preserved c =
-    let a = c.args in
-    let l = c.loop-i in
-    (omega arith, (simp length-set (omega arith), rw l.invariant.1.1 (down_more a.to a.from l.i a.s.now (omega arith) (omega arith))))
+use Rattle.std.proofs.Common.{◌∙◌}
 
 pub returns : goal.returns
-returns c =
-    let e : c.loop-i.i ≡ c.args.n = omega arith in
-    rw e at c.loop-i.invariant.1.1
+returns c = c.copy_within.ensures.after ∙ put_within c.args.to c.args.from c.args.n c.args.s.now c.requires.1

@@ -1,19 +1,17 @@
-use mathlib.Core.Path.{◌≡◌, refl}
-use native.Mathlib.Omega.{arith}
+use Rattle.std.proofs.Common.{refl, arith}
+use lib.Seq.{take_all}
 use Rattle.slices.specs.Ranks.{count_below}
 use Rattle.slices.proofs.Ranks.{count_more}
 use Rattle.slices.proofs.count_few.Goals as goal
 
-pub loop-i-init : goal.loop-i-init
+pub loop-key-init : goal.loop-key-init
 unfolding count_below
-loop-i-init c = (omega arith, (omega arith, refl))
+loop-key-init c = (omega arith, refl)
 
-pub loop-i-preserved : goal.loop-i-preserved
-loop-i-preserved c =
-    let l = c.loop-i in
-    let w = c.word-key.ensures.0 in
-    let m = count_more c.args.k c.args.from l.i c.args.s.now (omega arith) c.requires.1 (rw (← w) c.word-key.ensures.1) in
-    (omega arith, (omega arith, rw (w, l.invariant.1.1) m))
+pub loop-key-preserved : goal.loop-key-preserved
+loop-key-preserved c =
+    let l = c.loop-key in
+    (omega arith, rw l.invariant.1 (count_more c.args.k l.key-index c.args.keys.now c.loop-key-test.true c.requires (c.type_inv.keys l.key-index).fits))
 
 pub returns : goal.returns
-returns c = let e : c.loop-i.i ≡ c.args.n = omega arith in rw e at c.loop-i.invariant.1.1
+returns c = rw (take_all c.loop-key.key-index c.args.keys.now c.loop-key-test.false) at c.loop-key.invariant.1

@@ -1,24 +1,12 @@
-use native.Mathlib.Omega.{arith}
-use Rattle.slices.proofs.Ranks.{search_room, search_turn}
+use Rattle.std.proofs.Common.{ltb, rules}
+use Rattle.std.proofs.lemmas.List.Sorted.{IsPartitionPoint-from_clause}
+use Rattle.slices.proofs.Ranks.{rising_parted, parted_count}
 use Rattle.slices.proofs.count_many.Goals as goal
 
-pub loop-left-init : goal.loop-left-init
-loop-left-init c = let p = search_room c.args.k c.args.from c.args.n c.args.s.now c.requires.0 c.requires.1.0 in (omega arith, (omega (arith, p), omega arith))
-
-pub overflow_mul-below : goal.overflow_mul-below
-overflow_mul-below c =
-    let l = c.loop-left in
-    let p = search_turn c.args.k c.args.from c.args.n c.args.s.now c.requires.0 c.requires.1.0 l.below l.left c.word-key.result (omega arith) c.requires.1.1 c.word-key.ensures.1 c.word-key.ensures.0 l.invariant in
-    omega (arith, p.1.1)
-
-pub overflow_add-below-in-loop-left : goal.overflow_add-below-in-loop-left
-overflow_add-below-in-loop-left c =
-    let l = c.loop-left in
-    let p = search_turn c.args.k c.args.from c.args.n c.args.s.now c.requires.0 c.requires.1.0 l.below l.left c.word-key.result (omega arith) c.requires.1.1 c.word-key.ensures.1 c.word-key.ensures.0 l.invariant in
-    omega (arith, p.1.1)
-
-pub loop-left-preserved : goal.loop-left-preserved
-loop-left-preserved c =
-    let l = c.loop-left in
-    let p = search_turn c.args.k c.args.from c.args.n c.args.s.now c.requires.0 c.requires.1.0 l.below l.left c.word-key.result (omega arith) c.requires.1.1 c.word-key.ensures.1 c.word-key.ensures.0 l.invariant in
-    p
+pub returns : goal.returns
+returns c =
+    let k = c.args.k in
+    let keys = c.args.keys.now in
+    let parted = rising_parted k keys c.requires in
+    let e = c.partition_point.ensures in
+    parted_count k keys c.requires _ e.bound (IsPartitionPoint-from_clause (λ y. ltb y k) keys _ e.partitioned parted (λ a r q h. search rules))

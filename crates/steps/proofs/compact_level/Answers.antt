@@ -44,21 +44,15 @@ copy-requires c =
     let h = rw c.entries-list.ensures at (sym c.needs_compacting.ensures ∙ c.if-not-needs_compacting.false) in
     copy_asks _ _ _ _ p.0 (c.args.level - 1) _ _ (omega (arith, p.1.0)) p.1.1 c.levels-h.ensures h c.marks.new.used c.marks.ensures _ _ _ _ (rw c.entries-old.ensures at c.compact-m.ensures) _ c.start_of-at.ensures
 
-pub overflow_add-j : goal.overflow_add-j
-overflow_add-j c = omega (arith, c.requires.1.1, c.requires.0.proper.valid.ranged.h_high)
-
-pub count-more-requires : goal.count-more-requires
-count-more-requires c =
+pub count-requires : goal.count-requires
+count-requires c =
     let p = c.requires in
     let h = rw c.entries-list.ensures at (sym c.needs_compacting.ensures ∙ c.if-not-needs_compacting.false) in
     let w = list_few _ _ _ _ p.0 (c.args.level - 1) _ _ (omega (arith, p.1.0)) p.1.1 c.levels-h.ensures h c.marks.new.used c.marks.ensures _ _ _ _ (rw c.entries-old.ensures at c.compact-m.ensures) in
-    (p.0.small, record { merges = omega arith; written = omega arith; compacted = w })
-
-pub relist-requires : goal.relist-requires
-relist-requires c = omega (arith, c.requires.1.1, c.requires.0.proper.valid.ranged.h_high)
+    (p.1.0, (omega (arith, p.1.1, p.0.proper.valid.ranged.h_high), (p.0.small, record { merges = omega arith; written = omega arith; compacted = w })))
 
 pub returns : goal.returns
 returns c =
     let p = c.requires in
     let h = rw c.entries-list.ensures at (sym c.needs_compacting.ensures ∙ c.if-not-needs_compacting.false) in
-    compacted _ _ _ _ p.0 (c.args.level - 1) _ _ (omega (arith, p.1.0)) p.1.1 c.levels-h.ensures h c.marks.new.used c.marks.ensures _ _ _ _ (rw c.entries-old.ensures at c.compact-m.ensures) _ c.start_of-at.ensures _ _ _ c.copy.ensures c.count-more.ensures (rw c.relist.ensures)
+    compacted _ _ _ _ p.0 (c.args.level - 1) _ _ (omega (arith, p.1.0)) p.1.1 c.levels-h.ensures h c.marks.new.used c.marks.ensures _ _ _ _ (rw c.entries-old.ensures at c.compact-m.ensures) _ c.start_of-at.ensures _ _ _ c.copy.ensures c.count.ensures refl

@@ -6,10 +6,10 @@ use Rattle.stream.specs.declared.Desk.{Desk}
 use Rattle.steps.proofs.merge_step.Goals as goal
 
 pub marks-requires : goal.marks-requires
-marks-requires c = (ap (λ (d : Desk). d.used) c.new-desk.ensures, rw c.levels-h.ensures (step_markable _ _ _ _ _ c.requires))
+marks-requires c = (ap (λ (d : Desk). d.used) c.new-desk.ensures, rw c.levels.ensures (step_markable _ _ _ _ _ c.requires))
 
 pub merge_top-merged-requires : goal.merge_top-merged-requires
-merge_top-merged-requires c = (rw c.if-level-eq0.true at (step_asks _ _ _ _ _ c.requires), step_marks _ _ _ _ _ c.requires c.marks.new.used _ c.levels-h.ensures c.marks.ensures)
+merge_top-merged-requires c = (rw c.if-level-eq0.true at (step_asks _ _ _ _ _ c.requires), step_marks _ _ _ _ _ c.requires c.marks.new.used _ c.levels.ensures c.marks.ensures)
 
 pub compact_level-requires : goal.compact_level-requires
 compact_level-requires c = (first_asks _ _ _ _ _ c.requires _ refl _ _ _ (rw (sym c.if-level-eq0.true) at (c.merge_top-merged.ensures _ refl).0), (omega arith, c.requires.proper.valid.ranged.h_low))
@@ -18,7 +18,7 @@ pub returns-then-level-eq0 : goal.returns-then-level-eq0
 returns-then-level-eq0 c = λ t e. let m = rw (sym c.if-level-eq0.true) at (c.merge_top-merged.ensures t e) in (step_top _ _ _ _ _ c.requires t e _ _ _ m.0 _ _ _ c.if-level-eq0.true (c.compact_level.ensures _ (sym m.0.stands.store)), m.1)
 
 pub merge_two-merged-requires : goal.merge_two-merged-requires
-merge_two-merged-requires c = (step_asks _ _ _ _ _ c.requires, (step_marks _ _ _ _ _ c.requires c.marks.new.used _ c.levels-h.ensures c.marks.ensures, omega (arith, c.if-level-eq0.false)))
+merge_two-merged-requires c = (step_asks _ _ _ _ _ c.requires, (step_marks _ _ _ _ _ c.requires c.marks.new.used _ c.levels.ensures c.marks.ensures, omega (arith, c.if-level-eq0.false)))
 
 pub compact_level-next-requires : goal.compact_level-next-requires
 compact_level-next-requires c =

@@ -19,4 +19,4 @@ overflow_cast-self c = rw c.first_free-q.ensures (omega (arith, free_low c.args.
 
 pub returns : goal.returns
 unfolding flushed
-returns c = rw (ne_eqb _ _ c.if-n-eq0.false, c.empty-self.ensures, c.write_block.ensures.0, c.first_free-q.ensures)
+returns c = rw (ne_eqb _ _ c.if-n-eq0.false, c.default-self.ensures, c.write_block.ensures.0, c.first_free-q.ensures)

@@ -18,7 +18,7 @@ pub step-requires : goal.step-requires
 step-requires c =
     let l = c.loop-k in
     let a = c.args in
-    record { ready = turned_ready a.z a.t a.xs.now a.ys.now a.limit (memory a.s.now a.self.now) c.requires.ends l.k _ c.requires.ready l.invariant.1.1 c.if-xe-px.false; going = c.if-xe-px.false }
+    turned_ready a.z a.t a.xs.now a.ys.now a.limit (memory a.s.now a.self.now) c.requires.ends l.k _ c.requires.ready l.invariant.1.1 c.if-xe-px.false
 
 pub loop-k-preserved : goal.loop-k-preserved
 loop-k-preserved c =
