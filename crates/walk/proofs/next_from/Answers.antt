@@ -1,3 +1,4 @@
+use native.Mathlib.Omega.{arith}
 use Rattle.walk.proofs.Ends.{next_none, next_some}
 use Rattle.walk.proofs.next_from.Goals as goal
 
