@@ -98,7 +98,7 @@ peel k (x ∷ xs) (y ∷ ys) p q = go (way y.key x.key) (ℕ_discrete x.key k) (
         record { least = rw m p; takens = rw (m, taken_not k x (overlay xs (y ∷ ys)) d, taken_not k x xs d, taken_not k y ys e); pasts = rw (past_not k x xs d, past_not k y ys e, m, past_not k x (overlay xs (y ∷ ys)) d) }
 
 -- a list is its first record, where that has key k, and the rest
-taken_past : (k : ℕ) (xs : List Rec) → xs ≡ taken k xs ++ past k xs
+pub taken_past : (k : ℕ) (xs : List Rec) → xs ≡ taken k xs ++ past k xs
 unfolding taken past
 taken_past k [] = refl
 taken_past k (x ∷ xs) = go (eqb x.key k)
@@ -106,16 +106,6 @@ taken_past k (x ∷ xs) = go (eqb x.key k)
     go : (t : Bool) → x ∷ xs ≡ (if t then x ∷ [] otherwise []) ++ (if t then xs otherwise (x ∷ xs))
     go true = refl
     go false = refl
-
--- a turn of the walk over four lists: the record that decides for the least key, and the overlay of what is left
-pub overlay_cut : (k : ℕ) (a b c d : List Rec) → Least k a → Least k b → Least k c → Least k d
-    → overlay a (overlay b (overlay c d))
-    ≡ or_list (taken k a) (or_list (taken k b) (or_list (taken k c) (taken k d))) ++ overlay (past k a) (overlay (past k b) (overlay (past k c) (past k d)))
-overlay_cut k a b c d pa pb pc pd =
-    let z = peel k c d pc pd in
-    let y = peel k b (overlay c d) pb z.least in
-    let x = peel k a (overlay b (overlay c d)) pa y.least in
-    taken_past k (overlay a (overlay b (overlay c d))) ∙ rw (x.takens, y.takens, z.takens, x.pasts, y.pasts, z.pasts)
 
 -- a record before a list counts if it is no tombstone
 pub live_cons : (r : Rec) (rs : List Rec) → length (unmarked (r ∷ rs)) ≡ live_bit r.tombstone + length (unmarked rs)

@@ -4,11 +4,12 @@ use Prim.Native.Nat.{ℕ, zero, suc, ◌+◌, ◌*◌, ◌≤◌, ◌<◌, min}
 use mathlib.Core.Path.{◌≡◌, refl, sym, ap, ◌∙◌, subst}
 use mathlib.Core.Logic.{◌≢◌}
 use mathlib.Core.List.{List, [], ◌∷◌, ◌++◌, append_assoc, append-nil, map, map-append}
-use native.Mathlib.Nat.{zero-min, suc-min-suc, min-le_left, min_comm}
+use native.Mathlib.Nat.{zero-min, suc-min-suc, min-le_left, min-le_right, min_comm}
 use native.Mathlib.Numerals.{add-one}
 use native.Mathlib.Omega.{arith}
 use lib.ListN.{length, take, get_or, length-take}
-use lib.Seq.{take-suc, take-nil, take_all}
+use lib.Seq.{take-suc, take_all}
+use Rattle.std.proofs.lemmas.List.{get_or-take, take_min}
 use Rattle.levels.specs.declared.Ticket.{Ticket}
 use Rattle.levels.specs.Tickets.{laid}
 use Rattle.levels.proofs.Lists.{map_take}
@@ -19,9 +20,9 @@ use Rattle.writer.specs.declared.Changed.{Changed}
 use Rattle.writer.specs.Answers.{changed_answer}
 use Rattle.tickets.specs.Gathering.{ticket_from}
 use Rattle.tickets.proofs.Gathering.{gathered_all}
-use Rattle.lines.specs.Bytes.{Printed}
-use Rattle.lines.specs.Lines.{longest_line}
-use Rattle.lines.proofs.Print.{printed_then}
+use Rattle.lines.specs.Bytes.{letter_t, Printed}
+use Rattle.lines.specs.Lines.{longest_line, printed_line, room}
+use Rattle.lines.proofs.Print.{printed_then, printed_as, change_is}
 use Rattle.dialogue.specs.Said.{ticket_line, ticket_lines, changed_line, change_said, longest_answer}
 use Rattle.dialogue.specs.State.{Says}
 use Rattle.dialogue.proofs.Feeding.{printed_none}
@@ -41,43 +42,44 @@ lines_more rows i h =
     ap (λ (x : List ℕ). ticket_lines ts ++ x) (sym (append-nil (ticket_line u))) ∙ sym (lines_append ts (u ∷ []))
     ∙ ap ticket_lines (sym (map-append ticket_from (take i rows) (get_or rows i [] ∷ []))) ∙ ap (λ (x : List (List ℕ)). ticket_lines (map ticket_from x)) (sym e)
 
--- What the loop of `print_tickets` keeps, after i rows of at most n.
-pub record Shows (rows : List (List ℕ)) (n at : ℕ) (before : List ℕ) (i end : ℕ) (after : List ℕ) : Type 0 where
-  pub within : i ≤ length rows
-  pub few : i ≤ n
-  pub long : length after ≡ length before
+-- a row of four words, printed, is the line of its ticket
+pub row_line : (row : List ℕ) → length row ≡ 4 → printed_line letter_t row ≡ ticket_line (ticket_from row)
+row_line (a ∷ b ∷ c ∷ d ∷ []) h = change_is letter_t a b c d
+row_line [] h = absurd (omega (arith, h))
+row_line (a ∷ []) h = absurd (omega (arith, h))
+row_line (a ∷ b ∷ []) h = absurd (omega (arith, h))
+row_line (a ∷ b ∷ c ∷ []) h = absurd (omega (arith, h))
+row_line (a ∷ b ∷ c ∷ d ∷ e ∷ row) h = absurd (omega (arith, h))
+
+-- each of the first k rows has four words
+pub row_four : (rows : List (List ℕ)) (k i : ℕ) → ((j : ℕ) → j < length rows → length (get_or rows j []) ≡ 4) → i < length (take k rows) → length (get_or (take k rows) i []) ≡ 4
+row_four rows k i told h =
+    let e = length-take k rows in
+    ap length (get_or-take k rows i [] (omega (arith, h, e, min-le_left k (length rows)))) ∙ told i (omega (arith, h, e, min-le_right k (length rows)))
+
+-- What the loop of `print_tickets` keeps, after i of the rows that it shows.
+pub record Shows (rows : List (List ℕ)) (at : ℕ) (before : List ℕ) (i end : ℕ) (after : List ℕ) : Type 0 where
   pub ends : end ≤ at + longest_line * i
   pub output : Printed before after at end (ticket_lines (map ticket_from (take i rows)))
 
-pub shows_none : (rows : List (List ℕ)) (n at : ℕ) (before : List ℕ) → at ≤ length before → Shows rows n at before 0 at before
-shows_none rows n at before h = record { within = omega arith; few = omega arith; long = refl; ends = omega arith; output = printed_none before at h }
+pub shows_none : (rows : List (List ℕ)) (at : ℕ) (before : List ℕ) → at ≤ length before → Shows rows at before 0 at before
+shows_none rows at before h = record { ends = omega arith; output = printed_none before at h }
 
-pub shows_more : (rows : List (List ℕ)) (n at : ℕ) (before : List ℕ) (i end : ℕ) (mid : List ℕ) (r : ℕ) (after : List ℕ) → i < length rows → i ≢ n → length after ≡ length mid
-    → (r ≤ end + longest_line) × Printed mid after end r (ticket_line (ticket_from (get_or rows i []))) → Shows rows n at before i end mid → Shows rows n at before (i + 1) r after
-shows_more rows n at before i end mid r after h d l p s = record {
-  within = omega arith;
-  few = omega (arith, s.few, d);
-  long = l ∙ s.long;
+pub shows_more : (rows : List (List ℕ)) (at : ℕ) (before : List ℕ) (i end : ℕ) (mid : List ℕ) (r : ℕ) (after : List ℕ) → i < length rows
+    → (r ≤ end + longest_line) × Printed mid after end r (ticket_line (ticket_from (get_or rows i []))) → Shows rows at before i end mid → Shows rows at before (i + 1) r after
+shows_more rows at before i end mid r after h p s = record {
   ends = omega (arith, s.ends, p.0);
   output = subst (λ (x : List ℕ). Printed before after at r x) (lines_more rows i h)
       (printed_then before mid after at end r (ticket_lines (map ticket_from (take i rows))) (ticket_line (ticket_from (get_or rows i []))) s.output p.1);
 }
 
--- it ends at row n, or behind the last row
-pub shows_all : (rows : List (List ℕ)) (n at : ℕ) (before : List ℕ) (i end : ℕ) (after : List ℕ) → take i rows ≡ take n rows → Shows rows n at before i end after
+-- behind the last of the first n rows, or of all
+pub shows_all : (rows shown : List (List ℕ)) (n at : ℕ) (before : List ℕ) (i end : ℕ) (after : List ℕ) → shown ≡ take (min n (length rows)) rows → i ≡ length shown → Shows shown at before i end after
     → (end ≤ at + longest_line * length rows) × Printed before after at end (ticket_lines (map ticket_from (take n rows)))
-shows_all rows n at before i end after e s =
-    (omega (arith, s.ends, s.within), subst (λ (x : List (List ℕ)). Printed before after at end (ticket_lines (map ticket_from x))) e s.output)
-
-pub shows_end : (rows : List (List ℕ)) (n at : ℕ) (before : List ℕ) (i end : ℕ) (after : List ℕ) → length rows ≤ i → Shows rows n at before i end after
-    → (end ≤ at + longest_line * length rows) × Printed before after at end (ticket_lines (map ticket_from (take n rows)))
-shows_end rows n at before i end after h s = shows_all rows n at before i end after (take_all i rows h ∙ sym (take_all n rows (omega (arith, s.few)))) s
-
--- behind the last element nothing is taken
-take_within : {A : Type 0} (n : ℕ) (xs : List A) → take n xs ≡ take (min n (length xs)) xs
-take_within zero xs = ap (λ (k : ℕ). take k xs) (sym (zero-min (length xs)))
-take_within (suc n) [] = sym (take-nil (min (suc n) 0))
-take_within (suc n) (x ∷ xs) = ap (λ y. x ∷ y) (take_within n xs) ∙ ap (λ (k : ℕ). take k (x ∷ xs)) (sym (suc-min-suc n (length xs)))
+shows_all rows shown n at before i end after e h s =
+    let f : take i shown ≡ take n rows = take_all i shown (omega arith) ∙ e ∙ take_min n rows in
+    let l : length shown ≤ length rows = omega (arith, ap length e, length-take (min n (length rows)) rows, min-le_right (min n (length rows)) (length rows)) in
+    (omega (arith, s.ends, l, h), subst (λ (x : List (List ℕ)). Printed before after at end (ticket_lines (map ticket_from x))) f s.output)
 
 -- the line of the call and those of its tickets, one after the other; k merges are counted
 pub whole_printed : (rows : List (List ℕ)) (bs before mid after : List ℕ) (at end r k n : ℕ) → n ≡ k → (end ≤ at + longest_line) × Printed before mid at end bs
@@ -101,7 +103,7 @@ rows_show ts rows₀ rows e =
     let l : length rows ≡ length rows₀ = ap length e ∙ laid_length (rows_of ts) rows₀ in
     let f : rows ≡ laid (rows_of us) rows₀ = e ∙ sym (laid_short (rows_of ts) rows₀) ∙ ap (λ (x : List (List ℕ)). laid x rows₀) (sym (map_take row_of (length rows₀) ts)) in
     let j : min (length ts) (length rows) ≡ length us = min_comm (length ts) (length rows) ∙ ap (λ (x : ℕ). min x (length ts)) l ∙ sym k in
-    ap (map ticket_from) (take_within (length ts) rows ∙ ap (λ (x : ℕ). take x rows) j)
+    ap (map ticket_from) (sym (take_min (length ts) rows) ∙ ap (λ (x : ℕ). take x rows) j)
     ∙ gathered_all us rows₀ rows (length us) refl (omega (arith, k, min-le_left (length rows₀) (length ts))) f
 
 -- What a put or delete has done and what is printed for it are what is said of it: c is what the code answers, o the definition's outcome.

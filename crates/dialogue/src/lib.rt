@@ -67,7 +67,7 @@ impl State {
         ensures { (words : List ℕ) → Holds tickets result words opening }
     {
         State {
-            tickets: tickets,
+            tickets,
             words: 0,
             reading: Reading::start(),
         }
@@ -90,8 +90,8 @@ fn print_formatted(out: &mut [u8], at: usize, f: Formatted) -> usize
     ensures { (result ≤ at + longest_line) × Printed out.old out.new at result (formatted_line (format_answer f)) }
 {
     match f {
-        Formatted::Done(limit) => lines::print_format(out, at, 0, limit),
-        Formatted::Refused(n) => lines::print_format(out, at, n, 0),
+        Formatted::Done(limit) => lines::print_line(out, at, b'f', &[0, limit]),
+        Formatted::Refused(n) => lines::print_line(out, at, b'f', &[n, 0]),
     }
 }
 
@@ -101,9 +101,9 @@ fn print_looked(out: &mut [u8], at: usize, l: Looked) -> usize
     ensures { (result ≤ at + longest_line) × Printed out.old out.new at result (looked_line (looked_answer l)) }
 {
     match l {
-        Looked::Found(v) => lines::print_get(out, at, 0, 1, v),
-        Looked::Absent => lines::print_get(out, at, 0, 0, 0),
-        Looked::Refused(n) => lines::print_get(out, at, n, 0, 0),
+        Looked::Found(v) => lines::print_line(out, at, b'g', &[0, 1, v]),
+        Looked::Absent => lines::print_line(out, at, b'g', &[0, 0, 0]),
+        Looked::Refused(n) => lines::print_line(out, at, b'g', &[n, 0, 0]),
     }
 }
 
@@ -113,46 +113,29 @@ fn print_changed(out: &mut [u8], at: usize, letter: u8, changed: Changed) -> usi
     ensures { (result ≤ at + longest_line) × Printed out.old out.new at result (changed_line letter (changed_answer changed)) }
 {
     match changed {
-        Changed::Refused(n) => lines::print_change(out, at, letter, n, 0, 0, 0),
+        Changed::Refused(n) => lines::print_line(out, at, letter, &[n, 0, 0, 0]),
         Changed::Done(change) => {
             let one = change.tally.one;
             let two = change.tally.two;
             let three = change.tally.three;
             let merged = one.written + two.written + three.written;
             let compacted = one.compacted + two.compacted + three.compacted;
-            lines::print_change(
-                out,
-                at,
-                letter,
-                0,
-                flag(change.live),
-                merged as u32,
-                compacted as u32,
-            )
+            let numbers = [0, flag(change.live), merged as u32, compacted as u32];
+            lines::print_line(out, at, letter, &numbers)
         }
     }
 }
 
-// The line of a ticket, which stands in a row of four words.
-fn print_ticket(out: &mut [u8], at: usize, row: [u32; 4]) -> usize
-    requires { at + longest_line ≤ length out.old }
-    ensures { (result ≤ at + longest_line) × Printed out.old out.new at result (ticket_line (ticket_from row)) }
-{
-    lines::print_change(out, at, b't', row[0], row[1], row[2], row[3])
-}
-
-// The lines of n tickets, which stand in the first rows, or of as many as there are rows.
+// The lines of n tickets, which stand in the first rows, four words each, or of as many as there are rows.
 fn print_tickets(out: &mut [u8], at: usize, rows: &[[u32; 4]], n: usize) -> usize
     requires { at + longest_line * length rows.now ≤ length out.old }
     ensures { (result ≤ at + longest_line * length rows.now)
         × Printed out.old out.new at result (ticket_lines (map ticket_from (take n rows.now))) }
 {
+    let shown = &rows[..n.min(rows.len())];
     let mut end = at;
-    for i in 0..rows.len() {
-        if i == n {
-            return end;
-        }
-        end = print_ticket(out, end, rows[i]);
+    for row in shown {
+        end = lines::print_line(out, end, b't', row);
     }
     end
 }
@@ -210,7 +193,7 @@ fn answered(tickets: usize, n: usize, end: usize) -> Fed
 {
     Fed {
         state: State {
-            tickets: tickets,
+            tickets,
             words: n,
             reading: Reading::start(),
         },
@@ -226,7 +209,11 @@ fn answer(words: &mut [u32], tickets: usize, n: usize, out: &mut [u8], at: usize
 {
     match line {
         Line::Format { b, w, d, g, h, p } => match room_for(b, w, d, g, h, p) {
-            Room::Refused(reason) => answered(tickets, n, lines::print_format(out, at, reason, 0)),
+            Room::Refused(reason) => answered(
+                tickets,
+                n,
+                lines::print_line(out, at, b'f', &[reason, 0]),
+            ),
             Room::Words(m) => {
                 let f = store::format(&mut words[0..m], b, w, d, g, h, p);
                 answered(tickets, m, print_formatted(out, at, f))
@@ -253,7 +240,7 @@ fn answer(words: &mut [u32], tickets: usize, n: usize, out: &mut [u8], at: usize
             let l = store::look_up(&words[0..n], key);
             answered(tickets, n, print_looked(out, at, l))
         }
-        Line::Unreadable => answered(tickets, n, lines::print_unreadable(out, at)),
+        Line::Unreadable => answered(tickets, n, lines::print_line(out, at, b'?', &[])),
     }
 }
 
@@ -272,7 +259,7 @@ fn hear(words: &mut [u32], state: State, byte: u8, out: &mut [u8], at: usize) ->
     }
     Fed {
         state: State {
-            tickets: tickets,
+            tickets,
             words: n,
             reading: reading.take(byte),
         },
@@ -287,13 +274,9 @@ pub fn feed(words: &mut [u32], state: State, input: &[u8], out: &mut [u8]) -> Fe
     ensures { (result.state.tickets ≡ state.tickets) × ((result.state.words ≤ bench_words) × ((result.bytes ≤ length out.old)
         × ((m : ℕ) (s : Session) → Holds m state words.old s → Feeds m (heard m s input.now) 0 result words.new out.old out.new))) }
 {
-    let mut fed = Fed {
-        state: state,
-        bytes: 0,
-    };
-    for i in 0..input.len() {
-        let at = fed.bytes;
-        fed = hear(words, fed.state, input[i], out, at);
+    let mut fed = Fed { state, bytes: 0 };
+    for &byte in input {
+        fed = hear(words, fed.state, byte, out, fed.bytes);
     }
     fed
 }
@@ -307,10 +290,7 @@ pub fn finish(words: &mut [u32], state: State, out: &mut [u8]) -> Fed
 {
     let reading = state.reading;
     if reading.is_start() {
-        return Fed {
-            state: state,
-            bytes: 0,
-        };
+        return Fed { state, bytes: 0 };
     }
     hear(words, state, b'\n', out, 0)
 }

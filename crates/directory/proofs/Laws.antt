@@ -8,6 +8,7 @@ use native.Mathlib.Decide.{dec_lt}
 use native.Mathlib.Nat.{mul-le-mul_right}
 use native.Mathlib.Numerals.{add-one}
 use native.Mathlib.Omega.{arith}
+use Rattle.std.specs.Prelude.{Option, Some, None}
 use borrow.Author.Tests.{leb-true}
 use lib.Dec.{eqb}
 use lib.ListN.{length, length-append}
@@ -16,8 +17,6 @@ use Rattle.levels.specs.Record.{rising, clean_tombstones}
 use Rattle.levels.specs.Waste.{wasteful}
 use Rattle.words.specs.Stores.{word}
 use Rattle.chunks.specs.declared.Chunk.{Chunk}
-use Rattle.chunks.specs.declared.Rise.{Rise}
-use Rattle.chunks.specs.declared.Rise.TheVariants.{To, Broken}
 use Rattle.chunks.specs.Chunks.{chunk_recs, rise_of}
 use Rattle.levels.proofs.Rising.{test_rising}
 use Rattle.words.proofs.Slots.{slots_length}
@@ -58,11 +57,11 @@ module _ (ws : List ℕ) (d : Directory) (n i low before total : ℕ) (h : i < n
   unfolding pass_of
   pass_unkept k = let p : n - i ≡ suc (n - (i + 1)) = omega arith in rw (p, ← e, k)
 
-  pub pass_broken : kept_of ws d c before ≡ true → rise_of ws c.marks c.keys c.pays c.count low ≡ Broken → pass_of ws d i (n - i) low before total ≡ false
+  pub pass_broken : kept_of ws d c before ≡ true → rise_of ws c.marks c.keys c.pays c.count low ≡ None → pass_of ws d i (n - i) low before total ≡ false
   unfolding pass_of
   pass_broken k q = let p : n - i ≡ suc (n - (i + 1)) = omega arith in rw (p, ← e, k, q)
 
-  pub pass_next : (next : ℕ) → kept_of ws d c before ≡ true → rise_of ws c.marks c.keys c.pays c.count low ≡ To next → pass_of ws d i (n - i) low before total ≡ pass_of ws d (i + 1) (n - (i + 1)) next c.count (total + c.count)
+  pub pass_next : (next : ℕ) → kept_of ws d c before ≡ true → rise_of ws c.marks c.keys c.pays c.count low ≡ Some next → pass_of ws d i (n - i) low before total ≡ pass_of ws d (i + 1) (n - (i + 1)) next c.count (total + c.count)
   unfolding pass_of
   pass_next next k q = let p : n - i ≡ suc (n - (i + 1)) = omega arith in rw (p, ← e, k, q, add-one i)
 
@@ -98,7 +97,7 @@ shuffle true true false z t q y = refl
 shuffle true true true false t q y = refl
 shuffle true true true true t q y = refl
 
-on_pick : (b : Bool) (x : ℕ) (f : ℕ → Bool) → on_rise (if b then To x otherwise Broken) f ≡ (b && f x)
+on_pick : (b : Bool) (x : ℕ) (f : ℕ → Bool) → on_rise (if b then Some x otherwise None) f ≡ (b && f x)
 on_pick true x f = refl
 on_pick false x f = refl
 
@@ -117,7 +116,7 @@ pass_is ws d i (suc n) low before total = go (chunk_at ws d i) (λ t u v. pass_i
         let b : Bool = rising low rs && (clean_tombstones rs && eqb (r.marks / 2 ^ r.count) 0) in
         let f : ℕ → Bool = λ next. pass_of ws d (suc i) n next r.count (total + r.count) in
         let k : total + length (rs ++ ss) ≡ total + r.count + length ss = omega (arith, length-append rs ss, slots_length ws r.marks r.keys r.pays r.count) in
-        ap (λ (t : Rise). kept_of ws d r before && on_rise t f) (rise_is ws r.marks r.keys r.pays r.count low)
+        ap (λ (t : Option ℕ). kept_of ws d r before && on_rise t f) (rise_is ws r.marks r.keys r.pays r.count low)
         ∙ ap (λ (t : Bool). kept_of ws d r before && t) (on_pick b (next_low low rs) f)
         ∙ rw (ih (next_low low rs) r.count (total + r.count), rising_append low rs ss, k) (shuffle (kept_of ws d r before) (rising low rs) (clean_tombstones rs) (eqb (r.marks / 2 ^ r.count) 0) _ _ _)
 

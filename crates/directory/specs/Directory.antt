@@ -1,13 +1,11 @@
 -- Directories: the chunks of a level, its records, and the rules that it keeps.
-use Rattle.std.specs.Prelude.{ℕ, zero, suc, ◌+◌, ◌-◌, ◌*◌, ◌≤◌, ◌<◌, ◌≡◌, Bool, true, false, not, ◌&&◌, ◌||◌, List, [], ◌++◌, ltb, leb, eqb, length}
+use Rattle.std.specs.Prelude.{ℕ, zero, suc, ◌+◌, ◌-◌, ◌*◌, ◌≤◌, ◌<◌, ◌≡◌, Bool, true, false, not, ◌&&◌, ◌||◌, List, [], ◌++◌, Option, Some, None, ltb, leb, eqb, length}
 use Rattle.levels.specs.Basics.{if◌then◌otherwise◌}
 use Rattle.levels.specs.Record.{Rec}
 use Rattle.levels.specs.Waste.{wasteful}
 use Rattle.levels.specs.Rising.{Rising}
 use Rattle.words.specs.Stores.{word}
 use Rattle.chunks.specs.declared.Chunk.{Chunk}
-use Rattle.chunks.specs.declared.Rise.{Rise}
-use Rattle.chunks.specs.declared.Rise.TheVariants.{To, Broken}
 use Rattle.chunks.specs.Chunks.{chunk_recs, zeros_at, rise_of}
 use Rattle.directory.specs.declared.Directory.{Directory}
 
@@ -66,9 +64,9 @@ abbrev pub lean_level : Directory → ℕ → Bool
 lean_level d total = d.top || not (wasteful d.width d.chunks total)
 
 -- on with the pass where the keys rise
-abbrev pub on_rise : Rise → (ℕ → Bool) → Bool
-on_rise (To low) f = f low
-on_rise Broken f = false
+abbrev pub on_rise : Option ℕ → (ℕ → Bool) → Bool
+on_rise (Some low) f = f low
+on_rise None f = false
 
 -- The code's pass over the n chunks from chunk i on: the least next key, the records of the chunk before, the records so far.
 unfoldable pub pass_of : List ℕ → Directory → ℕ → ℕ → ℕ → ℕ → ℕ → Bool

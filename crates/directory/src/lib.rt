@@ -5,12 +5,13 @@
 ghost use Rattle.std.specs.Prelude.{◌≡◌, ◌+◌, ◌-◌, ◌*◌, ◌≤◌, ◌<◌, length};
 ghost use Rattle.directory.specs.Directory.{Within, chunk_at, page_of, block_of, kept_of, level_formed};
 
-use chunks::{Chunk, Rise};
+use chunks::Chunk;
 
 // A level as numbers: whether it is level 0 (top), whether it is level h (bottom), the slots of a chunk
 // (width), and how many chunks there are. In level 0 `list` is its first mark word, `base` its first key,
 // `pays` its first payload and `records` its count; in a listed level `list` is the first entry of its
-// place list, `base` the first word of place 0, and the last two are unused.
+// place list, `base` the first word of place 0, and the last two are unused. No enum of the two: `width`, `chunks`,
+// `list` and `base` would stand in both of its cases, and only `page_at` and `kept` read what one alone has.
 #[derive(Clone, Copy)]
 pub struct Directory {
     pub top: bool,
@@ -87,10 +88,7 @@ pub fn kept(s: &[u32], dir: Directory, chunk: Chunk, before: usize) -> bool
     let n = chunk.count;
     let k = chunk.keys;
     let v = chunk.pays;
-    if n < 1 {
-        return false;
-    }
-    if width < n {
+    if n < 1 || width < n {
         return false;
     }
     if !dir.top & (before + n <= width) {
@@ -99,10 +97,7 @@ pub fn kept(s: &[u32], dir: Directory, chunk: Chunk, before: usize) -> bool
     if dir.bottom & (chunk.marks != 0) {
         return false;
     }
-    if chunks::zeros(s, k + n, width - n) {
-        return chunks::zeros(s, v + n, width - n);
-    }
-    false
+    chunks::zeros(s, k + n, width - n) && chunks::zeros(s, v + n, width - n)
 }
 
 // Every rule of one level. A first chunk counts as after a full one, so that it has no case of its own.
@@ -120,7 +115,7 @@ pub fn level_formed(s: &[u32], dir: Directory) -> bool
         if !kept(s, dir, chunk, before) {
             return false;
         }
-        let Rise::To(next) = chunks::rise_over(s, chunk, low) else {
+        let Some(next) = chunks::rise_over(s, chunk, low) else {
             return false;
         };
         low = next;

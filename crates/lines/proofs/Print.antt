@@ -12,7 +12,7 @@ use Rattle.std.proofs.lemmas.Fmt.{decimal_by_steps}
 use Rattle.slices.specs.Slices.{put_at}
 use Rattle.slices.proofs.Put.{put_length, put_join, set_put}
 use Rattle.lines.specs.Bytes.{space, line_end, letter_f, letter_g, question, Printed}
-use Rattle.lines.specs.Lines.{decimal, field, spaced, printed_line, format_line, get_line, change_line, unreadable_line}
+use Rattle.lines.specs.Lines.{decimal, field, longest_line, spaced, printed_line, room, format_line, get_line, change_line, unreadable_line}
 use Rattle.lines.proofs.Digits.{decimal_small, decimal_more}
 
 -- std's digits of a number are those of the definition
@@ -74,3 +74,7 @@ change_is letter reason live merged compacted = simp append_assoc
 pub unreadable_is : printed_line question [] ≡ unreadable_line
 unfolding printed_line unreadable_line
 unreadable_is = refl
+
+-- A line with at most four numbers has the room of the longest line there is, and is what one of these laws says it is.
+pub printed_as : (xs ys bs : List ℕ) (i r letter : ℕ) (ns : List ℕ) → printed_line letter ns ≡ bs → length ns ≤ 4 → (r ≤ i + room (length ns)) × Printed xs ys i r (printed_line letter ns) → (r ≤ i + longest_line) × Printed xs ys i r bs
+printed_as xs ys bs i r letter ns e h p = (omega (arith, h, p.0), subst (Printed xs ys i r) e p.1)

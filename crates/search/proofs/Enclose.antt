@@ -1,32 +1,26 @@
 -- Of the chunks of a level, only the one that a search finds can enclose the key.
 use Prim.Native.Nat.{ℕ, zero, suc, ◌+◌, ◌-◌, ◌/◌, ◌≤◌, ◌<◌}
-use mathlib.Core.Path.{◌≡◌, refl, sym, ap, ◌∙◌}
-use mathlib.Core.Bool.{Bool, true, false, ◌&&◌, ◌||◌, and-false}
+use mathlib.Core.Path.{◌≡◌, refl, ap, ◌∙◌}
+use mathlib.Core.Bool.{Bool, true, false, ◌&&◌, and-false}
 use mathlib.Core.List.{List, [], ◌∷◌, ◌++◌}
-use native.Mathlib.Nat.{add-zero}
 use native.Mathlib.Numerals.{add-one}
 use native.Mathlib.Omega.{arith}
+use Rattle.std.specs.Prelude.{Option, Some, None}
 use borrow.Author.Tests.{lt-leb}
-use lib.Dec.{leb, ltb}
-use lib.ListN.{length, get_or}
-use Rattle.slices.specs.declared.Rank.{Rank}
-use Rattle.slices.specs.Ranks.{count_below, among, rank_of}
-use Rattle.slices.proofs.Ranks.{some_not_above, some_not_below}
+use lib.Dec.{leb}
 use Rattle.levels.specs.Basics.{if◌then◌otherwise◌}
 use Rattle.levels.specs.Record.{Rec, first_key, last_key}
 use Rattle.levels.specs.Rising.{Rising, Below}
 use Rattle.levels.proofs.Rising.{rising_right}
 use Rattle.words.specs.Stores.{word, slots_at}
 use Rattle.chunks.specs.declared.Chunk.{Chunk}
-use Rattle.chunks.specs.Chunks.{Inside, chunk_recs}
+use Rattle.chunks.specs.Chunks.{chunk_recs}
 use Rattle.chunks.proofs.Slots.{slots_first}
 use Rattle.directory.specs.declared.Directory.{Directory}
 use Rattle.directory.specs.Directory.{Formed, records_from, chunk_at}
-use Rattle.search.specs.declared.Enclosed.{Enclosed}
-use Rattle.search.specs.declared.Enclosed.TheVariants.{At, Nowhere}
 use Rattle.search.specs.Search.{Sought, encloses, enclosed_from, enclosed_of}
 use Rattle.search.proofs.Between.{below_left, below_right}
-use Rattle.search.proofs.Laws.{chunk_keys, keys_rising, keys_long, key_is, chunk_ready, chunk_first, first_of, others_of, span_before, span_after}
+use Rattle.search.proofs.Laws.{chunk_ready, chunk_first, first_of, others_of, span_before, span_after}
 
 -- the first and the last key of a chunk
 slots_last : (ws : List ℕ) (m k v n : ℕ) → last_key (slots_at ws m k v (suc n)) ≡ word ws (k + n)
@@ -41,21 +35,6 @@ chunk_last_key : (ws : List ℕ) (c : Chunk) → 1 ≤ c.count → last_key (chu
 chunk_last_key ws c h =
     let e : c.count ≡ suc (c.count - 1) = omega arith in
     ap (λ (n : ℕ). last_key (slots_at ws c.marks c.keys c.pays n)) e ∙ slots_last ws c.marks c.keys c.pays (c.count - 1)
-
--- a chunk encloses a key by its rank: the first key is not above it, and not all keys are below it
-module _ (ws : List ℕ) (c : Chunk) (n : Inside c ws) (h : Rising 0 (chunk_recs ws c)) (l : 1 ≤ c.count) (k : ℕ) where
-  abbrev keys : List ℕ
-  keys = chunk_keys ws c
-
-  long : length keys ≡ c.count
-  long = keys_long ws c n h
-
-  chunk_encloses : encloses k (chunk_recs ws c) ≡ ((among k keys || ltb 0 (count_below k keys)) && ltb (count_below k keys) c.count)
-  chunk_encloses =
-      let r = keys_rising ws c n h in
-      let a : word ws c.keys ≡ get_or keys 0 0 = rw add-zero at (sym (key_is ws c n h 0 l)) in
-      let z : word ws (c.keys + (c.count - 1)) ≡ get_or keys (length keys - 1) 0 = rw long (sym (key_is ws c n h (c.count - 1) (omega arith))) in
-      rw (chunk_first_key ws c l, chunk_last_key ws c l, a, z, some_not_above k 0 keys r (rw long l), some_not_below k 0 keys r (rw long l), long)
 
 last_below : (k : ℕ) (r : Rec) (rs : List Rec) → Below k (r ∷ rs) → last_key (r ∷ rs) < k
 last_below k r [] b = b.0
@@ -72,9 +51,9 @@ above_encloses k rs r ss ts e h =
     let p : Rising (suc k) ((r ∷ ss) ++ ts) = rw e at h in
     rw (e, lt-leb r.key k p.0)
 
-abbrev or_enclosed : Enclosed → Enclosed → Enclosed
-or_enclosed (At i) b = At i
-or_enclosed Nowhere b = b
+abbrev or_enclosed : Option ℕ → Option ℕ → Option ℕ
+or_enclosed (Some i) b = Some i
+or_enclosed None b = b
 
 module _ (ws : List ℕ) (d : Directory) (k : ℕ) where
   enclosed_append : (i m n : ℕ) → enclosed_from ws d k i (m + n) ≡ or_enclosed (enclosed_from ws d k i m) (enclosed_from ws d k (i + m) n)
@@ -85,16 +64,16 @@ module _ (ws : List ℕ) (d : Directory) (k : ℕ) where
       let b : i + suc m ≡ suc i + m = omega arith in
       rw (a, b, enclosed_append (suc i) m n) (go (encloses k (chunk_recs ws (chunk_at ws d i))) (enclosed_from ws d k (suc i) m) (enclosed_from ws d k (suc i + m) n))
     where
-      go : (t : Bool) (y z : Enclosed) → (if t then At i otherwise or_enclosed y z) ≡ or_enclosed (if t then At i otherwise y) z
+      go : (t : Bool) (y z : Option ℕ) → (if t then Some i otherwise or_enclosed y z) ≡ or_enclosed (if t then Some i otherwise y) z
       go true y z = refl
       go false y z = refl
 
-  enclosed_first : (i n : ℕ) → enclosed_from ws d k i (suc n) ≡ (if encloses k (chunk_recs ws (chunk_at ws d i)) then At i otherwise enclosed_from ws d k (i + 1) n)
+  enclosed_first : (i n : ℕ) → enclosed_from ws d k i (suc n) ≡ (if encloses k (chunk_recs ws (chunk_at ws d i)) then Some i otherwise enclosed_from ws d k (i + 1) n)
   unfolding enclosed_from
   enclosed_first i n = rw (add-one i)
 
   module _ (f : Formed d ws) where
-    enclosed_below : (i n : ℕ) → i + n ≤ d.chunks → Below k (records_from ws d i n) → enclosed_from ws d k i n ≡ Nowhere
+    enclosed_below : (i n : ℕ) → i + n ≤ d.chunks → Below k (records_from ws d i n) → enclosed_from ws d k i n ≡ None
     unfolding enclosed_from records_from
     enclosed_below i zero h b = refl
     enclosed_below i (suc n) h b =
@@ -102,7 +81,7 @@ module _ (ws : List ℕ) (d : Directory) (k : ℕ) where
         rw (below_encloses k rs (first_of ws d i) (others_of ws d i) (chunk_first ws d i (f.counts i (omega arith)).0) (below_left k rs (records_from ws d (suc i) n) b))
         (enclosed_below (suc i) n (omega arith) (below_right k rs (records_from ws d (suc i) n) b))
 
-    enclosed_above : (i n : ℕ) → i + n ≤ d.chunks → Rising (suc k) (records_from ws d i n) → enclosed_from ws d k i n ≡ Nowhere
+    enclosed_above : (i n : ℕ) → i + n ≤ d.chunks → Rising (suc k) (records_from ws d i n) → enclosed_from ws d k i n ≡ None
     unfolding enclosed_from records_from
     enclosed_above i zero h b = refl
     enclosed_above i (suc n) h b =
@@ -111,7 +90,7 @@ module _ (ws : List ℕ) (d : Directory) (k : ℕ) where
         (enclosed_above (suc i) n (omega arith) (rising_right (suc k) rs (records_from ws d (suc i) n) b))
 
     -- the chunk that was sought encloses the key, or none does
-    sought_encloses : (r : ℕ) → Sought ws d k r → enclosed_of ws d k ≡ (if encloses k (chunk_recs ws (chunk_at ws d r)) then At r otherwise Nowhere)
+    sought_encloses : (r : ℕ) → Sought ws d k r → enclosed_of ws d k ≡ (if encloses k (chunk_recs ws (chunk_at ws d r)) then Some r otherwise None)
     unfolding enclosed_of
     sought_encloses r s =
         let l = s.inside in
@@ -123,13 +102,14 @@ module _ (ws : List ℕ) (d : Directory) (k : ℕ) where
         ∙ enclosed_append 0 (r - 0) (suc (d.chunks - (r + 1)))
         ∙ rw (b, q, enclosed_first r (d.chunks - (r + 1)), a)
 
-    -- the same by the rank of the key in that chunk, as the code reads it
-    pub enclosed_read : (r : ℕ) → Sought ws d k r → (c : Chunk) → c ≡ chunk_at ws d r → (t : Rank) → t ≡ rank_of k (chunk_keys ws c) → enclosed_of ws d k ≡ (if (t.found || ltb 0 t.below) && ltb t.below c.count then At r otherwise Nowhere)
-    enclosed_read r s c e t q =
+    -- the same by the first and the last key of that chunk, as the code reads them
+    pub enclosed_read : (r : ℕ) → Sought ws d k r → (c : Chunk) → c ≡ chunk_at ws d r → (first last : ℕ) → first ≡ word ws c.keys → last ≡ word ws (c.keys + (c.count - 1))
+        → enclosed_of ws d k ≡ (if leb first k && leb k last then Some r otherwise None)
+    enclosed_read r s c e first last a z =
         let p = chunk_ready ws d f r s.inside c e in
-        sought_encloses r s ∙ rw (← e, chunk_encloses ws c p.0 p.1.1.1 p.1.0 k, q)
+        sought_encloses r s ∙ rw (← e, chunk_first_key ws c p.1.0, chunk_last_key ws c p.1.0, a, z)
 
 -- a level of no chunks encloses nothing
-pub enclosed_empty : (ws : List ℕ) (d : Directory) (k : ℕ) → d.chunks < 1 → enclosed_of ws d k ≡ Nowhere
+pub enclosed_empty : (ws : List ℕ) (d : Directory) (k : ℕ) → d.chunks < 1 → enclosed_of ws d k ≡ None
 unfolding enclosed_of enclosed_from
 enclosed_empty ws d k h = let e : d.chunks ≡ 0 = omega arith in rw e

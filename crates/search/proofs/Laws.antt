@@ -1,18 +1,18 @@
 -- What a search in a chunk finds, and where one in a level ends: at the only chunk that can have the key.
 use Prim.Native.Nat.{ℕ, zero, suc, ◌+◌, ◌-◌, ◌/◌, ◌%◌, ◌^◌, ◌≤◌, ◌<◌}
-use mathlib.Core.Path.{◌≡◌, sym, ap, ◌∙◌}
+use mathlib.Core.Path.{◌≡◌, refl, sym, ap, ◌∙◌}
 use mathlib.Core.Logic.{dite}
 use mathlib.Core.Option.{none, some}
-use mathlib.Core.Bool.{true, false}
+use mathlib.Core.Bool.{Bool, true, false}
 use mathlib.Core.List.{List, [], ◌∷◌, ◌++◌, append_assoc}
 use native.Mathlib.Decide.{dec_lt}
 use native.Mathlib.Numerals.{add-one}
 use native.Mathlib.Omega.{arith}
+use Rattle.std.specs.Prelude.{Result, Ok, Err}
 use lib.Dec.{eqb}
 use lib.ListN.{length, get_or, take, drop, length-drop}
 use lib.Seq.{take_all, length-take-le, get_or-take, get_or-drop}
-use Rattle.slices.specs.declared.Rank.{Rank}
-use Rattle.slices.specs.Ranks.{count_below, among, rank_of}
+use Rattle.slices.specs.Ranks.{count_below, among, ranked, rank_of}
 use Rattle.slices.specs.Ranks as numbers
 use Rattle.levels.specs.Record.{Rec}
 use Rattle.levels.specs.Map.{find}
@@ -30,6 +30,29 @@ use Rattle.directory.specs.Directory.{Formed, records_from, records_of, chunk_at
 use Rattle.directory.proofs.Laws.{chunk_room}
 use Rattle.search.specs.Search.{first_at, Sought}
 use Rattle.search.proofs.Between.{find_between, rising_before, rising_after}
+
+-- what a rank says: an entry that is there, or would stand there
+abbrev ranked_at : Result ℕ ℕ → ℕ
+ranked_at (Ok i) = i
+ranked_at (Err i) = i
+
+abbrev ranked_in : Result ℕ ℕ → Bool
+ranked_in (Ok i) = true
+ranked_in (Err i) = false
+
+rank_is : (k : ℕ) (xs : List ℕ) → (ranked_in (rank_of k xs) ≡ among k xs) × (ranked_at (rank_of k xs) ≡ count_below k xs)
+rank_is k xs = go (among k xs)
+  where
+    go : (t : Bool) → (ranked_in (ranked t (count_below k xs)) ≡ t) × (ranked_at (ranked t (count_below k xs)) ≡ count_below k xs)
+    go true = (refl, refl)
+    go false = (refl, refl)
+
+module _ (k i : ℕ) (xs : List ℕ) where
+  pub rank_ok : Ok i ≡ rank_of k xs → (among k xs ≡ true) × (i ≡ count_below k xs)
+  rank_ok e = (sym (ap ranked_in e ∙ (rank_is k xs).0), ap ranked_at e ∙ (rank_is k xs).1)
+
+  pub rank_err : Err i ≡ rank_of k xs → (among k xs ≡ false) × (i ≡ count_below k xs)
+  rank_err e = (sym (ap ranked_in e ∙ (rank_is k xs).0), ap ranked_at e ∙ (rank_is k xs).1)
 
 -- an interval of one: what was known of its end is known of what comes next
 pub interval_end : (n k : ℕ) (key : ℕ → ℕ) (lo hi : ℕ) → lo < hi → hi ≤ lo + 1 → (hi < n → k < key hi) → lo + 1 < n → k < key (lo + 1)
@@ -57,21 +80,22 @@ module _ (ws : List ℕ) (c : Chunk) (n : Inside c ws) (h : Rising 0 (chunk_recs
   pub key_is : (i : ℕ) → i < c.count → get_or (chunk_keys ws c) i 0 ≡ word ws (c.keys + i)
   key_is i m = get_or-take c.count (drop c.keys ws) i 0 m ∙ get_or-drop c.keys ws i 0
 
-  module _ (k : ℕ) (r : Rank) (e : r ≡ rank_of k (chunk_keys ws c)) where
-    found_same : among k (keys_of (chunk_recs ws c)) ≡ r.found
-    found_same = rw chunk_keys_lem (ap (λ (x : Rank). x.found) (sym e))
+  module _ (k : ℕ) where
+    found_same : among k (keys_of (chunk_recs ws c)) ≡ among k (chunk_keys ws c)
+    found_same = rw chunk_keys_lem
 
-    pub below_same : count_below k (keys_of (chunk_recs ws c)) ≡ r.below
-    below_same = rw chunk_keys_lem (ap (λ (x : Rank). x.below) (sym e))
-
-    pub chunk_here : r.found ≡ true → (r.below < c.count) × (find k (chunk_recs ws c) ≡ some (slot_of ws c r.below))
-    chunk_here f =
-        let p = found_record k 0 (chunk_recs ws c) h (found_same ∙ f) in
-        let q : r.below < c.count = rw (below_same, slots_length ws c.marks c.keys c.pays c.count) at p.0 in
-        (q, p.1 ∙ rw (below_same, slot_at ws c.marks c.keys c.pays c.count r.below q))
-
-    pub chunk_absent : r.found ≡ false → find k (chunk_recs ws c) ≡ none
+    pub chunk_absent : among k (chunk_keys ws c) ≡ false → find k (chunk_recs ws c) ≡ none
     chunk_absent f = found_none k (chunk_recs ws c) (found_same ∙ f)
+
+    module _ (i : ℕ) (e : i ≡ count_below k (chunk_keys ws c)) where
+      pub below_same : count_below k (keys_of (chunk_recs ws c)) ≡ i
+      below_same = rw chunk_keys_lem (sym e)
+
+      pub chunk_here : among k (chunk_keys ws c) ≡ true → (i < c.count) × (find k (chunk_recs ws c) ≡ some (slot_of ws c i))
+      chunk_here f =
+          let p = found_record k 0 (chunk_recs ws c) h (found_same ∙ f) in
+          let q : i < c.count = rw (below_same, slots_length ws c.marks c.keys c.pays c.count) at p.0 in
+          (q, p.1 ∙ rw (below_same, slot_at ws c.marks c.keys c.pays c.count i q))
 
 -- chunks lo to hi of a level
 abbrev pub span : List ℕ → Directory → ℕ → ℕ → List Rec
@@ -164,34 +188,36 @@ module _ (ws : List ℕ) (d : Directory) (f : Formed d ws) where
     sought_find = rw level_cut (sym (find_between k (span ws d 0 r) (chunk_recs ws (chunk_at ws d r)) (span ws d (r + 1) d.chunks) span_before span_after))
 
     -- and its rank there says where the level has it
-    module _ (c : Chunk) (e : c ≡ chunk_at ws d r) (t : Rank) (q : t ≡ rank_of k (chunk_keys ws c)) where
+    module _ (c : Chunk) (e : c ≡ chunk_at ws d r) where
       abbrev ready : Inside c ws × ((1 ≤ c.count) × ((c.count ≤ 16) × Rising 0 (chunk_recs ws c)))
       ready = chunk_ready r s.inside c e
 
-      pub level_here : t.found ≡ true → (t.below < c.count) × (find k (records_of ws d) ≡ some (slot_of ws c t.below))
-      level_here f =
-          let p = chunk_here ws c ready.0 ready.1.1.1 k t q f in
-          (p.0, sym sought_find ∙ rw (← e) p.1)
+      pub level_absent : (i : ℕ) → Err i ≡ rank_of k (chunk_keys ws c) → find k (records_of ws d) ≡ none
+      level_absent i f = sym sought_find ∙ rw (← e) (chunk_absent ws c ready.0 ready.1.1.1 k (rank_err k i (chunk_keys ws c) f).0)
 
-      pub level_absent : t.found ≡ false → find k (records_of ws d) ≡ none
-      level_absent f = sym sought_find ∙ rw (← e) (chunk_absent ws c ready.0 ready.1.1.1 k t q f)
+      pub level_here : (i : ℕ) → Ok i ≡ rank_of k (chunk_keys ws c) → (i < 16) × (c.pays + i < length ws) × (find k (records_of ws d) ≡ some (slot_of ws c i))
+      level_here i f =
+          let o = rank_ok k i (chunk_keys ws c) f in
+          let p = chunk_here ws c ready.0 ready.1.1.1 k i o.1 o.0 in
+          (omega (arith, p.0, ready.1.1.0), omega (arith, p.0, ready.0.pays_end), sym sought_find ∙ rw (← e) p.1)
 
-      -- or where it would stand
-      records_below : Below k (take t.below (chunk_recs ws c))
-      records_below = rw (below_same ws c ready.0 ready.1.1.1 k t q) at (records_before k 0 (chunk_recs ws c) ready.1.1.1)
+      module _ (i : ℕ) (q : i ≡ count_below k (chunk_keys ws c)) where
+        -- or where it would stand
+        records_below : Below k (take i (chunk_recs ws c))
+        records_below = rw (below_same ws c ready.0 ready.1.1.1 k i q) at (records_before k 0 (chunk_recs ws c) ready.1.1.1)
 
-      -- what stands before its rank is below it, and the record at its rank is not
-      pub before_rank : Below k (span ws d 0 r ++ take t.below (chunk_recs ws c))
-      before_rank = below_append k (span ws d 0 r) (take t.below (chunk_recs ws c)) span_before records_below
+        -- what stands before its rank is below it, and the record at its rank is not
+        pub before_rank : Below k (span ws d 0 r ++ take i (chunk_recs ws c))
+        before_rank = below_append k (span ws d 0 r) (take i (chunk_recs ws c)) span_before records_below
 
-      pub at_rank : t.below < c.count → k ≤ word ws (c.keys + t.below)
-      at_rank l =
-          rw (← key_is ws c ready.0 ready.1.1.1 t.below l)
-          (rank_from k 0 (chunk_keys ws c) t.below (keys_rising ws c ready.0 ready.1.1.1) (rw q (omega arith)) (rw (keys_long ws c ready.0 ready.1.1.1) l))
+        pub at_rank : i < c.count → k ≤ word ws (c.keys + i)
+        at_rank l =
+            rw (← key_is ws c ready.0 ready.1.1.1 i l)
+            (rank_from k 0 (chunk_keys ws c) i (keys_rising ws c ready.0 ready.1.1.1) (omega (arith, q)) (rw (keys_long ws c ready.0 ready.1.1.1) l))
 
-      -- a rank that is the number of records: all are below it
-      pub before_end : c.count ≤ t.below → Below k (span ws d 0 r ++ chunk_recs ws c)
-      before_end l = rw (take_all t.below (chunk_recs ws c) (rw (slots_length ws c.marks c.keys c.pays c.count) l)) at before_rank
+        -- a rank that is the number of records: all are below it
+        pub before_end : c.count ≤ i → Below k (span ws d 0 r ++ chunk_recs ws c)
+        before_end l = rw (take_all i (chunk_recs ws c) (rw (slots_length ws c.marks c.keys c.pays c.count) l)) at before_rank
 
 -- a level of no chunks has no key
 pub empty_level : (ws : List ℕ) (d : Directory) (k : ℕ) → d.chunks < 1 → find k (records_of ws d) ≡ none

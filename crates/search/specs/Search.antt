@@ -1,6 +1,7 @@
 -- The answers of the searches in a level.
-use Rattle.std.specs.Prelude.{ℕ, zero, suc, ◌+◌, ◌≤◌, ◌<◌, Bool, List}
-use Rattle.std.proofs.Math.Option.{Option, none, some}
+use Rattle.std.specs.Prelude.{ℕ, zero, suc, ◌+◌, ◌≤◌, ◌<◌, Bool, List, Option, Some, None}
+use Rattle.std.proofs.Math.Option.{none, some}
+use Rattle.std.proofs.Math.Option as math
 use Rattle.levels.specs.Basics.{if◌then◌otherwise◌}
 use Rattle.geometry.specs.Geometry.{within}
 use Rattle.levels.specs.Record.{Rec, first_key, last_key}
@@ -8,15 +9,12 @@ use Rattle.words.specs.Stores.{word}
 use Rattle.chunks.specs.Chunks.{chunk_recs}
 use Rattle.directory.specs.declared.Directory.{Directory}
 use Rattle.directory.specs.Directory.{chunk_at}
-use Rattle.search.specs.declared.Found.{Found}
-use Rattle.search.specs.declared.Found.TheVariants.{Here, Absent}
-use Rattle.search.specs.declared.Enclosed.{Enclosed}
-use Rattle.search.specs.declared.Enclosed.TheVariants.{At, Nowhere}
+use Rattle.search.specs.declared.Held.{Held}
 
 -- the answer for the record with a key
-abbrev pub found_of : Option Rec → Found
-found_of none = Absent
-found_of (some r) = Here r.tombstone r.pay
+abbrev pub found_of : math.Option Rec → Option Held
+found_of none = None
+found_of (some r) = Some (record { mark = r.tombstone; pay = r.pay })
 
 -- the first key of chunk i
 unfoldable pub first_at : List ℕ → Directory → ℕ → ℕ
@@ -33,10 +31,10 @@ abbrev pub encloses : ℕ → List Rec → Bool
 encloses k rs = within (first_key rs) (last_key rs) k
 
 -- the first of the n chunks from chunk i on that encloses k
-unfoldable pub enclosed_from : List ℕ → Directory → ℕ → ℕ → ℕ → Enclosed
-enclosed_from ws d k i zero = Nowhere
-enclosed_from ws d k i (suc n) = if encloses k (chunk_recs ws (chunk_at ws d i)) then At i otherwise enclosed_from ws d k (suc i) n
+unfoldable pub enclosed_from : List ℕ → Directory → ℕ → ℕ → ℕ → Option ℕ
+enclosed_from ws d k i zero = None
+enclosed_from ws d k i (suc n) = if encloses k (chunk_recs ws (chunk_at ws d i)) then Some i otherwise enclosed_from ws d k (suc i) n
 
 -- the first chunk of a level that encloses k
-unfoldable pub enclosed_of : List ℕ → Directory → ℕ → Enclosed
+unfoldable pub enclosed_of : List ℕ → Directory → ℕ → Option ℕ
 enclosed_of ws d k = enclosed_from ws d k 0 d.chunks

@@ -1,5 +1,5 @@
-// Searches in one level: the only chunk that can have a key; the record with a key; the chunk whose keys enclose a key. Of the
-// chunks, whose first keys do not stand in a row, one is found by halving here; in a chunk `slices::rank_of` finds the key.
+// Searches in one level: the only chunk that can have a key; the record with a key; the chunk whose keys enclose a key. In a
+// chunk `slices::rank_of` finds the key.
 #![tactic(auto)]
 
 ghost use Rattle.std.specs.Prelude.{◌≡◌, ◌≤◌};
@@ -9,21 +9,15 @@ ghost use Rattle.search.specs.Search.{Sought, found_of, enclosed_of};
 
 use directory::Directory;
 
-// What a level has for a key: a tombstone (true) or not, with its payload.
+// What a level has for a key: a tombstone or not, with its payload.
 #[derive(Clone, Copy)]
-pub enum Found {
-    Here(bool, u32),
-    Absent,
+pub struct Held {
+    pub mark: bool,
+    pub pay: u32,
 }
 
-// The number of the chunk whose first to last key encloses a key.
-#[derive(Clone, Copy)]
-pub enum Enclosed {
-    At(usize),
-    Nowhere,
-}
-
-// The last chunk whose first key is not above k, or the first chunk: the only one that can have k.
+// The last chunk whose first key is not above k, or the first chunk: the only one that can have k. Halved by hand, for
+// the library halves slices, and these keys do not stand in one.
 pub fn seek_chunk(s: &[u32], dir: Directory, k: usize) -> usize
     requires { Formed dir s.now × (1 ≤ dir.chunks) }
     ensures { Sought s.now dir k result }
@@ -45,45 +39,38 @@ pub fn seek_chunk(s: &[u32], dir: Directory, k: usize) -> usize
 }
 
 // The record with key k in a level.
-pub fn find_in(s: &[u32], dir: Directory, k: usize) -> Found
+pub fn find_in(s: &[u32], dir: Directory, k: usize) -> Option<Held>
     requires { Formed dir s.now × (k ≤ 4294967296) }
     ensures { result ≡ found_of (find k (records_of s.now dir)) }
 {
-    let n = dir.chunks;
-    if n < 1 {
-        return Found::Absent;
+    if dir.chunks == 0 {
+        return None;
     }
     let i = seek_chunk(s, dir, k);
     let chunk = directory::chunk_at(s, dir, i);
-    let at = slices::rank_of(s, chunk.keys, chunk.count, k);
-    if at.found {
-        let j = at.below;
-        let pays = chunk.pays;
-        let m = chunk.marks;
-        let shift = j as u32;
-        return Found::Here((m >> shift) % 2 == 1, s[pays + j]);
-    }
-    Found::Absent
+    let Ok(j) = slices::rank_of(s, chunk.keys, chunk.count, k) else {
+        return None;
+    };
+    Some(Held {
+        mark: (chunk.marks >> (j as u32)) % 2 == 1,
+        pay: s[chunk.pays + j],
+    })
 }
 
-// The chunk of a level whose first to last key encloses k.
-pub fn enclosing(s: &[u32], dir: Directory, k: usize) -> Enclosed
+// The number of the chunk of a level whose first to last key encloses k.
+pub fn enclosing(s: &[u32], dir: Directory, k: usize) -> Option<usize>
     requires { Formed dir s.now × (k ≤ 4294967296) }
     ensures { result ≡ enclosed_of s.now dir k }
 {
-    let n = dir.chunks;
-    if n < 1 {
-        return Enclosed::Nowhere;
+    if dir.chunks == 0 {
+        return None;
     }
     let i = seek_chunk(s, dir, k);
     let chunk = directory::chunk_at(s, dir, i);
-    let count = chunk.count;
-    let at = slices::rank_of(s, chunk.keys, count, k);
-    let below = at.below;
-    // The first key is not above k, and the last one not below it.
-    let held = (at.found | (0 < below)) & (below < count);
-    if held {
-        return Enclosed::At(i);
+    let first = slices::word(s, chunk.keys);
+    let last = slices::word(s, chunk.keys + (chunk.count - 1));
+    if first <= k && k <= last {
+        return Some(i);
     }
-    Enclosed::Nowhere
+    None
 }

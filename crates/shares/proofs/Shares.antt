@@ -18,7 +18,6 @@ use Rattle.levels.proofs.View.{unmarked_drop, view_rising}
 use Rattle.words.specs.Stores.{keys_of}
 use Rattle.words.proofs.Ranks.{found_is}
 use Rattle.chunks.proofs.Overlay.{live_cons}
-use Rattle.walk.specs.Walk.{four}
 use Rattle.shares.specs.Shares.{under, hide, shares_under}
 
 -- one of the keys of two lists is one of the first or one of the second
@@ -162,18 +161,3 @@ view_shares ks (l ∷ ls) h =
 pub live_shares : (ls : List (List Rec)) → Risings ls → live_count ls ≡ shares_under [] ls
 unfolding live_count map_of
 live_shares ls h = ap (λ (rs : List Rec). length (unmarked rs)) (sym (hide_nil (view ls))) ∙ view_shares [] ls h
-
--- four levels laid over each other have the live keys of their view
-four_live : (a b c d : List Rec) → live_count (a ∷ b ∷ c ∷ d ∷ []) ≡ length (unmarked (four a b c d))
-unfolding live_count map_of view
-four_live a b c d = rw (overlay_nil d)
-
--- and these are their shares, level by level
-pub four_shares : (a b c d : List Rec) → Rising 0 a → Rising 0 b → Rising 0 c → Rising 0 d
-    → length (unmarked (four a b c d)) ≡ length (unmarked a) + length (unmarked (hide (keys_of a) b)) + length (unmarked (hide (keys_of b) (hide (keys_of a) c))) + length (unmarked (hide (keys_of c) (hide (keys_of b) (hide (keys_of a) d))))
-unfolding shares_under
-four_shares a b c d ra rb rc rd =
-    let e = hide_nil a in
-    let f = hide_append (keys_of a) (keys_of b) c in
-    let g = hide_append (keys_of a ++ keys_of b) (keys_of c) d ∙ ap (hide (keys_of c)) (hide_append (keys_of a) (keys_of b) d) in
-    sym (four_live a b c d) ∙ live_shares (a ∷ b ∷ c ∷ d ∷ []) (ra, (rb, (rc, (rd, tt)))) ∙ rw (e, f, g) (omega arith)

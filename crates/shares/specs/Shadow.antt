@@ -1,5 +1,6 @@
 -- A level while it is counted: a word for each chunk says which of its records show no longer.
-use Rattle.std.specs.Prelude.{ℕ, zero, suc, ◌+◌, ◌-◌, ◌*◌, ◌/◌, ◌≤◌, ◌<◌, ◌≡◌, Bool, true, false, ◌&&◌, List, [], ◌∷◌, ◌++◌, leb, length, get_or}
+use Rattle.std.specs.Prelude.{ℕ, zero, suc, ◌+◌, ◌-◌, ◌*◌, ◌/◌, ◌≤◌, ◌<◌, ◌≡◌, Bool, true, false, List, [], ◌∷◌, ◌++◌, leb, length, get_or, fold, All}
+use Rattle.std.specs.List.{list_all}
 use Rattle.slices.specs.Ranks.{among}
 use Rattle.levels.specs.Record.{Rec}
 use Rattle.levels.specs.Rising.{Rising}
@@ -9,7 +10,7 @@ use Rattle.chunks.specs.Chunks.{chunk_recs}
 use Rattle.directory.specs.declared.Directory.{Directory}
 use Rattle.directory.specs.Directory.{records_of, chunk_at}
 use Rattle.search.specs.Search.{first_at, Sought}
-use Rattle.walk.specs.declared.Levels.{Levels}
+use Rattle.shares.specs.Shares.{hide}
 use Rattle.shares.specs.declared.Seats.{Seats}
 
 -- a number where something holds, else 0
@@ -47,16 +48,17 @@ pub record Started (ws : List ℕ) (d : Directory) (starts : List ℕ) : Type 0 
   pub room : d.chunks ≤ length starts
   pub start : (i : ℕ) → i < d.chunks → get_or starts i 0 ≡ (chunk_at ws d i).keys
 
--- four levels of at most n chunks each
-pub record Within (l : Levels) (n : ℕ) : Type 0 where
-  pub room0 : l.d0.chunks ≤ n
-  pub room1 : l.d1.chunks ≤ n
-  pub room2 : l.d2.chunks ≤ n
-  pub room3 : l.d3.chunks ≤ n
+-- records under the keys of levels above them, the upper ones first
+abbrev pub hide_all : List ℕ → List Directory → List Rec → List Rec
+hide_all ws above rs = fold (λ (hidden : List Rec) (up : Directory). hide (keys_in ws up) hidden) rs above
+
+-- levels of at most n chunks each
+abbrev pub Within : List Directory → ℕ → Type 0
+Within l n = All (λ (d : Directory). d.chunks ≤ n) l
 
 -- the same as a test
-abbrev pub is_within : Levels → ℕ → Bool
-is_within l n = leb l.d0.chunks n && (leb l.d1.chunks n && (leb l.d2.chunks n && leb l.d3.chunks n))
+abbrev pub is_within : List Directory → ℕ → Bool
+is_within l n = list_all (λ (d : Directory). leb d.chunks n) l
 
 -- A chunk of `width` slots whose keys are looked for in a level: its words are there, and its keys rise.
 pub record Asked (ws : List ℕ) (c : Chunk) (width : ℕ) : Type 0 where

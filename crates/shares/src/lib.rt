@@ -12,7 +12,7 @@ ghost use Rattle.chunks.specs.Chunks.{chunk_recs};
 ghost use Rattle.directory.specs.Directory.{Formed, records_of};
 ghost use Rattle.walk.specs.Walk.{AllFormed, layered};
 ghost use Rattle.shares.specs.Shares.{hide};
-ghost use Rattle.shares.specs.Shadow.{bit_if, known_in, number, shadow, keys_in, Started, Within, is_within, Asked, Begun, Ended, Seated, ChunkSeated};
+ghost use Rattle.shares.specs.Shadow.{bit_if, known_in, number, shadow, keys_in, Started, hide_all, Within, is_within, Asked, Begun, Ended, Seated, ChunkSeated};
 
 use chunks::Chunk;
 use directory::Directory;
@@ -106,8 +106,8 @@ fn fences(
     ensures { Seated s.now dir keys.now last from result }
 {
     let mut above = [0u32; 16];
-    let mut t = from;
-    while t + 1 < dir.chunks {
+    let end = dir.chunks - 1;
+    for t in from..end {
         let k = slices::word(starts, t + 1);
         let f = s[k];
         if last < f {
@@ -117,10 +117,9 @@ fn fences(
             };
         }
         pass_fence(keys, f, &mut above);
-        t += 1;
     }
     Seats {
-        end: t,
+        end: end,
         above: above,
     }
 }
@@ -172,7 +171,8 @@ fn hide_chunk(
     end
 }
 
-// Hides the records of a level whose key a level above has, key by key of the upper one.
+// Hides the records of a level whose key a level above has, key by key of the upper one. A level's chunks stand in no row: here and
+// in the other loops over a level `chunk_at` reads each by its number, and an iterator over them would be a type that does the same.
 fn hide_by(s: &[u32], up: Directory, low: Directory, starts: &[u32], gone: &mut [u32])
     requires { Formed up s.now × (Formed low s.now × (Started s.now low starts.now × ((1 ≤ low.chunks) × (low.chunks ≤ length gone.old)))) }
     ensures { shadow s.now low gone.new ≡ hide (keys_in s.now up) (shadow s.now low gone.old) }
@@ -289,85 +289,43 @@ fn shown(s: &[u32], dir: Directory, gone: &[u32]) -> usize
         let chunk = directory::chunk_at(s, dir, i);
         let count = chunk.count;
         let used: u32 = 1 << count as u32;
-        total += count - u32::count_ones(gone[i] / 2 % used) as usize;
+        total += count - (gone[i] / 2 % used).count_ones() as usize;
     }
     total
 }
 
-// A level under one above it, under two and under three, the upper ones first.
-fn under_one(s: &[u32], a: Directory, low: Directory, starts: &mut [u32], gone: &mut [u32])
-    requires { Formed a s.now × (Formed low s.now × ((low.chunks ≤ length starts.old) × (low.chunks ≤ length gone.old))) }
-    ensures { (shadow s.now low gone.new ≡ hide (keys_in s.now a) (records_of s.now low)) × Started s.now low starts.new }
+// A level under those above it, the upper ones first.
+fn under(s: &[u32], above: &[Directory], low: Directory, starts: &mut [u32], gone: &mut [u32])
+    requires { AllFormed s.now above.now × (Formed low s.now × ((low.chunks ≤ length starts.old) × (low.chunks ≤ length gone.old))) }
+    ensures { shadow s.now low gone.new ≡ hide_all s.now above.now (records_of s.now low) }
 {
     begin(s, low, starts, gone);
-    hide_under(s, a, low, starts, gone);
-}
-
-fn under_two(
-    s: &[u32],
-    a: Directory,
-    b: Directory,
-    low: Directory,
-    starts: &mut [u32],
-    gone: &mut [u32],
-)
-    requires { Formed a s.now × (Formed b s.now × (Formed low s.now × ((low.chunks ≤ length starts.old) × (low.chunks ≤ length gone.old)))) }
-    ensures { (shadow s.now low gone.new ≡ hide (keys_in s.now b) (hide (keys_in s.now a) (records_of s.now low)))
-        × Started s.now low starts.new }
-{
-    under_one(s, a, low, starts, gone);
-    hide_under(s, b, low, starts, gone);
-}
-
-fn under_three(
-    s: &[u32],
-    a: Directory,
-    b: Directory,
-    c: Directory,
-    low: Directory,
-    starts: &mut [u32],
-    gone: &mut [u32],
-)
-    requires { AllFormed s.now (record { d0 = a; d1 = b; d2 = c; d3 = low }) × ((low.chunks ≤ length starts.old) × (low.chunks ≤ length gone.old)) }
-    ensures { shadow s.now low gone.new ≡ hide (keys_in s.now c) (hide (keys_in s.now b) (hide (keys_in s.now a) (records_of s.now low))) }
-{
-    under_two(s, a, b, low, starts, gone);
-    hide_under(s, c, low, starts, gone);
-}
-
-// What four levels show, each under those above it, in arrays that have room for their chunks.
-fn count(s: &[u32], l: Levels, starts: &mut [u32], gone: &mut [u32]) -> usize
-    requires { AllFormed s.now l × (Within l (length starts.old) × Within l (length gone.old)) }
-    ensures { result ≡ length (unmarked (layered s.now l)) }
-{
-    let d0 = l.d0;
-    let d1 = l.d1;
-    let d2 = l.d2;
-    let d3 = l.d3;
-    begin(s, d0, starts, gone);
-    let n0 = shown(s, d0, gone);
-    under_one(s, d0, d1, starts, gone);
-    let n1 = shown(s, d1, gone);
-    // The smallest stores have no more levels, and notice each call.
-    if d2.chunks + d3.chunks < 1 {
-        return n0 + n1;
+    for up in above {
+        hide_under(s, *up, low, starts, gone);
     }
-    under_two(s, d0, d1, d2, starts, gone);
-    let n2 = shown(s, d2, gone);
-    under_three(s, d0, d1, d2, d3, starts, gone);
-    let n3 = shown(s, d3, gone);
-    n0 + n1 + n2 + n3
 }
 
-// Whether four levels have at most n chunks each.
-fn is_within(l: Levels, n: usize) -> bool
-    ensures { result ≡ is_within l n }
+// What four levels show, each under those above it, in arrays that have room for their chunks. A level with no chunk shows
+// nothing: the smallest stores have two of them, and notice each call.
+fn count(s: &[u32], levels: Levels, starts: &mut [u32], gone: &mut [u32]) -> usize
+    requires { AllFormed s.now levels × (Within levels (length starts.old) × Within levels (length gone.old)) }
+    ensures { result ≡ length (unmarked (layered s.now levels)) }
 {
-    let d0 = l.d0;
-    let d1 = l.d1;
-    let d2 = l.d2;
-    let d3 = l.d3;
-    (d0.chunks <= n) & ((d1.chunks <= n) & ((d2.chunks <= n) & (d3.chunks <= n)))
+    let mut total: usize = 0;
+    for (i, low) in levels.iter().enumerate() {
+        if low.chunks > 0 {
+            under(s, &levels[..i], *low, starts, gone);
+            total += shown(s, *low, gone);
+        }
+    }
+    total
+}
+
+// Whether all levels have at most n chunks.
+fn is_within(levels: &Levels, n: usize) -> bool
+    ensures { result ≡ is_within levels.now n }
+{
+    levels.iter().all(|level| level.chunks <= n)
 }
 
 // The number of live keys of four levels.
@@ -375,7 +333,7 @@ pub fn live(s: &[u32], levels: Levels) -> usize
     requires { AllFormed s.now levels }
     ensures { result ≡ length (unmarked (layered s.now levels)) }
 {
-    if is_within(levels, FEW) {
+    if is_within(&levels, FEW) {
         let mut starts = [0u32; FEW];
         let mut gone = [0u32; FEW];
         return count(s, levels, &mut starts, &mut gone);

@@ -1,120 +1,183 @@
--- Four cursors side by side: a turn of the walk, and its end.
+-- Cursors side by side, upper ones and the last: a turn of the walk, and its end.
 use Prim.Native.Nat.{ℕ, zero, suc, ◌+◌, ◌-◌, ◌*◌, ◌%◌, ◌≤◌, ◌<◌}
-use mathlib.Core.Path.{◌≡◌, sym, ap, ◌∙◌}
-use mathlib.Core.Bool.{true}
-use mathlib.Core.Logic.{dite}
-use mathlib.Core.List.{List, [], ◌∷◌}
+use mathlib.Core.Path.{◌≡◌, refl, sym, ap, ◌∙◌}
+use mathlib.Core.Bool.{Bool, true, false}
+use mathlib.Core.List.{List, [], ◌∷◌, ◌++◌, map}
 use native.Mathlib.Decide.{ℕ_discrete}
 use native.Mathlib.Omega.{arith}
 use native.Mathlib.Nat.{le_trans, mul-le-mul}
 use borrow.Author.Tests.{eq-eqb, ne_eqb}
 use lib.Dec.{eqb}
-use lib.ListN.{length, length-append}
+use lib.ListN.{length, get_or, length-append}
+use Rattle.std.specs.Prelude.{cond, All, find, unwrap_or, option_map, Some}
 use Rattle.levels.specs.Record.{Rec}
-use Rattle.levels.specs.Map.{overlay}
+use Rattle.levels.specs.Map.{overlay, view}
+use Rattle.levels.proofs.Overlay.{overlay_nil}
 use Rattle.levels.proofs.Laid.{overlay_length, kept_length}
 use Rattle.words.specs.Stores.{word}
 use Rattle.chunks.specs.declared.Chunk.{Chunk}
 use Rattle.chunks.specs.Chunks.{chunk_recs}
 use Rattle.chunks.specs.Peel.{past}
 use Rattle.words.proofs.Slots.{slots_length}
-use Rattle.chunks.proofs.Overlay.{Least, peel, taken, or_list, overlay_cut}
+use Rattle.chunks.proofs.Overlay.{Least, peel, taken, or_list, taken_past}
 use Rattle.directory.specs.declared.Directory.{Directory}
 use Rattle.directory.specs.Directory.{Formed, records_from, records_of, chunk_at}
 use Rattle.walk.specs.declared.Cursor.{Cursor}
-use Rattle.walk.specs.declared.Front.{Front}
-use Rattle.walk.specs.declared.Levels.{Levels}
-use Rattle.walk.specs.Walk.{rest, Good, Skims, four, layered, AllFormed, Abreast, rests, upper_of}
-use Rattle.walk.proofs.Rest.{head_of, alive_of, rest_end, taken_hit, taken_other, least_of_lem, shrinks, shrinks_hit}
+use Rattle.walk.specs.Walk.{head_of, rest, Good, Skims, layered, AllFormed, upper_of}
+use Rattle.walk.proofs.Rest.{alive_of, rest_end, taken_hit, taken_other, least_of_lem, shrinks, shrinks_hit}
+use Rattle.walk.proofs.Between.{overlay_before}
 
--- k is the next key of one of the four, and above none
-pub record LeastOf (f : Front) (k : ℕ) : Type 0 where
-  pub low0 : k ≤ f.c0.key
-  pub low1 : k ≤ f.c1.key
-  pub low2 : k ≤ f.c2.key
-  pub low3 : k ≤ f.c3.key
-  pub hit : (f.c0.key ≡ k → ⊥) → (f.c1.key ≡ k → ⊥) → (f.c2.key ≡ k → ⊥) → f.c3.key ≡ k
+-- what holds of each of a list holds of the first and of those after it
+module _ {X : Type 0} (P : X → Type 0) (x : X) (xs : List X) (a : All P (x ∷ xs)) where
+  pub all_head : P x
+  all_head = a 0 x (omega arith)
 
--- what is left of four levels without the records of key k
-abbrev pub pasts : ℕ → List ℕ → Levels → Front → List Rec
-pasts k ws l f = four (past k (rest ws l.d0 f.c0)) (past k (rest ws l.d1 f.c1)) (past k (rest ws l.d2 f.c2)) (past k (rest ws l.d3 f.c3))
+  pub all_tail : All P xs
+  all_tail = λ i d h. a (suc i) d (omega arith)
+
+-- a list of four, element by element
+pub four_items : {X : Type 0} (xs : List X) (d : X) → length xs ≡ 4 → xs ≡ get_or xs 0 d ∷ get_or xs 1 d ∷ get_or xs 2 d ∷ get_or xs 3 d ∷ []
+four_items [] d h = absurd (omega arith)
+four_items (a ∷ []) d h = absurd (omega arith)
+four_items (a ∷ b ∷ []) d h = absurd (omega arith)
+four_items (a ∷ b ∷ c ∷ []) d h = absurd (omega arith)
+four_items (a ∷ b ∷ c ∷ e ∷ []) d h = refl
+four_items (a ∷ b ∷ c ∷ e ∷ f ∷ xs) d h = absurd (omega arith)
+
+-- k is above no next key, and it is no next key
+abbrev pub Low : ℕ → List Cursor → Type 0
+Low k [] = Unit {0}
+Low k (u ∷ us) = (k ≤ u.key) × Low k us
+
+abbrev pub Misses : ℕ → List Cursor → Type 0
+Misses k [] = Unit {0}
+Misses k (u ∷ us) = (u.key ≡ k → ⊥) × Misses k us
+
+pub low_under : (k b : ℕ) (us : List Cursor) → k ≤ b → Low b us → Low k us
+low_under k b [] h l = tt
+low_under k b (u ∷ us) h l = (omega (arith, l.0), low_under k b us h l.1)
+
+-- k is the next key of one of the cursors, and above none
+pub record LeastOf (us : List Cursor) (c : Cursor) (k : ℕ) : Type 0 where
+  pub low : Low k us
+  pub low_last : k ≤ c.key
+  pub hit : Misses k us → c.key ≡ k
+
+-- what is left of levels, the last one last
+abbrev pub lefts : List ℕ → List Cursor → Cursor → List (List Rec)
+lefts ws us c = map (rest ws) us ++ (rest ws c ∷ [])
+
+-- the uppermost cursor with key k is the first, or one of the others
+module _ (k : ℕ) (u : Cursor) (us : List Cursor) (c : Cursor) where
+  upper_case : (b : Bool) → eqb u.key k ≡ b → upper_of k (u ∷ us) c ≡ unwrap_or (option_map (λ (v : Cursor). v.chunk) (cond b (Some u) (find (λ (v : Cursor). eqb v.key k) us))) c.chunk
+  upper_case b e = ap (λ (t : Bool). unwrap_or (option_map (λ (v : Cursor). v.chunk) (cond t (Some u) (find (λ (v : Cursor). eqb v.key k) us))) c.chunk) e
+
+  upper_here : u.key ≡ k → upper_of k (u ∷ us) c ≡ u.chunk
+  upper_here e = upper_case true (eq-eqb _ _ e)
+
+  upper_other : (u.key ≡ k → ⊥) → upper_of k (u ∷ us) c ≡ upper_of k us c
+  upper_other n = upper_case false (ne_eqb _ _ n)
 
 -- the records that are left, with those that decide nothing
-abbrev pub load : List Rec → List Rec → List Rec → List Rec → ℕ
-load a b c d = length a + (length b + (length c + length d))
+abbrev pub load : List (List Rec) → ℕ
+load [] = 0
+load (x ∷ xs) = length x + load xs
 
 -- laid over each other they are no more
-pub four_length : (a b c d : List Rec) → length (four a b c d) ≤ load a b c d
-four_length a b c d =
-    let x = overlay_length a (overlay b (overlay c d)) in
-    let y = overlay_length b (overlay c d) in
-    let z = overlay_length c d in
-    omega arith
+pub view_length : (xs : List (List Rec)) → length (view xs) ≤ load xs
+unfolding view
+view_length [] = omega arith
+view_length (x ∷ xs) = omega (arith, overlay_length x (view xs), view_length xs)
 
-module _ (ws : List ℕ) (l : Levels) (f : Front) (g : Abreast ws l f) where
+module _ (ws : List ℕ) (c : Cursor) (g : Good ws c) where
   -- a bound of the next keys is one of what is left
-  pub rests_least : (k : ℕ) → k ≤ f.c0.key → k ≤ f.c1.key → k ≤ f.c2.key → k ≤ f.c3.key → Least k (rests ws l f)
-  rests_least k h0 h1 h2 h3 =
-      let l0 = least_of_lem ws l.d0 f.c0 g.good0 k h0 in
-      let l1 = least_of_lem ws l.d1 f.c1 g.good1 k h1 in
-      let l2 = least_of_lem ws l.d2 f.c2 g.good2 k h2 in
-      let l3 = least_of_lem ws l.d3 f.c3 g.good3 k h3 in
-      let z = peel k (rest ws l.d2 f.c2) (rest ws l.d3 f.c3) l2 l3 in
-      let y = peel k (rest ws l.d1 f.c1) (overlay (rest ws l.d2 f.c2) (rest ws l.d3 f.c3)) l1 z.least in
-      (peel k (rest ws l.d0 f.c0) (overlay (rest ws l.d1 f.c1) (overlay (rest ws l.d2 f.c2) (rest ws l.d3 f.c3))) l0 y.least).least
+  pub rests_least : (us : List Cursor) → All (Good ws) us → (k : ℕ) → Low k us → k ≤ c.key → Least k (view (lefts ws us c))
+  unfolding view
+  rests_least [] a k l h = rw (overlay_nil (rest ws c)) (least_of_lem ws c g k h)
+  rests_least (u ∷ us) a k l h =
+      (peel k (rest ws u) (view (lefts ws us c)) (least_of_lem ws u (all_head (Good ws) u us a) k l.0) (rests_least us (all_tail (Good ws) u us a) k l.1 h)).least
 
   -- where every level is used up, nothing is left
-  pub rests_end : 4294967296 ≤ f.c0.key → 4294967296 ≤ f.c1.key → 4294967296 ≤ f.c2.key → 4294967296 ≤ f.c3.key → rests ws l f ≡ []
-  unfolding overlay
-  rests_end h0 h1 h2 h3 = rw (rest_end ws l.d0 f.c0 g.good0 h0, rest_end ws l.d1 f.c1 g.good1 h1, rest_end ws l.d2 f.c2 g.good2 h2, rest_end ws l.d3 f.c3 g.good3 h3)
+  pub rests_end : (us : List Cursor) → All (Good ws) us → Low 4294967296 us → 4294967296 ≤ c.key → view (lefts ws us c) ≡ []
+  unfolding view overlay
+  rests_end [] a l h = rw (rest_end ws c g h)
+  rests_end (u ∷ us) a l h = rw (rest_end ws u (all_head (Good ws) u us a) l.0, rests_end us (all_tail (Good ws) u us a) l.1 h)
 
-  module _ (k : ℕ) (m : LeastOf f k) (h : k < 4294967296) where
-    -- the record that decides for k
-    decides_is : or_list (taken k (rest ws l.d0 f.c0)) (or_list (taken k (rest ws l.d1 f.c1)) (or_list (taken k (rest ws l.d2 f.c2)) (taken k (rest ws l.d3 f.c3)))) ≡ head_of ws (upper_of f.c0 f.c1 f.c2 f.c3 k) ∷ []
-    unfolding upper_of
-    decides_is = go (ℕ_discrete f.c0.key k) (ℕ_discrete f.c1.key k) (ℕ_discrete f.c2.key k)
-      where
-        go : Dec (f.c0.key ≡ k) → Dec (f.c1.key ≡ k) → Dec (f.c2.key ≡ k) → or_list (taken k (rest ws l.d0 f.c0)) (or_list (taken k (rest ws l.d1 f.c1)) (or_list (taken k (rest ws l.d2 f.c2)) (taken k (rest ws l.d3 f.c3)))) ≡ head_of ws (upper_of f.c0 f.c1 f.c2 f.c3 k) ∷ []
-        go (yes a) b c = rw (taken_hit ws l.d0 f.c0 g.good0 k a h, eq-eqb _ _ a)
-        go (no a) (yes b) c = rw (taken_other ws l.d0 f.c0 g.good0 k a, ne_eqb _ _ a, taken_hit ws l.d1 f.c1 g.good1 k b h, eq-eqb _ _ b)
-        go (no a) (no b) (yes c) = rw (taken_other ws l.d0 f.c0 g.good0 k a, ne_eqb _ _ a, taken_other ws l.d1 f.c1 g.good1 k b, ne_eqb _ _ b, taken_hit ws l.d2 f.c2 g.good2 k c h, eq-eqb _ _ c)
-        go (no a) (no b) (no c) = rw (taken_other ws l.d0 f.c0 g.good0 k a, ne_eqb _ _ a, taken_other ws l.d1 f.c1 g.good1 k b, ne_eqb _ _ b, taken_other ws l.d2 f.c2 g.good2 k c, ne_eqb _ _ c, taken_hit ws l.d3 f.c3 g.good3 k (m.hit a b c) h)
+  module _ (k : ℕ) (b : k ≤ c.key) where
+    -- without the records of key k
+    pasts_are : (us : List Cursor) → All (Good ws) us → Low k us → past k (view (lefts ws us c)) ≡ view (map (past k) (lefts ws us c))
+    unfolding view
+    pasts_are [] a l = rw (overlay_nil (rest ws c), overlay_nil (past k (rest ws c)))
+    pasts_are (u ∷ us) a l =
+        let t = all_tail (Good ws) u us a in
+        (peel k (rest ws u) (view (lefts ws us c)) (least_of_lem ws u (all_head (Good ws) u us a) k l.0) (rests_least us t k l.1 b)).pasts ∙ ap (overlay (past k (rest ws u))) (pasts_are us t l.1)
 
-    -- it lies in the words, and has the key k
-    upper_in : ((upper_of f.c0 f.c1 f.c2 f.c3 k).pays < length ws) × (word ws (upper_of f.c0 f.c1 f.c2 f.c3 k).keys ≡ k)
-    unfolding upper_of
-    upper_in = go (ℕ_discrete f.c0.key k) (ℕ_discrete f.c1.key k) (ℕ_discrete f.c2.key k)
-      where
-        one : (d : Directory) (c : Cursor) → Good ws d c → c.key ≡ k → (c.chunk.pays < length ws) × (word ws c.chunk.keys ≡ k)
-        one d c i e = let a = alive_of ws d c i e h in let p = i.pays_in in (omega arith, sym (i.alive a).0 ∙ e)
+    module _ (h : k < 4294967296) where
+      -- the record that decides for k
+      decides_is : (us : List Cursor) → All (Good ws) us → Low k us → (Misses k us → c.key ≡ k) → taken k (view (lefts ws us c)) ≡ head_of ws (upper_of k us c) ∷ []
+      unfolding view
+      decides_is [] a l m = rw (overlay_nil (rest ws c)) (taken_hit ws c g k (m tt) h)
+      decides_is (u ∷ us) a l m = (peel k (rest ws u) (view (lefts ws us c)) (least_of_lem ws u i k l.0) (rests_least us t k l.1 b)).takens ∙ go (ℕ_discrete u.key k) (λ n. decides_is us t l.1 (λ z. m (n, z)))
+        where
+          i : Good ws u
+          i = all_head (Good ws) u us a
 
-        go : Dec (f.c0.key ≡ k) → Dec (f.c1.key ≡ k) → Dec (f.c2.key ≡ k) → ((upper_of f.c0 f.c1 f.c2 f.c3 k).pays < length ws) × (word ws (upper_of f.c0 f.c1 f.c2 f.c3 k).keys ≡ k)
-        go (yes a) b c = rw (eq-eqb _ _ a) (one l.d0 f.c0 g.good0 a)
-        go (no a) (yes b) c = rw (ne_eqb _ _ a, eq-eqb _ _ b) (one l.d1 f.c1 g.good1 b)
-        go (no a) (no b) (yes c) = rw (ne_eqb _ _ a, ne_eqb _ _ b, eq-eqb _ _ c) (one l.d2 f.c2 g.good2 c)
-        go (no a) (no b) (no c) = rw (ne_eqb _ _ a, ne_eqb _ _ b, ne_eqb _ _ c) (one l.d3 f.c3 g.good3 (m.hit a b c))
+          t : All (Good ws) us
+          t = all_tail (Good ws) u us a
 
-    -- a turn of the walk, for the code's answer r
-    module _ (r : Chunk) (e : r ≡ upper_of f.c0 f.c1 f.c2 f.c3 k) where
+          go : Dec (u.key ≡ k) → ((u.key ≡ k → ⊥) → taken k (view (lefts ws us c)) ≡ head_of ws (upper_of k us c) ∷ []) → or_list (taken k (rest ws u)) (taken k (view (lefts ws us c))) ≡ head_of ws (upper_of k (u ∷ us) c) ∷ []
+          go (yes e) r = rw (taken_hit ws u i k e h, upper_here k u us c e)
+          go (no n) r = rw (taken_other ws u i k n, upper_other k u us c n) (r n)
+
+      -- it lies in the words, and has the key k
+      upper_in : (us : List Cursor) → All (Good ws) us → (Misses k us → c.key ≡ k) → ((upper_of k us c).pays < length ws) × (word ws (upper_of k us c).keys ≡ k)
+      upper_in [] a m = one c g (m tt)
+        where
+          one : (e : Cursor) → Good ws e → e.key ≡ k → (e.chunk.pays < length ws) × (word ws e.chunk.keys ≡ k)
+          one e i q = let a = alive_of ws e i q h in let p = i.pays_in in (omega arith, sym (i.alive a).0 ∙ q)
+      upper_in (u ∷ us) a m = go (ℕ_discrete u.key k) (λ n. upper_in us (all_tail (Good ws) u us a) (λ z. m (n, z)))
+        where
+          go : Dec (u.key ≡ k) → ((u.key ≡ k → ⊥) → ((upper_of k us c).pays < length ws) × (word ws (upper_of k us c).keys ≡ k)) → ((upper_of k (u ∷ us) c).pays < length ws) × (word ws (upper_of k (u ∷ us) c).keys ≡ k)
+          go (yes e) r = let i = all_head (Good ws) u us a in let y = alive_of ws u i e h in let p = i.pays_in in rw (upper_here k u us c e) (omega arith, sym (i.alive y).0 ∙ e)
+          go (no n) r = rw (upper_other k u us c n) (r n)
+
+      -- a turn leaves fewer records
+      less_of : (us : List Cursor) → All (Good ws) us → (Misses k us → c.key ≡ k) → load (map (past k) (lefts ws us c)) < load (lefts ws us c)
+      less_of [] a m = omega (arith, shrinks_hit ws c g k (m tt) h)
+      less_of (u ∷ us) a m = go (ℕ_discrete u.key k) (λ n. less_of us (all_tail (Good ws) u us a) (λ z. m (n, z)))
+        where
+          i : Good ws u
+          i = all_head (Good ws) u us a
+
+          no_more : (vs : List Cursor) → All (Good ws) vs → load (map (past k) (lefts ws vs c)) ≤ load (lefts ws vs c)
+          no_more [] b = omega (arith, shrinks ws c g k)
+          no_more (v ∷ vs) b = omega (arith, shrinks ws v (all_head (Good ws) v vs b) k, no_more vs (all_tail (Good ws) v vs b))
+
+          go : Dec (u.key ≡ k) → ((u.key ≡ k → ⊥) → load (map (past k) (lefts ws us c)) < load (lefts ws us c)) → load (map (past k) (lefts ws (u ∷ us) c)) < load (lefts ws (u ∷ us) c)
+          go (yes e) r = omega (arith, shrinks_hit ws u i k e h, no_more us (all_tail (Good ws) u us a))
+          go (no n) r = omega (arith, shrinks ws u i k, r n)
+
+  -- a turn of the walk, for the code's answer r
+  module _ (us : List Cursor) (a : All (Good ws) us) (k : ℕ) (m : LeastOf us c k) (h : k < 4294967296) where
+    pub walk_less : load (map (past k) (lefts ws us c)) < load (lefts ws us c)
+    walk_less = less_of k m.low_last h us a m.hit
+
+    module _ (r : Chunk) (e : r ≡ upper_of k us c) where
       pub upper_pay_in : r.pays < length ws
-      upper_pay_in = rw e upper_in.0
+      upper_pay_in = rw e (upper_in k m.low_last h us a m.hit).0
 
-      pub turn : rests ws l f ≡ record { key = k; tombstone = eqb (r.marks % 2) 1; pay = word ws r.pays } ∷ pasts k ws l f
+      pub turn : view (lefts ws us c) ≡ record { key = k; tombstone = eqb (r.marks % 2) 1; pay = word ws r.pays } ∷ view (map (past k) (lefts ws us c))
       turn =
-          overlay_cut k (rest ws l.d0 f.c0) (rest ws l.d1 f.c1) (rest ws l.d2 f.c2) (rest ws l.d3 f.c3) (least_of_lem ws l.d0 f.c0 g.good0 k m.low0) (least_of_lem ws l.d1 f.c1 g.good1 k m.low1) (least_of_lem ws l.d2 f.c2 g.good2 k m.low2) (least_of_lem ws l.d3 f.c3 g.good3 k m.low3)
-          ∙ rw (decides_is, ← e, rw (← e) at upper_in.1)
+          taken_past k (view (lefts ws us c))
+          ∙ rw (decides_is k m.low_last h us a m.low m.hit, pasts_are k m.low_last us a m.low, ← e, rw (← e) at (upper_in k m.low_last h us a m.hit).1)
 
-    -- a turn leaves fewer records
-    pub walk_less : load (past k (rest ws l.d0 f.c0)) (past k (rest ws l.d1 f.c1)) (past k (rest ws l.d2 f.c2)) (past k (rest ws l.d3 f.c3)) < load (rest ws l.d0 f.c0) (rest ws l.d1 f.c1) (rest ws l.d2 f.c2) (rest ws l.d3 f.c3)
-    walk_less =
-        let s0 = shrinks ws l.d0 f.c0 g.good0 k in
-        let s1 = shrinks ws l.d1 f.c1 g.good1 k in
-        let s2 = shrinks ws l.d2 f.c2 g.good2 k in
-        let s3 = shrinks ws l.d3 f.c3 g.good3 k in
-        dite (ℕ_discrete f.c0.key k) (λ a. let t = shrinks_hit ws l.d0 f.c0 g.good0 k a h in omega arith)
-        (λ a. dite (ℕ_discrete f.c1.key k) (λ b. let t = shrinks_hit ws l.d1 f.c1 g.good1 k b h in omega arith)
-        (λ b. dite (ℕ_discrete f.c2.key k) (λ c. let t = shrinks_hit ws l.d2 f.c2 g.good2 k c h in omega arith)
-        (λ c. let t = shrinks_hit ws l.d3 f.c3 g.good3 k (m.hit a b c) h in omega arith)))
+  -- the records that the last level has gone past stand before all that is left
+  pub rests_pass : (us : List Cursor) → All (Good ws) us → (b : ℕ) → Low b us → (after : Cursor) (live : ℕ) → (k : Skims ws c b after live) → view (lefts ws us c) ≡ k.between ++ view (lefts ws us after)
+  unfolding view
+  rests_pass [] a b l after live k = rw (overlay_nil (rest ws c), overlay_nil (rest ws after)) k.joined
+  rests_pass (u ∷ us) a b l after live k =
+      ap (overlay (rest ws u)) (rests_pass us (all_tail (Good ws) u us a) b l.1 after live k)
+      ∙ overlay_before b (rest ws u) k.between (view (lefts ws us after)) (least_of_lem ws u (all_head (Good ws) u us a) b l.0) k.below
 
 chunks_length : (ws : List ℕ) (d : Directory) → Formed d ws → (i n : ℕ) → i + n ≤ d.chunks → length (records_from ws d i n) ≤ n * d.width
 unfolding records_from
@@ -131,18 +194,21 @@ level_length : (ws : List ℕ) (d : Directory) → Formed d ws → length (recor
 level_length ws d f = le_trans (chunks_length ws d f 0 d.chunks (omega arith)) (mul-le-mul f.within.chunks_high f.within.width_high)
 
 -- so is what lies between two cursors of a level
-pub skims_few : (ws : List ℕ) (d : Directory) (c : Cursor) (bound : ℕ) (after : Cursor) (live : ℕ) → Good ws d c → Skims ws d c bound after live → live ≤ 416384
+pub skims_few : (ws : List ℕ) (c : Cursor) (bound : ℕ) (after : Cursor) (live : ℕ) → Good ws c → Skims ws c bound after live → live ≤ 416384
 unfolding rest
-skims_few ws d c bound after live g k =
-    let a = ap (λ (rs : List Rec). length rs) k.joined ∙ length-append k.between (rest ws d after) in
-    let b = length-append (chunk_recs ws c.chunk) (records_from ws d c.next (d.chunks - c.next)) in
+skims_few ws c bound after live g k =
+    let a = ap (λ (rs : List Rec). length rs) k.joined ∙ length-append k.between (rest ws after) in
+    let b = length-append (chunk_recs ws c.chunk) (records_from ws c.dir c.next (c.dir.chunks - c.next)) in
     let e = slots_length ws c.chunk.marks c.chunk.keys c.chunk.pays c.chunk.count in
-    let f = chunks_length ws d g.formed c.next (d.chunks - c.next) (omega (arith, g.low)) in
-    let h : d.chunks - c.next ≤ 1024 = omega (arith, g.formed.within.chunks_high) in
+    let f = chunks_length ws c.dir g.formed c.next (c.dir.chunks - c.next) (omega (arith, g.low)) in
+    let h : c.dir.chunks - c.next ≤ 1024 = omega (arith, g.formed.within.chunks_high) in
     let m = mul-le-mul h g.formed.within.width_high in
     omega (arith, k.counted, kept_length true k.between, g.keys_in, g.formed.within.short)
 
 -- what four levels show is far below the largest number
-pub layered_few : (ws : List ℕ) (l : Levels) → AllFormed ws l → length (layered ws l) ≤ 65536
-layered_few ws l a =
-    omega (arith, four_length (records_of ws l.d0) (records_of ws l.d1) (records_of ws l.d2) (records_of ws l.d3), level_length ws l.d0 a.formed0, level_length ws l.d1 a.formed1, level_length ws l.d2 a.formed2, level_length ws l.d3 a.formed3)
+levels_load : (ws : List ℕ) (ds : List Directory) → AllFormed ws ds → load (map (records_of ws) ds) ≤ 16384 * length ds
+levels_load ws [] a = omega arith
+levels_load ws (d ∷ ds) a = omega (arith, level_length ws d (all_head (λ (d : Directory). Formed d ws) d ds a), levels_load ws ds (all_tail (λ (d : Directory). Formed d ws) d ds a))
+
+pub layered_few : (ws : List ℕ) (ds : List Directory) → length ds ≡ 4 → AllFormed ws ds → length (layered ws ds) ≤ 65536
+layered_few ws ds h a = omega (arith, view_length (map (records_of ws) ds), levels_load ws ds a)

@@ -5,4 +5,5 @@ pub mod Four
 pub mod From
 pub mod Nearest
 pub mod Walking
+pub mod Stepping
 pub mod Ends

@@ -4,8 +4,8 @@ use mathlib.Core.Path.{◌≡◌, refl, sym, ap, ◌∙◌}
 use mathlib.Core.Bool.{Bool, true, false}
 use mathlib.Core.List.{List, [], ◌∷◌, ◌++◌, map, append-nil, append_assoc, map-append}
 use mathlib.Core.Logic.{dite}
-use native.Mathlib.Decide.{dec_lt, ℕ_discrete}
-use native.Mathlib.Nat.{min-le_left, min-le_right, le-min, le_antisymm}
+use native.Mathlib.Decide.{dec_lt}
+use native.Mathlib.Nat.{min-le_left, min-le_right, le-min}
 use native.Mathlib.Omega.{arith}
 use lib.Dec.{ltb}
 use lib.ListN.{length, take, drop, set, get_or, length-append, length-map, length-drop, length-take, length-set}
@@ -16,11 +16,7 @@ use Rattle.levels.specs.Record.{Rec}
 use Rattle.levels.specs.Map.{unmarked}
 use Rattle.levels.proofs.View.{unmarked_drop, unmarked_keep}
 use Rattle.words.specs.Calls.{over}
-use Rattle.walk.specs.Walk.{Smaller, Written, kept_of, entered}
-
--- the smaller of two numbers
-pub smaller_min : (a b r : ℕ) → Smaller a b r → r ≡ min a b
-smaller_min a b r s = le_antisymm (le-min s.low0 s.low1) (dite (ℕ_discrete a r) (λ e. omega (arith, min-le_left a b)) (λ n. let e = s.hit n in omega (arith, min-le_right a b)))
+use Rattle.walk.specs.Walk.{Written, kept_of, entered}
 
 -- an entry that there is no room for, and one that there is
 entered_full : (t : Bool) (room n x : ℕ) (xs : List ℕ) → room ≤ n → entered t room n x xs ≡ xs

@@ -1,48 +1,48 @@
--- Within a turn of a walk: the last of four levels has gone past the records below the others' next keys, and the least key is known.
-use Prim.Native.Nat.{ℕ, ◌≤◌, ◌<◌}
-use mathlib.Core.Path.{◌≡◌, ◌∙◌}
-use mathlib.Core.List.{List, ◌++◌}
+-- Within a turn of a walk: the last level has gone past the records below the others' next keys, and the least key is known.
+use Prim.Native.Nat.{ℕ, ◌≤◌, ◌<◌, min}
+use mathlib.Core.Path.{◌≡◌, refl, sym, ◌∙◌}
+use mathlib.Core.List.{List, [], ◌∷◌}
 use mathlib.Core.Logic.{dite}
-use native.Mathlib.Decide.{ℕ_discrete}
+use native.Mathlib.Decide.{dec_lt}
+use native.Mathlib.Nat.{min-le_left, min-le_right, min-eq_left, min-eq_right}
 use native.Mathlib.Omega.{arith}
 use Rattle.walk.specs.declared.Cursor.{Cursor}
-use Rattle.walk.specs.declared.Front.{Front}
-use Rattle.walk.specs.declared.Levels.{Levels}
-use Rattle.walk.specs.Walk.{rest, Skims, Abreast, rests, Smaller}
-use Rattle.walk.proofs.Rest.{least_of_lem}
-use Rattle.walk.proofs.Between.{four_before}
-use Rattle.walk.proofs.Four.{LeastOf}
+use Rattle.walk.specs.Walk.{least_of}
+use Rattle.walk.proofs.Four.{Low, Misses, low_under, LeastOf}
+
+-- the least of `stop` and some next keys is above none of them, and is one of them or `stop`
+pub least_low : (stop : ℕ) (us : List Cursor) → Low (least_of stop us) us × (least_of stop us ≤ stop)
+least_low stop [] = (tt, omega arith)
+least_low stop (u ∷ us) =
+    let i = least_low (min stop u.key) us in
+    ((omega (arith, i.1, min-le_right stop u.key), i.0), omega (arith, i.1, min-le_left stop u.key))
+
+pub least_hit : (stop : ℕ) (us : List Cursor) → Misses (least_of stop us) us → least_of stop us ≡ stop
+least_hit stop [] m = refl
+least_hit stop (u ∷ us) m =
+    let i = least_hit (min stop u.key) us m.1 in
+    dite (dec_lt u.key stop)
+    (λ h. absurd (m.0 (sym (i ∙ min-eq_right (omega arith)))))
+    (λ h. i ∙ min-eq_left (omega arith))
 
 -- k is the least of the next keys, or no next key is below `stop`
-pub record Nearest (f : Front) (stop k : ℕ) : Type 0 where
-  pub least : k < stop → LeastOf f k
-  pub done : stop ≤ k → (stop ≤ f.c0.key) × ((stop ≤ f.c1.key) × ((stop ≤ f.c2.key) × (stop ≤ f.c3.key)))
+pub record Nearest (us : List Cursor) (c : Cursor) (stop k : ℕ) : Type 0 where
+  pub least : k < stop → LeastOf us c k
+  pub done : stop ≤ k → Low stop us × (stop ≤ c.key)
 
 -- by the numbers that the code compares
-pub nearest_of : (f : Front) (x y bound stop k : ℕ) → Smaller f.c0.key f.c1.key x → Smaller x f.c2.key y → Smaller y stop bound → Smaller bound f.c3.key k → Nearest f stop k
-nearest_of f x y bound stop k s0 s1 s2 s3 =
+pub nearest_of : (us : List Cursor) (c : Cursor) (stop k : ℕ) → k ≡ min (least_of stop us) c.key → Nearest us c stop k
+nearest_of us c stop k e =
+    let b = least_low stop us in
+    let l : k ≤ least_of stop us = omega (arith, min-le_left (least_of stop us) c.key) in
+    let r : k ≤ c.key = omega (arith, min-le_right (least_of stop us) c.key) in
     record {
-      least = λ h.
-          record {
-            low0 = omega (arith, s0.low0, s1.low0, s2.low0, s3.low0);
-            low1 = omega (arith, s0.low1, s1.low0, s2.low0, s3.low0);
-            low2 = omega (arith, s1.low1, s2.low0, s3.low0);
-            low3 = s3.low1;
-            hit = λ na nb nc. s3.hit (λ e. absurd (no_bound h na nb nc e));
-          };
-      done = λ h. (omega (arith, s0.low0, s1.low0, s2.low0, s3.low0), (omega (arith, s0.low1, s1.low0, s2.low0, s3.low0), (omega (arith, s1.low1, s2.low0, s3.low0), omega (arith, s3.low1))));
+      least = λ h. record { low = low_under k (least_of stop us) us l b.0; low_last = r; hit = λ m. hit_last h m };
+      done = λ h. (low_under stop (least_of stop us) us (omega arith) b.0, omega arith);
     }
   where
-    no_bound : k < stop → (f.c0.key ≡ k → ⊥) → (f.c1.key ≡ k → ⊥) → (f.c2.key ≡ k → ⊥) → bound ≡ k → ⊥
-    no_bound h na nb nc e =
-        dite (ℕ_discrete y bound)
-        (λ u. nc (s1.hit (λ v. nb (s0.hit (λ z. na (z ∙ v ∙ u ∙ e)) ∙ v ∙ u ∙ e)) ∙ u ∙ e))
-        (λ u. let z = s2.hit u in omega arith)
-
--- the records that the last level has gone past stand before all that is left
-pub rests_pass : (ws : List ℕ) (l : Levels) (f : Front) → Abreast ws l f → (bound : ℕ) → bound ≤ f.c0.key → bound ≤ f.c1.key → bound ≤ f.c2.key → (c3 : Cursor) (live : ℕ) → (k : Skims ws l.d3 f.c3 bound c3 live)
-    → rests ws l f ≡ k.between ++ rests ws l (record { c0 = f.c0; c1 = f.c1; c2 = f.c2; c3 = c3 })
-rests_pass ws l f g bound b0 b1 b2 c3 live k =
-    rw k.joined
-    (four_before bound (rest ws l.d0 f.c0) (rest ws l.d1 f.c1) (rest ws l.d2 f.c2) k.between (rest ws l.d3 c3)
-    (least_of_lem ws l.d0 f.c0 g.good0 bound b0) (least_of_lem ws l.d1 f.c1 g.good1 bound b1) (least_of_lem ws l.d2 f.c2 g.good2 bound b2) k.below)
+    hit_last : k < stop → Misses k us → c.key ≡ k
+    hit_last h m =
+        dite (dec_lt (least_of stop us) c.key)
+        (λ y. let z = e ∙ min-eq_left (omega arith) in let q = least_hit stop us (rw (← z) m) in absurd (omega arith))
+        (λ n. sym (e ∙ min-eq_right (omega arith)))

@@ -1,12 +1,9 @@
 use Rattle.std.proofs.Common.{rules, ◌<◌, ◌≤◌, sym, ◌∙◌}
-use Rattle.chunks.proofs.Slots.{clean_zero, clean_start, clean_next, clean_end}
+use Rattle.chunks.proofs.Slots.{clean_zero, clean_next, clean_end}
 use Rattle.chunks.proofs.clean.Goals as goal
 
 pub returns-then-marks-eq0 : goal.returns-then-marks-eq0
 returns-then-marks-eq0 c = rw c.if-marks-eq0.true (sym (clean_zero _ _ _))
-
-pub loop-pay-init : goal.loop-pay-init
-loop-pay-init c = (search rules, clean_start _ _ _ _)
 
 pub loop-pay-preserved : goal.loop-pay-preserved
 loop-pay-preserved c =

@@ -1,10 +1,7 @@
-use Rattle.std.proofs.Common.{rules, ◌<◌, [], ◌++◌, length, refl, sym, ap, ◌∙◌, arith}
+use Rattle.std.proofs.Common.{◌<◌, ◌++◌, length, sym, ap, ◌∙◌, arith}
 use Rattle.std.proofs.lemmas.List.{length-append, append_assoc}
 use Rattle.chunks.proofs.Slots.{keys_rise, rise_keys, pair_low, pair_second, pair_on, pairs_left, tail_none, tail_low, tail_on}
 use Rattle.chunks.proofs.rise_plain.Goals as goal
-
-pub loop-pair-init : goal.loop-pair-init
-loop-pair-init c = (search rules, search rules, ([], search rules, refl))
 
 pub returns-then-key-least : goal.returns-then-key-least
 returns-then-key-least c =

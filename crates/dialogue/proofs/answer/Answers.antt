@@ -1,10 +1,11 @@
 use native.Mathlib.Omega.{arith}
+use Rattle.lines.proofs.Print.{format_is, unreadable_is, printed_as}
 use Rattle.dialogue.proofs.Replies.{line_fits, room_fits, part_room_lem, change_replied, get_replied, unreadable_replied, refused_replied, format_replied}
 use borrow.Author.Rules.{rules}
 use Rattle.dialogue.proofs.answer.Goals as goal
 
-pub print_format-requires : goal.print_format-requires
-print_format-requires c = omega (arith, c.requires.1.1.1, line_fits c.args.tickets)
+pub print_line-requires : goal.print_line-requires
+print_line-requires c = omega (arith, c.requires.1.1.1, line_fits c.args.tickets)
 
 pub slice_bounds-format-end : goal.slice_bounds-format-end
 slice_bounds-format-end c = omega (arith, (room_fits _ _ _ c.room_for.ensures c.in-Words.is).1.1, c.requires.0)
@@ -21,11 +22,11 @@ say_delete-end-requires c = part_room_lem _ _ _ _ c.requires.1.0 c.requires.1.1.
 pub print_looked-requires : goal.print_looked-requires
 print_looked-requires c = omega (arith, c.requires.1.1.1, line_fits c.args.tickets)
 
-pub print_unreadable-requires : goal.print_unreadable-requires
-print_unreadable-requires c = omega (arith, c.requires.1.1.1, line_fits c.args.tickets)
+pub print_line-requires-in-Unreadable : goal.print_line-requires-in-Unreadable
+print_line-requires-in-Unreadable c = omega (arith, c.requires.1.1.1, line_fits c.args.tickets)
 
 pub returns-in-Refused : goal.returns-in-Refused
-returns-in-Refused c = refused_replied _ _ _ _ _ _ _ c.requires.1.0 c.requires.1.1.0 c.answered.ensures _ _ _ _ _ _ _ _ c.in-Format.is c.room_for.ensures _ _ c.in-Refused.is c.print_format.ensures
+returns-in-Refused c = refused_replied _ _ _ _ _ _ _ c.requires.1.0 c.requires.1.1.0 c.answered.ensures _ _ _ _ _ _ _ _ c.in-Format.is c.room_for.ensures _ _ c.in-Refused.is (printed_as _ _ _ _ _ _ _ (format_is _ _) (omega arith) c.print_line.ensures)
 
 pub returns-in-Words : goal.returns-in-Words
 returns-in-Words c = format_replied _ _ _ _ _ _ _ c.requires.1.0 (room_fits _ _ _ c.room_for.ensures c.in-Words.is).1.1 c.answered-in-Words.ensures _ _ _ _ _ _ _ _ c.in-Format.is c.room_for.ensures c.args.n c.format-f.result _ _ _ c.in-Words.is c.requires.0 c.format-f.ensures c.format-f.auto.s c.print_formatted.ensures
@@ -40,4 +41,4 @@ pub returns-in-Get : goal.returns-in-Get
 returns-in-Get c = get_replied _ _ _ _ _ _ _ c.requires.1.0 c.requires.1.1.0 c.answered-in-Get.ensures _ _ c.requires.0 _ c.look_up-l.result c.in-Get.is c.look_up-l.ensures c.print_looked.ensures
 
 pub returns-in-Unreadable : goal.returns-in-Unreadable
-returns-in-Unreadable c = unreadable_replied _ _ _ _ _ _ _ c.requires.1.0 c.requires.1.1.0 c.answered-in-Unreadable.ensures _ _ c.requires.0 c.in-Unreadable.is c.print_unreadable.ensures
+returns-in-Unreadable c = unreadable_replied _ _ _ _ _ _ _ c.requires.1.0 c.requires.1.1.0 c.answered-in-Unreadable.ensures _ _ c.requires.0 c.in-Unreadable.is (printed_as _ _ _ _ _ _ _ unreadable_is (omega arith) c.print_line-in-Unreadable.ensures)

@@ -1,34 +1,23 @@
-use Prim.Native.Nat.{ℕ, ◌-◌}
-use mathlib.Core.Path.{ap}
-use native.Mathlib.Omega.{arith}
-use lib.ListN.{length, take}
-use borrow.Author.Rules.{rules}
-use Rattle.dialogue.proofs.Tickets.{Shows, shows_none, shows_more, shows_all, shows_end}
+use Rattle.std.proofs.Common.{ℕ, ◌<◌, ap, length, take, length-take, arith}
+use native.Mathlib.Nat.{min-le_right}
+use Rattle.lines.proofs.Print.{printed_as}
+use Rattle.dialogue.proofs.Tickets.{row_four, row_line, shows_none, shows_more, shows_all}
 use Rattle.dialogue.proofs.print_tickets.Goals as goal
 
-pub loop-i-init : goal.loop-i-init
-loop-i-init c = shows_none _ _ _ _ (omega (arith, c.requires))
+pub loop-row-init : goal.loop-row-init
+loop-row-init c = shows_none _ _ _ (omega (arith, c.requires))
 
-pub shape_of-out-then-i-n : goal.shape_of-out-then-i-n
-shape_of-out-then-i-n c = c.loop-i.invariant.long
+pub print_line-end-requires : goal.print_line-end-requires
+print_line-end-requires c =
+    let l = row_four c.args.rows.now c.min.result c.loop-row.row-index c.told-rows c.loop-row-test.true in
+    let s = c.loop-row.invariant in
+    let k : c.loop-row.row-index < length c.args.rows.now = omega (arith, c.loop-row-test.true, length-take c.min.result c.args.rows.now, min-le_right c.min.result (length c.args.rows.now)) in
+    omega (arith, l, k, s.ends, c.loop-row.auto.out, c.requires)
 
-pub returns-then-i-n : goal.returns-then-i-n
-returns-then-i-n c = shows_all _ _ _ _ _ _ _ (ap (λ (k : ℕ). take k c.args.rows.now) c.if-i-n.true) c.loop-i.invariant
-
-pub bounds-rows-i : goal.bounds-rows-i
-bounds-rows-i c = c.loop-i-test.true
-
-pub print_ticket-end-requires : goal.print_ticket-end-requires
-print_ticket-end-requires c = let s = c.loop-i.invariant in omega (arith, s.ends, s.long, c.loop-i-test.true, c.requires)
-
-pub loop-i-smaller : goal.loop-i-smaller
-loop-i-smaller c = omega (arith, c.loop-i-test.true)
-
-pub loop-i-preserved : goal.loop-i-preserved
-loop-i-preserved c = shows_more _ _ _ _ _ _ _ _ _ c.loop-i-test.true c.if-i-n.false c.print_ticket-end.auto.out c.print_ticket-end.ensures c.loop-i.invariant
-
-pub shape_of-out : goal.shape_of-out
-shape_of-out c = c.loop-i.invariant.long
+pub loop-row-preserved : goal.loop-row-preserved
+loop-row-preserved c =
+    let l = row_four c.args.rows.now c.min.result c.loop-row.row-index c.told-rows c.loop-row-test.true in
+    shows_more _ _ _ _ _ _ _ _ c.loop-row-test.true (printed_as _ _ _ _ _ _ _ (row_line _ l) (omega (arith, l)) c.print_line-end.ensures) c.loop-row.invariant
 
 pub returns : goal.returns
-returns c = shows_end _ _ _ _ _ _ _ c.loop-i-test.false c.loop-i.invariant
+returns c = shows_all _ _ _ _ _ _ _ _ (ap (λ (k : ℕ). take k c.args.rows.now) c.min.ensures) (omega arith) c.loop-row.invariant

@@ -47,7 +47,7 @@ loop-i-preserved c =
     let l = c.loop-i in
     let f = sym c.kept.ensures ∙ c.if-not-kept.false in
     let q = kept_count _ _ _ _ f in
-    (omega arith, (q.1, (omega arith, sym (pass_next _ _ _ _ _ _ _ c.loop-i-test.true _ c.chunk_at-chunk.ensures _ f (sym c.rise_over.ensures ∙ c.in-To.is)) ∙ l.invariant.1.1.1)))
+    (omega arith, (q.1, (omega arith, sym (pass_next _ _ _ _ _ _ _ c.loop-i-test.true _ c.chunk_at-chunk.ensures _ f (sym c.rise_over.ensures ∙ c.in-Some.is)) ∙ l.invariant.1.1.1)))
 
 pub returns-then-dir : goal.returns-then-dir
 returns-then-dir c = sym (pass_end_top _ _ _ _ _ _ _ c.loop-i-test.false c.if-dir.true) ∙ c.loop-i.invariant.1.1.1

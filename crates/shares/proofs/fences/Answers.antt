@@ -1,5 +1,5 @@
 use native.Mathlib.Omega.{arith}
-use Prim.Native.Nat.{◌+◌, ◌≤◌}
+use Prim.Native.Nat.{◌+◌, ◌-◌, ◌≤◌}
 use mathlib.Core.Path.{◌≡◌, refl}
 use lib.ListN.{length}
 use Rattle.words.specs.Stores.{word}
@@ -17,7 +17,7 @@ word-k-requires c = let r = c.requires.1.0.room in omega (arith, c.loop-t-test.t
 -- the next first key, where the words say that it starts
 next : (c : After-word-k) → (c.word-k.result + c.args.dir.width ≤ length c.args.s.now) × (word c.args.s.now c.word-k.result ≡ first_at c.args.s.now c.args.dir (c.loop-t.t + 1))
 next c =
-    started_first _ _ _ (c.loop-t.t + 1) _ c.requires.0 c.requires.1.0 c.loop-t-test.true c.word-k.ensures.0
+    started_first _ _ _ (c.loop-t.t + 1) _ c.requires.0 c.requires.1.0 (omega (arith, c.loop-t-test.true)) c.word-k.ensures.0
 
 pub offset_bounds-s-k : goal.offset_bounds-s-k
 offset_bounds-s-k c = omega (arith, (next (goal.at.offset_bounds-s-k c).After-word-k).0, c.requires.0.within.short)
@@ -38,7 +38,10 @@ pass_fence-requires c =
 pub loop-t-preserved : goal.loop-t-preserved
 loop-t-preserved c =
     let l = c.loop-t in
-    (c.pass_fence.ensures.0, passing_step _ _ _ _ _ l.t _ _ _ c.requires.0 l.invariant.1 c.loop-t-test.true (next (goal.at.loop-t-preserved c).After-word-k).1 c.if-last-f.false c.pass_fence.ensures.1)
+    (c.pass_fence.ensures.0, passing_step _ _ _ _ _ l.t _ _ _ c.requires.0 l.invariant.1 (omega (arith, c.loop-t-test.true)) (next (goal.at.loop-t-preserved c).After-word-k).1 c.if-last-f.false c.pass_fence.ensures.1)
 
 pub returns : goal.returns
-returns c = let l = c.loop-t in passing_end _ _ _ _ _ l.t _ l.invariant.1 (λ h. absurd (omega (arith, c.loop-t-test.false)))
+returns c =
+    let l = c.loop-t in
+    let e : l.t ≡ c.args.dir.chunks - 1 = omega (arith, c.loop-t-test.false, l.auto.t-end, c.requires.1.1) in
+    passing_end _ _ _ _ _ _ _ (rw e at l.invariant.1) (λ h. absurd (omega arith))

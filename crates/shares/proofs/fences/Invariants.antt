@@ -5,7 +5,4 @@ use Rattle.shares.proofs.Seating.{Passing}
 use Rattle.shares.proofs.fences.Given as goal
 
 abbrev pub invariant-loop-t : goal.invariant-loop-t
-invariant-loop-t l = (length l.above ≡ 16) × Passing l.s l.dir l.keys l.last l.from l.t l.above
-
-abbrev pub decreases-loop-t : goal.decreases-loop-t
-decreases-loop-t l = l.dir.chunks - l.t
+invariant-loop-t l = (length l.above ≡ 16) × Passing l.s l.fn.dir l.keys l.last l.from l.t l.above

@@ -1,5 +1,4 @@
 use Rattle.std.proofs.Common.{refl, arith}
-use lib.Seq.{take_all}
 use Rattle.slices.specs.Ranks.{count_below}
 use Rattle.slices.proofs.Ranks.{count_more}
 use Rattle.slices.proofs.count_few.Goals as goal
@@ -12,6 +11,3 @@ pub loop-key-preserved : goal.loop-key-preserved
 loop-key-preserved c =
     let l = c.loop-key in
     (omega arith, rw l.invariant.1 (count_more c.args.k l.key-index c.args.keys.now c.loop-key-test.true c.requires (c.type_inv.keys l.key-index).fits))
-
-pub returns : goal.returns
-returns c = rw (take_all c.loop-key.key-index c.args.keys.now c.loop-key-test.false) at c.loop-key.invariant.1

@@ -1,52 +1,40 @@
-use Prim.Native.Nat.{◌+◌}
+use Rattle.std.proofs.Common.{rules}
+use Prim.Native.Nat.{◌+◌, ◌<◌}
 use mathlib.Core.Path.{refl}
+use lib.ListN.{get_or}
 use native.Mathlib.Omega.{arith}
 use Rattle.search.proofs.Laws.{rank_ready}
 use Rattle.walk.proofs.From.{SlotRoom, slot_room, from_slot, from_after, from_none}
 use Rattle.walk.proofs.cursor_from.Goals as goal
-use Rattle.walk.proofs.cursor_from.Goals.{Else-count-slot}
+use Rattle.walk.proofs.cursor_from.Goals.{Else-chunk-slot}
 
 -- what is known where a record of the chunk is not below q
-room : (c : Else-count-slot)
-    → let a = c.args in
-    SlotRoom a.s.now c.chunk_at-chunk.result c.rank_of-at.result.below
-room c =
-    slot_room _ _ c.requires.0 _ _ c.seek_chunk-i.ensures _ c.chunk_at-chunk.ensures _ c.rank_of-at.ensures (omega (arith, c.if-count-slot.false))
+room : (c : Else-chunk-slot) → SlotRoom c.args.s.now c.chunk_at-chunk.result c.count_below-slot.result
+room c = slot_room _ _ c.requires.0 _ _ c.seek_chunk-i.ensures _ c.chunk_at-chunk.ensures _ c.count_below-slot.ensures (omega (arith, c.if-chunk-slot.false))
 
-pub returns-then-n-lt1 : goal.returns-then-n-lt1
-returns-then-n-lt1 c = from_none _ _ _ _ c.if-n-lt1.true c.requires.1 c.refill.ensures.0 c.refill.ensures.1
+pub returns-then-dir-lt1 : goal.returns-then-dir-lt1
+returns-then-dir-lt1 c = from_none _ _ _ _ c.if-dir-lt1.true c.requires.1 c.refill.ensures.0 c.refill.ensures.1
 
-pub rank_of-at-requires : goal.rank_of-at-requires
-rank_of-at-requires c = let p = rank_ready _ _ c.requires.0 _ c.seek_chunk-i.ensures.inside _ c.chunk_at-chunk.ensures in (p.0, (p.1, c.requires.1))
+pub count_below-slot-requires : goal.count_below-slot-requires
+count_below-slot-requires c = let p = rank_ready _ _ c.requires.0 _ c.seek_chunk-i.ensures.inside _ c.chunk_at-chunk.ensures in (p.0, (p.1, c.requires.1))
 
-pub returns-then-count-slot : goal.returns-then-count-slot
-returns-then-count-slot c =
-    from_after _ _ c.requires.0 _ _ c.seek_chunk-i.ensures _ c.chunk_at-chunk.ensures _ c.rank_of-at.ensures _ (omega (arith, c.if-count-slot.true)) c.requires.1 c.refill-then-count-slot.ensures.0 c.refill-then-count-slot.ensures.1
+pub returns-then-chunk-slot : goal.returns-then-chunk-slot
+returns-then-chunk-slot c =
+    from_after _ _ c.requires.0 _ _ c.seek_chunk-i.ensures _ c.chunk_at-chunk.ensures _ c.count_below-slot.ensures _ (omega (arith, c.if-chunk-slot.true)) c.requires.1 c.refill-then-chunk-slot.ensures.0 c.refill-then-chunk-slot.ensures.1
 
-pub overflow_add-keys : goal.overflow_add-keys
-overflow_add-keys c = omega (arith, (room (goal.at.overflow_add-keys c).Else-count-slot).key_in, (room (goal.at.overflow_add-keys c).Else-count-slot).short)
+pub overflow_add-left : goal.overflow_add-left
+overflow_add-left c = let p = room (goal.at.overflow_add-left c).Else-chunk-slot in omega (arith, p.key_in, p.short)
 
-pub offset_bounds-s-keys : goal.offset_bounds-s-keys
-offset_bounds-s-keys c = omega (arith, (room (goal.at.offset_bounds-s-keys c).Else-count-slot).key_in, (room (goal.at.offset_bounds-s-keys c).Else-count-slot).short)
+pub overflow_add-left-2 : goal.overflow_add-left-2
+overflow_add-left-2 c = let p = room (goal.at.overflow_add-left-2 c).Else-chunk-slot in omega (arith, p.pay_in, p.short)
 
-pub bounds-s-keys : goal.bounds-s-keys
-bounds-s-keys c = (room (goal.at.bounds-s-keys c).Else-count-slot).key_in
+pub offset_bounds-s-left : goal.offset_bounds-s-left
+offset_bounds-s-left c = let p = room (goal.at.offset_bounds-s-left c).Else-chunk-slot in omega (arith, p.key_in, p.short)
 
-pub overflow_cast-key : goal.overflow_cast-key
-overflow_cast-key c =
-    omega (arith, c.shared_slice_known-2-1.given (c.chunk_at-chunk.result.keys + c.rank_of-at.result.below))
-
-pub overflow_cast-slot : goal.overflow_cast-slot
-overflow_cast-slot c = omega (arith, (room (goal.at.overflow_cast-slot c).Else-count-slot).low)
-
-pub overflow_shr-marks : goal.overflow_shr-marks
-overflow_shr-marks c = omega (arith, (room (goal.at.overflow_shr-marks c).Else-count-slot).low)
-
-pub overflow_add-chunk : goal.overflow_add-chunk
-overflow_add-chunk c = let p = room (goal.at.overflow_add-chunk c).Else-count-slot in omega (arith, p.key_in, p.pay_in, p.short)
+pub bounds-s-left : goal.bounds-s-left
+bounds-s-left c = (room (goal.at.bounds-s-left c).Else-chunk-slot).key_in
 
 pub returns : goal.returns
 returns c =
-    rw c.cursor_at.ensures
-    (from_slot _ _ c.requires.0 _ _ c.seek_chunk-i.ensures _ c.chunk_at-chunk.ensures _ c.rank_of-at.ensures _ (omega (arith, c.if-count-slot.false)) refl
-    (c.shared_slice_known-2-1.given (c.chunk_at-chunk.result.keys + c.rank_of-at.result.below)).fits)
+    let b : get_or c.args.s.now (c.chunk_at-chunk.result.keys + c.count_below-slot.result) 0 < 4294967296 = search rules in
+    from_slot _ _ c.requires.0 _ _ c.seek_chunk-i.ensures _ c.chunk_at-chunk.ensures _ c.count_below-slot.ensures _ (omega (arith, c.if-chunk-slot.false)) refl b

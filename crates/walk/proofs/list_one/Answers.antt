@@ -1,23 +1,12 @@
-use native.Mathlib.Omega.{arith}
 use mathlib.Core.Path.{refl, sym}
 use Rattle.walk.proofs.Listing.{entered_full_left, entered_full_right, entered_kept}
-use Rattle.walk.proofs.Between.{bit_high}
 use Rattle.walk.proofs.list_one.Goals as goal
-
-pub overflow_add-result : goal.overflow_add-result
-overflow_add-result c = omega (arith, c.requires.1.1.1, bit_high c.args.marks _ c.live_bit-bit.ensures)
 
 pub returns-then-keys-n : goal.returns-then-keys-n
 returns-then-keys-n c = rw c.live_bit-bit.ensures (refl, (sym (entered_full_left _ _ _ _ _ _ c.if-keys-n.true), sym (entered_full_left _ _ _ _ _ _ c.if-keys-n.true)))
 
-pub overflow_add-result-then-pays-n : goal.overflow_add-result-then-pays-n
-overflow_add-result-then-pays-n c = omega (arith, c.requires.1.1.1, bit_high c.args.marks _ c.live_bit-bit.ensures)
-
 pub returns-then-pays-n : goal.returns-then-pays-n
 returns-then-pays-n c = rw c.live_bit-bit.ensures (refl, (sym (entered_full_right _ _ _ _ _ _ c.if-pays-n.true), sym (entered_full_right _ _ _ _ _ _ c.if-pays-n.true)))
-
-pub overflow_add-result-2 : goal.overflow_add-result-2
-overflow_add-result-2 c = omega (arith, c.requires.1.1.1, bit_high c.args.marks _ c.live_bit-bit.ensures)
 
 pub returns : goal.returns
 returns c =

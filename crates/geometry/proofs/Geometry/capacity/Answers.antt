@@ -1,10 +1,7 @@
 use native.Mathlib.Omega.{arith}
 use Rattle.geometry.specs.Geometry.{capacity_of}
-use Rattle.geometry.proofs.Bounds.{wd_high, capacity_high}
+use Rattle.geometry.proofs.Bounds.{capacity_high}
 use Rattle.geometry.proofs.Geometry.capacity.Goals as goal
-
-pub overflow_mul-result : goal.overflow_mul-result
-overflow_mul-result c = omega (arith, wd_high _ c.requires.0)
 
 pub overflow_mul-result-2 : goal.overflow_mul-result-2
 unfolding capacity_of

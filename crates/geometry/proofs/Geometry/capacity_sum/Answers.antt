@@ -1,6 +1,6 @@
 use native.Mathlib.Omega.{arith}
 use native.Mathlib.Numerals.{add-one}
-use mathlib.Core.Path.{◌≡◌, refl, ap, ◌∙◌}
+use mathlib.Core.Path.{refl}
 use Prim.Native.Nat.{◌+◌}
 use Rattle.geometry.specs.Geometry.{capacity_sum}
 use Rattle.geometry.proofs.Bounds.{capacity_high, capacity_sum_high}
@@ -9,9 +9,6 @@ use Rattle.geometry.proofs.Geometry.capacity_sum.Goals as goal
 pub loop-i-init : goal.loop-i-init
 unfolding capacity_sum
 loop-i-init c = (omega arith, refl)
-
-pub capacity-sum-requires : goal.capacity-sum-requires
-capacity-sum-requires c = (c.requires.0, omega arith)
 
 pub overflow_add-sum : goal.overflow_add-sum
 overflow_add-sum c =
@@ -22,6 +19,3 @@ overflow_add-sum c =
 pub loop-i-preserved : goal.loop-i-preserved
 unfolding capacity_sum
 loop-i-preserved c = (omega arith, rw (add-one, c.capacity-sum.ensures, c.loop-i.invariant.1))
-
-pub returns : goal.returns
-returns c = let e : c.loop-i.i ≡ c.args.n = omega arith in c.loop-i.invariant.1 ∙ ap (capacity_sum _ _) e
