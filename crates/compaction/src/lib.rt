@@ -9,12 +9,12 @@ ghost use Rattle.words.specs.Stores.{block_at};
 ghost use Rattle.blocks.specs.Blocks.{Marks};
 ghost use Rattle.stream.specs.Machine.{memory};
 ghost use Rattle.merging.specs.Contract.{Leaves};
-ghost use Rattle.compaction.specs.Machine.{begin_at, chunk_gathered, blocks_gathered, Gathering, record_sum, Summable, Countable, Compactable};
+ghost use Rattle.compaction.specs.Machine.{chunk_gathered, blocks_gathered, Gathering, record_sum, Summable, Countable, Compactable};
 
-use blocks::{Buffer, Offsets};
+use blocks::Offsets;
 use layout::Layout;
 use merging::Merged;
-use stream::{Desk, Point, Progress};
+use stream::{Desk, Progress};
 
 // The records of the block at place q, into the buffer. A block that is written takes a free place,
 // so the block that is read keeps its words.
@@ -40,21 +40,6 @@ fn gather_blocks(s: &mut [u32], desk: &mut Desk, list: &[u32], z: Offsets)
     }
 }
 
-// Nothing is gathered, listed or written yet. Only the buffer, the list and the cursor are used.
-fn begin(cursor: usize) -> Progress
-    ensures { result ≡ begin_at cursor }
-{
-    let none = Point { i: 0, j: 0 };
-    Progress {
-        x: none,
-        y: none,
-        m: 0,
-        writes: 0,
-        cursor: cursor,
-        buf: Buffer::default(),
-    }
-}
-
 // Step 5: the records of the listed blocks anew, B to a block, the last with the rest. For every
 // list of places in use that the marks stand for, the words, the new list, the cursor and the marks
 // afterwards are those of the compacted level, its blocks settled in key order; the old places stay
@@ -65,7 +50,7 @@ pub fn compact(s: &mut [u32], desk: &mut Desk, list: &[u32], z: Layout, cursor: 
         → Leaves z (settle z.geo.p a (waste.compact z.geo.b (map (block_at z s.old) list.now))) s.old s.new desk.new.used desk.new.out result }
 {
     let o = Offsets::of(z);
-    desk.st = begin(cursor);
+    desk.st = Progress::begin(cursor);
     gather_blocks(s, desk, list, o);
     desk.flush(s, o);
     Merged {

@@ -1,5 +1,5 @@
 -- The merge as a machine over the words, the marks, the new list and a few numbers: what the code does, step by step.
-use Rattle.std.specs.Prelude.{ℕ, zero, suc, ◌+◌, ◌/◌, ◌%◌, ◌^◌, ◌≤◌, ◌<◌, ◌≡◌, Bool, true, false, ◌&&◌, ◌||◌, List, leb, eqb, length, get_or, set, Option, None, Some, is_some}
+use Rattle.std.specs.Prelude.{ℕ, zero, suc, ◌+◌, ◌/◌, ◌%◌, ◌^◌, ◌≤◌, ◌<◌, ◌≡◌, Bool, true, false, ◌&&◌, ◌||◌, List, leb, eqb, length, get_or, set, replicate, Option, None, Some, is_some}
 use Rattle.std.specs.Option.{ForSome}
 use Rattle.levels.specs.Basics.{if◌then◌otherwise◌}
 use Rattle.blocks.specs.declared.Offsets.{Offsets}
@@ -25,6 +25,14 @@ pub record Memory : Type 0 where
 -- the words, and the desk that a merge works at
 abbrev pub memory : List ℕ → Desk → Memory
 memory ws d = record { words = ws; used = d.used; out = d.out; st = d.st }
+
+-- nothing is read, gathered, listed or written yet
+abbrev pub begin_at : ℕ → Progress
+begin_at cursor = record { x = record { i = 0; j = 0 }; y = record { i = 0; j = 0 }; m = 0; writes = 0; cursor = cursor; buf = empty_buffer }
+
+-- no place is marked, and nothing is listed
+abbrev pub fresh_desk : Desk
+fresh_desk = record { used = replicate places_most false; out = replicate list_room 0; st = begin_at 0 }
 
 -- a buffer can be written
 pub record Flushable (z : Offsets) (xs : List ℕ) (used : List Bool) (w : Progress) : Type 0 where

@@ -5,7 +5,7 @@ ghost use Rattle.std.specs.Prelude.{◌≡◌, true, false, ℕ, ◌+◌, ◌-�
 ghost use Rattle.std.specs.Option.{ForSome};
 ghost use Rattle.blocks.specs.Room.{places_most, list_room};
 ghost use Rattle.sides.specs.Sides.{Searchable, first};
-ghost use Rattle.stream.specs.Machine.{memory, Flushable, Gatherable, Movable, Choosable, Standing, Runnable, Ahead, Grows, Ready, Turned, flushed, reused, gathered, gathered_run, point_after, chosen, emitted_run, turns, idle};
+ghost use Rattle.stream.specs.Machine.{memory, Flushable, Gatherable, Movable, Choosable, Standing, Runnable, Ahead, Grows, Ready, Turned, flushed, reused, gathered, gathered_run, begin_at, fresh_desk, point_after, chosen, emitted_run, turns, idle};
 
 use blocks::{Buffer, Offsets};
 use sides::Head;
@@ -31,6 +31,7 @@ pub struct Progress {
 
 // What a merge works at besides the words: the marks of the places in use, the list that it builds, and where it stands. It is
 // large, so it is made once for a merge and lent.
+#[derive(Drop)]
 pub struct Desk {
     pub used: [bool; blocks::PLACES],
     pub out: [u32; blocks::LIST_ROOM],
@@ -65,7 +66,35 @@ pub struct Inputs {
     pub bottom: bool,
 }
 
+impl Progress {
+    // Nothing is read, gathered, listed or written yet; free places are looked for after the cursor.
+    pub fn begin(cursor: usize) -> Progress
+        ensures { result ≡ begin_at cursor }
+    {
+        let start = Point { i: 0, j: 0 };
+        Progress {
+            x: start,
+            y: start,
+            m: 0,
+            writes: 0,
+            cursor: cursor,
+            buf: Buffer::default(),
+        }
+    }
+}
+
 impl Desk {
+    // No place is marked, and nothing is listed.
+    pub fn new() -> Desk
+        ensures { result ≡ fresh_desk }
+    {
+        Desk {
+            used: [false; blocks::PLACES],
+            out: [0; blocks::LIST_ROOM],
+            st: Progress::begin(0),
+        }
+    }
+
     // A buffer that is not empty is written at the first free place after the cursor, and listed.
     pub fn flush(&mut self, s: &mut [u32], z: Offsets)
         requires { Flushable z s.old self.old.used self.old.st }
