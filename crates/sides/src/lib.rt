@@ -10,6 +10,7 @@ use blocks::Offsets;
 
 // Where the records of a block or of a page of level 0 stand: the index of its mark word, of its
 // first key and of its first payload, how many it has, and the place of a block, which is listed. A page has none.
+// The mark word's index, where chunks::Chunk has the word: a chunk is followed through the words as a merge writes them.
 #[derive(Clone, Copy)]
 pub struct Chunk {
     pub marks: usize,
@@ -65,7 +66,8 @@ fn page_chunk(z: Offsets, i: usize) -> Chunk
     }
 }
 
-// Chunk i of a side: a page of level 0, or the block at the list's i-th place.
+// Chunk i of a side: a page of level 0, or the block at the list's i-th place. A flag beside the list, and no enum that holds it: a merge
+// lends both lists whatever X is, and of pages the list is not read.
 fn chunk_at(s: &[u32], z: Offsets, pages: bool, list: &[u32; blocks::LIST_ROOM], i: usize) -> Chunk
     requires { Chunked z pages s.now list.now i }
     ensures { result ≡ chunk_of z pages s.now list.now i }

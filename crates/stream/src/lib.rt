@@ -188,18 +188,14 @@ fn choose(
     requires { Choosable z s.now st.x st.y x y st.buf.n e }
     ensures { result ≡ chosen z bottom s.now st.x st.y x y st.buf.n e }
 {
-    let px = st.x;
-    let py = st.y;
-    let buf = st.buf;
-    let n = buf.n;
+    let n = st.buf.n;
     if let Some(b) = y
         && sides::before(y, x)
     {
         let whole = sides::reusable(s, z, bottom, b, x, n, e);
-        let v = py.after(b.n, whole.is_some());
         return Some(Move {
-            x: px,
-            y: v,
+            x: st.x,
+            y: st.y.after(b.n, whole.is_some()),
             head: b,
             whole: whole,
         });
@@ -208,10 +204,9 @@ fn choose(
         && sides::before(x, y)
     {
         let whole = sides::reusable(s, z, bottom, a, y, n, e);
-        let u = px.after(a.n, whole.is_some());
         return Some(Move {
-            x: u,
-            y: py,
+            x: st.x.after(a.n, whole.is_some()),
+            y: st.y,
             head: a,
             whole: whole,
         });
@@ -219,11 +214,9 @@ fn choose(
     let (Some(a), Some(b)) = (x, y) else {
         return None;
     };
-    let u = px.after(a.n, false);
-    let v = py.after(b.n, false);
     Some(Move {
-        x: u,
-        y: v,
+        x: st.x.after(a.n, false),
+        y: st.y.after(b.n, false),
         head: a,
         whole: None,
     })

@@ -14,13 +14,13 @@ reusable-whole-requires c =
     let s = k.lower c.in-Some.b c.in-Some.is in
     (k.cap, s.count, k.few, k.last, λ _. s.row)
 
-pub after-v-requires : goal.after-v-requires
-after-v-requires c = let s = c.requires.lower c.in-Some.b c.in-Some.is in (s.low, omega (arith, s.inside, s.count))
+pub after-requires : goal.after-requires
+after-requires c = let s = c.requires.lower c.in-Some.b c.in-Some.is in (s.low, omega (arith, s.inside, s.count))
 
 pub returns : goal.returns
 returns c =
     let f : first c.args.y c.args.x ≡ true = rw c.in-Some.is (sym c.before-2.ensures ∙ c.if-before.true) in
-    rw (c.after-v.ensures, c.is_some.ensures, c.reusable-whole.ensures) (sym (chosen_lower _ _ _ _ _ c.args.x c.args.y c.in-Some.b c.args.st.buf.n c.args.e c.in-Some.is f))
+    rw (c.after.ensures, c.is_some.ensures, c.reusable-whole.ensures) (sym (chosen_lower _ _ _ _ _ c.args.x c.args.y c.in-Some.b c.args.st.buf.n c.args.e c.in-Some.is f))
 
 -- Y's record does not come first
 y_same : (c : In_default) → c.in_default.y ≡ c.args.y
@@ -40,14 +40,14 @@ reusable-whole-requires-2 c =
     let s = k.upper c.in-Some-x.a c.in-Some-x.is in
     (k.cap, s.count, k.few, k.last, λ _. s.row)
 
-pub after-u-requires : goal.after-u-requires
-after-u-requires c = let s = c.requires.upper c.in-Some-x.a c.in-Some-x.is in (s.low, omega (arith, s.inside, s.count))
+pub after-requires-2 : goal.after-requires-2
+after-requires-2 c = let s = c.requires.upper c.in-Some-x.a c.in-Some-x.is in (s.low, omega (arith, s.inside, s.count))
 
 pub returns-2 : goal.returns-2
 returns-2 c =
     let v = (goal.at.returns-2 c).In_default in
     let f : first c.args.x c.args.y ≡ true = rw (c.in-Some-x.is, ← y_same v) (sym c.before-3.ensures ∙ c.if-before-2.true) in
-    rw (c.after-u.ensures, c.is_some-2.ensures, c.reusable-whole-2.ensures, y_same v)
+    rw (c.after-2.ensures, c.is_some-2.ensures, c.reusable-whole-2.ensures, y_same v)
     (sym (chosen_upper _ _ _ _ _ c.args.x c.args.y c.in-Some-x.a c.args.st.buf.n c.args.e c.in-Some-x.is (not_lower v) f))
 
 -- nor X's
@@ -65,19 +65,19 @@ returns-in_default-2 c =
     let w = (goal.at.returns-in_default-2 c).In_default-2 in
     sym (chosen_not _ _ _ _ _ _ _ _ _ (not_lower v) (not_upper w (y_same v)) (sym (x_same w) ∙ c.in_default-3.is-0))
 
-pub after-u-requires-2 : goal.after-u-requires-2
-after-u-requires-2 c =
-    let w = (goal.at.after-u-requires-2 c).In_default-2 in
+pub after-requires-3 : goal.after-requires-3
+after-requires-3 c =
+    let w = (goal.at.after-requires-3 c).In_default-2 in
     let s = c.requires.upper c.in-Some-Some.a (sym (x_same w) ∙ c.in-Some-Some.is-0) in (s.low, omega (arith, s.inside, s.count))
 
-pub after-v-requires-2 : goal.after-v-requires-2
-after-v-requires-2 c =
-    let v = (goal.at.after-v-requires-2 c).In_default in
+pub after-requires-4 : goal.after-requires-4
+after-requires-4 c =
+    let v = (goal.at.after-requires-4 c).In_default in
     let s = c.requires.lower c.in-Some-Some.b (sym (y_same v) ∙ c.in-Some-Some.is-1) in (s.low, omega (arith, s.inside, s.count))
 
 pub returns-3 : goal.returns-3
 returns-3 c =
     let v = (goal.at.returns-3 c).In_default in
     let w = (goal.at.returns-3 c).In_default-2 in
-    rw (c.after-u-2.ensures, c.after-v-2.ensures)
+    rw (c.after-3.ensures, c.after-4.ensures)
     (sym (chosen_both _ _ _ _ _ c.args.x c.args.y c.in-Some-Some.a c.in-Some-Some.b c.args.st.buf.n c.args.e (sym (x_same w) ∙ c.in-Some-Some.is-0) (sym (y_same v) ∙ c.in-Some-Some.is-1) (not_lower v) (not_upper w (y_same v))))
