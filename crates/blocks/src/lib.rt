@@ -28,7 +28,8 @@ pub struct Offsets {
     pub base: usize,
 }
 
-// Records that wait for a block: bit j of marks is record j's tombstone bit.
+// Records that wait for a block: bit j of marks is record j's tombstone bit. Two arrays and a count, since a block has its keys in a
+// row and then its payloads, and no ArrayVec, whose clauses say nothing of the slots past the count: a block has 0 there.
 #[derive(Clone, Copy)]
 pub struct Buffer {
     pub keys: [u32; 16],
@@ -38,6 +39,7 @@ pub struct Buffer {
 }
 
 impl Offsets {
+    // No `From`, which takes any layout: one that is not proper has numbers that do not fit.
     pub fn of(z: Layout) -> Offsets
         requires { Proper z }
         ensures { result ≡ offsets_of z }
@@ -56,14 +58,17 @@ impl Offsets {
 }
 
 // All slots are 0, so that a block of fewer than B records is written with its unused slots 0.
-pub fn empty() -> Buffer
-    ensures { result ≡ empty_buffer }
-{
-    Buffer {
-        keys: [0; 16],
-        pays: [0; 16],
-        marks: 0,
-        n: 0,
+// Not derived: a derived one's clause says nothing of the arrays.
+impl Default for Buffer {
+    fn default() -> Buffer
+        ensures { result ≡ empty_buffer }
+    {
+        Buffer {
+            keys: [0; 16],
+            pays: [0; 16],
+            marks: 0,
+            n: 0,
+        }
     }
 }
 
@@ -108,14 +113,13 @@ pub fn first_free(used: &[bool; Geometry::MAX_P], p: usize, cursor: usize) -> us
     requires { (p ≤ places_most) × (cursor < p) × SomeFree used.now p }
     ensures { result ≡ next_mark p used.now cursor }
 {
-    let mut k = 1;
-    loop {
+    for k in 1..=p {
         let q = place_after(p, cursor, k);
         if !used[q] {
-            break q;
+            return q;
         }
-        k += 1;
     }
+    unreachable!()
 }
 
 // The places of a list, or of a lent part of one, are marked as in use.
@@ -123,10 +127,8 @@ pub fn mark_listed(used: &mut [bool; Geometry::MAX_P], list: &[u32])
     requires { (i : ℕ) → i < length list.now → get_or list.now i 0 < places_most }
     ensures { used.new ≡ marked used.old list.now (length list.now) }
 {
-    let n = list.len();
-    for i in 0..n {
-        let q = list[i] as usize;
-        used[q] = true;
+    for &q in list {
+        used[q as usize] = true;
     }
 }
 

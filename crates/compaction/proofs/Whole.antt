@@ -15,7 +15,7 @@ use Rattle.blocks.specs.declared.Offsets.{Offsets}
 use Rattle.blocks.specs.Blocks.{Sized, offsets_of, Marks}
 use Rattle.blocks.proofs.Laws.{sized_of, start_place}
 use Rattle.sides.specs.Sides.{last_size, block_chunk}
-use Rattle.stream.specs.Machine.{Memory, Flushable, flushed}
+use Rattle.stream.specs.Machine.{Memory, Flushable, begin_at, flushed}
 use Rattle.stream.proofs.Laws.{flushed_m}
 use Rattle.merging.proofs.Blocks.{recs_from, count_at, blocks, lay_all, lay_done}
 use Rattle.merging.proofs.Relation.{flash_of, start}
@@ -25,7 +25,7 @@ use Rattle.merging.proofs.Outs.{flush_holds}
 use Rattle.merging.proofs.Close.{empty_is, flushed_out}
 use Rattle.merging.proofs.Begin.{lay_done_lem}
 use Rattle.merging.proofs.Leaving.{leaves_of}
-use Rattle.compaction.specs.Machine.{begin_at, blocks_gathered, Gathering, Compactable}
+use Rattle.compaction.specs.Machine.{blocks_gathered, Gathering, Compactable}
 use Rattle.compaction.proofs.Packing.{nothing, kept, kept_packed, sized_fit}
 use Rattle.compaction.proofs.Going.{Going, roomy, chunk_going, gathering}
 use Rattle.compaction.proofs.Counting.{listed_records, no_records, records_snoc, all_blocks_lem}

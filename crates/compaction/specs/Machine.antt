@@ -3,9 +3,8 @@ use Rattle.std.specs.Prelude.{ℕ, zero, suc, ◌+◌, ◌≤◌, ◌<◌, ◌�
 use Rattle.geometry.specs.Room.{places_most}
 use Rattle.words.specs.Stores.{record_count}
 use Rattle.blocks.specs.declared.Offsets.{Offsets}
-use Rattle.blocks.specs.Blocks.{Sized, start_of, empty_buffer}
+use Rattle.blocks.specs.Blocks.{Sized, start_of}
 use Rattle.sides.specs.declared.Chunk.{Chunk}
-use Rattle.stream.specs.declared.Progress.{Progress}
 use Rattle.sides.specs.Sides.{block_chunk, head_at}
 use Rattle.stream.specs.Machine.{Memory, Flushable, Gatherable, gathered}
 use Rattle.merging.specs.Contract.{count_marks, ListedBlock}
@@ -37,10 +36,6 @@ pub record Gathering (z : Offsets) (q : ℕ) (a : Memory) : Type 0 where
   pub place : q < z.p
   pub high : get_or a.words (start_of z q) 0 ≤ z.b
   pub steps : (j : ℕ) → j < get_or a.words (start_of z q) 0 → Roomy z (records_gathered z (block_chunk z a.words q) j a)
-
--- where a compaction starts
-abbrev pub begin_at : ℕ → Progress
-begin_at cursor = record { x = record { i = 0; j = 0 }; y = record { i = 0; j = 0 }; m = 0; writes = 0; cursor = cursor; buf = empty_buffer }
 
 -- what a compaction asks: a legal store, marks of their full length, listed blocks, and a free place for each of them and one more
 pub record Compactable (z : Layout) (ws : List ℕ) (used : List Bool) (list : List ℕ) (cursor : ℕ) : Type 0 where

@@ -1,12 +1,15 @@
 -- Counts and bits of a buffer that grows.
 use Prim.Native.Nat.{ℕ, zero, suc, ◌+◌, ◌-◌, ◌*◌, ◌/◌, ◌%◌, ◌^◌, ◌≤◌, ◌<◌}
-use mathlib.Core.Path.{◌≡◌, ◌∙◌, refl}
+use mathlib.Core.Path.{◌≡◌, ◌∙◌, refl, sym, ap}
 use mathlib.Core.Bool.{Bool, true, false}
-use mathlib.Core.List.{List}
+use mathlib.Core.List.{List, [], ◌∷◌, ◌++◌}
 use native.Mathlib.Numerals.{add-one}
 use native.Mathlib.Nat.{pow-suc, mul-le-mul_right}
 use native.Mathlib.Omega.{arith}
-use lib.ListN.{get_or, set}
+use lib.ListN.{get_or, set, length, take, drop, length-drop}
+use lib.Seq.{length-take-le, take-suc, get_or-drop}
+use Rattle.slices.specs.Slices.{put_at}
+use Rattle.slices.proofs.Put.{put_none, put_more}
 use Rattle.blocks.specs.declared.Offsets.{Offsets}
 use Rattle.blocks.specs.declared.Buffer.{Buffer}
 use Rattle.blocks.specs.Blocks.{start_of, pushed, empty_buffer}
@@ -91,6 +94,14 @@ module _ (z : Offsets) (xs out : List ℕ) (w : Progress) where
   unfolding pulled
   pulled_y = refl
 
-pub rested_more : (out : List ℕ) (m : ℕ) (ys : List ℕ) (from i : ℕ) → set (rested_out out m ys from i) (m + i) (get_or ys (from + i) 0) ≡ rested_out out m ys from (i + 1)
+-- the entries of a list copied in one go are those copied one by one
+pub rested_put : (out : List ℕ) (m : ℕ) (ys : List ℕ) (from n : ℕ) → from + n ≤ length ys → m + n ≤ length out → put_at m (take n (drop from ys)) out ≡ rested_out out m ys from n
 unfolding rested_out
-rested_more out m ys from i = rw (add-one i)
+rested_put out m ys from zero h l = put_none m out
+rested_put out m ys from (suc n) h l =
+    let row = take n (drop from ys) in
+    let k : length row ≡ n = length-take-le n (drop from ys) (rw length-drop (omega arith)) in
+    let v = get_or ys (from + n) 0 in
+    let t : take (suc n) (drop from ys) ≡ row ++ (v ∷ []) = take-suc (drop from ys) n 0 (rw length-drop (omega arith)) ∙ ap (λ (w : ℕ). row ++ (w ∷ [])) (get_or-drop from ys n 0) in
+    ap (λ (zs : List ℕ). put_at m zs out) t
+    ∙ (sym (put_more m v row out (rw k (omega arith))) ∙ (ap (λ (i : ℕ). set (put_at m row out) (m + i) v) k ∙ ap (λ (zs : List ℕ). set zs (m + n) v) (rested_put out m ys from n (omega arith) (omega arith))))

@@ -5,11 +5,11 @@
 ghost use Rattle.std.specs.Prelude.{◌≡◌, ◌+◌, ◌-◌, ◌*◌, ◌%◌, ◌≤◌, ◌<◌, length, get_or};
 ghost use Rattle.blocks.specs.Blocks.{start_of};
 ghost use Rattle.blocks.specs.Room.{list_room};
-ghost use Rattle.stream.specs.Machine.{Memory};
-ghost use Rattle.joins.specs.Joins.{Clean, Loadable, appended, joined, Pullable, pulled, Lefts, left_joined, Afters, after_taken, after_joined, rested_out, Closable, closed};
+ghost use Rattle.stream.specs.Machine.{memory};
+ghost use Rattle.joins.specs.Joins.{Clean, Loadable, appended, joined, Pullable, pulled, Lefts, left_joined, Afters, after_taken, after_joined, Closable, closed};
 
 use blocks::{Buffer, Offsets};
-use stream::{Point, Progress};
+use stream::{Desk, Point};
 
 // The first n records of the block whose words start at `at`, after those of the buffer.
 fn append_words(s: &[u32], z: Offsets, at: usize, n: usize, buf: Buffer) -> Buffer
@@ -56,131 +56,83 @@ fn append_buffer(a: Buffer, more: Buffer) -> Buffer
 }
 
 // The last block listed is taken back: its records stand before those of the buffer.
-fn pull_last(s: &[u32], z: Offsets, out: &[u32; blocks::LIST_ROOM], st: Progress) -> Progress
-    requires { Pullable z s.now out.now st }
-    ensures { result ≡ pulled z s.now out.now st }
+fn pull_last(s: &[u32], desk: &mut Desk, z: Offsets)
+    requires { Pullable z s.now desk.old.out desk.old.st }
+    ensures { desk.new ≡ record desk.old { st = pulled z s.now desk.old.out desk.old.st } }
 {
-    let m = st.m - 1;
-    let q = sides::listed(out, m);
-    let none = blocks::empty();
-    let last = append_block(s, z, q, none);
-    let old = st.buf;
-    let mut v = st;
-    v.m = m;
-    v.buf = append_buffer(last, old);
-    v
+    let m = desk.st.m - 1;
+    let q = desk.out[m] as usize;
+    let last = append_block(s, z, q, Buffer::default());
+    desk.st.m = m;
+    desk.st.buf = append_buffer(last, desk.st.buf);
 }
 
 // A leftover that with the last block holds B or fewer joins it.
-fn join_left(s: &[u32], z: Offsets, out: &[u32; blocks::LIST_ROOM], st: Progress) -> Progress
-    requires { Lefts z s.now out.now st }
-    ensures { result ≡ left_joined z s.now out.now st }
+fn join_left(s: &[u32], desk: &mut Desk, z: Offsets)
+    requires { Lefts z s.now desk.old.out desk.old.st }
+    ensures { desk.new ≡ record desk.old { st = left_joined z s.now desk.old.out desk.old.st } }
 {
-    let buf = st.buf;
-    let n = buf.n;
+    let n = desk.st.buf.n;
     if n == 0 {
-        return st;
+        return;
     }
-    let m = st.m;
-    let e = sides::last_size(s, z, out, m);
+    let e = sides::last_size(s, z, &desk.out, desk.st.m);
     let b = z.b;
     if e + n <= b {
-        return pull_last(s, z, out, st);
+        pull_last(s, desk, z);
     }
-    st
 }
 
 // The block after Y joins the buffer.
-fn take_after(s: &[u32], z: Offsets, q: usize, st: Progress) -> Progress
-    requires { Loadable z s.now q st.buf × (st.y.i < list_room) }
-    ensures { result ≡ after_taken z s.now q st }
+fn take_after(s: &[u32], desk: &mut Desk, z: Offsets, q: usize)
+    requires { Loadable z s.now q desk.old.st.buf × (desk.old.st.y.i < list_room) }
+    ensures { desk.new ≡ record desk.old { st = after_taken z s.now q desk.old.st } }
 {
-    let buf = st.buf;
-    let y = st.y;
-    let next = Point { i: y.i + 1, j: 0 };
-    let mut v = st;
-    v.y = next;
-    v.buf = append_block(s, z, q, buf);
-    v
+    desk.st.y = Point {
+        i: desk.st.y.i + 1,
+        j: 0,
+    };
+    desk.st.buf = append_block(s, z, q, desk.st.buf);
 }
 
 // The buffer, or if it is empty the last block, joins the block after Y by the same rule.
-fn join_after(
-    s: &[u32],
-    z: Offsets,
-    out: &[u32; blocks::LIST_ROOM],
-    ys: &[u32; blocks::LIST_ROOM],
-    st: Progress,
-    end: usize,
-) -> Progress
-    requires { Afters z s.now out.now ys.now st end }
-    ensures { result ≡ after_joined z s.now out.now ys.now st end }
+fn join_after(s: &[u32], desk: &mut Desk, ys: &[u32; blocks::LIST_ROOM], z: Offsets, end: usize)
+    requires { Afters z s.now desk.old.out ys.now desk.old.st end }
+    ensures { desk.new ≡ record desk.old { st = after_joined z s.now desk.old.out ys.now desk.old.st end } }
 {
-    let y = st.y;
-    let i = y.i;
+    let i = desk.st.y.i;
     if end <= i {
-        return st;
+        return;
     }
-    let q = sides::listed(ys, i);
+    let q = ys[i] as usize;
     let at = blocks::place_start(z, q);
     let size = slices::word(s, at);
-    let buf = st.buf;
-    let n = buf.n;
+    let n = desk.st.buf.n;
     let b = z.b;
     if n == 0 {
-        let m = st.m;
-        let e = sides::last_size(s, z, out, m);
+        let e = sides::last_size(s, z, &desk.out, desk.st.m);
         if e + size <= b {
-            let v = pull_last(s, z, out, st);
-            return take_after(s, z, q, v);
+            pull_last(s, desk, z);
+            take_after(s, desk, z, q);
         }
-        return st;
+        return;
     }
     if n + size <= b {
-        return take_after(s, z, q, st);
-    }
-    st
-}
-
-// The entries of a place list from `from` to `end`, into another list from entry m on.
-pub fn copy_entries(
-    out: &mut [u32; blocks::LIST_ROOM],
-    ys: &[u32; blocks::LIST_ROOM],
-    m: usize,
-    from: usize,
-    end: usize,
-)
-    requires { (end ≤ list_room) × (m + (end - from) ≤ list_room) }
-    ensures { out.new ≡ rested_out out.old m ys.now from (end - from) }
-{
-    let mut k = m;
-    for i in from..end {
-        let q = ys[i];
-        out[k] = q;
-        k += 1;
+        take_after(s, desk, z, q);
     }
 }
 
 // Step 4 of a merge: the joins, the last write, and the blocks after.
-pub fn close(
-    s: &mut [u32],
-    used: &mut [bool; blocks::PLACES],
-    out: &mut [u32; blocks::LIST_ROOM],
-    ys: &[u32; blocks::LIST_ROOM],
-    z: Offsets,
-    st: Progress,
-    end: usize,
-) -> Progress
-    requires { Closable z ys.now end (record { words = s.old; used = used.old; out = out.old; st = st }) }
-    ensures { ◌≡◌ {A = Memory} (record { words = s.new; used = used.new; out = out.new; st = result }) (closed z ys.now end (record { words = s.old; used = used.old; out = out.old; st = st })) }
+pub fn close(s: &mut [u32], desk: &mut Desk, ys: &[u32; blocks::LIST_ROOM], z: Offsets, end: usize)
+    requires { Closable z ys.now end (memory s.old desk.old) }
+    ensures { memory s.new desk.new ≡ closed z ys.now end (memory s.old desk.old) }
 {
-    let a = join_left(s, z, out, st);
-    let joined = join_after(s, z, out, ys, a, end);
-    let mut v = stream::flush(s, used, out, z, joined);
-    let m = v.m;
-    let y = v.y;
-    let from = y.i;
-    copy_entries(out, ys, m, from, end);
-    v.m = m + (end - from);
-    v
+    join_left(s, desk, z);
+    join_after(s, desk, ys, z, end);
+    desk.flush(s, z);
+    let m = desk.st.m;
+    let from = desk.st.y.i;
+    let rest = end - from;
+    slices::copy(ys, from, rest, &mut desk.out, m);
+    desk.st.m = m + rest;
 }

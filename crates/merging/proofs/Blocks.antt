@@ -3,9 +3,9 @@ use Prim.Native.Nat.{ℕ, zero, suc, ◌+◌, ◌-◌, ◌/◌, ◌%◌, ◌^◌
 use mathlib.Core.Bool.{Bool, true}
 use mathlib.Core.List.{List, [], ◌∷◌, ◌++◌}
 use mathlib.Core.Option.{Option, none, some}
+use Rattle.std.specs.Prelude.{None, Some}
 use lib.Dec.{eqb}
 use lib.ListN.{get_or, set, drop}
-use Rattle.levels.specs.Basics.{if◌then◌otherwise◌}
 use Rattle.levels.specs.Record.{Rec, Block, Level, new}
 use Rattle.blocks.specs.declared.Offsets.{Offsets}
 use Rattle.blocks.specs.Blocks.{start_of, next_mark, buffer_of, written}
@@ -23,7 +23,7 @@ recs_from ws c j (suc n) = rec_at ws c j ∷ recs_from ws c (suc j) n
 
 -- the place of a chunk: a page of level 0 has none
 abbrev pub chunk_place : Chunk → Option ℕ
-chunk_place c = if c.listed then some c.place otherwise none
+chunk_place c = elim c.place [ Some q ↦ some q | None ↦ none ]
 
 -- the block of a chunk
 abbrev pub block_of : List ℕ → Chunk → Block

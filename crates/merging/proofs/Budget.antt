@@ -3,6 +3,7 @@ use Prim.Native.Nat.{ℕ, zero, suc, ◌+◌, ◌-◌, ◌*◌, ◌≤◌, ◌<�
 use mathlib.Core.Path.{◌≡◌, sym, ap, ◌∙◌, refl}
 use mathlib.Core.Bool.{Bool, true, false, true≢false}
 use mathlib.Core.List.{List}
+use Rattle.std.specs.Prelude.{Some}
 use native.Mathlib.Decide.{dec_lt}
 use native.Mathlib.Nat.{le_refl, mul-le-mul_left, le_of_mul-le-mul_right}
 use native.Mathlib.Omega.{arith}
@@ -56,8 +57,8 @@ turn_paid z t xs ys s o a c p idles = go (dec_lt a.st.x.i t.x) (dec_lt a.st.y.i 
         let kx = head_at a.words x a.st.x.j in
         let ky = head_at a.words y a.st.y.j in
         rw (head_at_lem z t.pages a.words xs a.st.x.i a.st.x.j t.x gx, head_at_lem z false a.words ys a.st.y.i a.st.y.j t.y gy)
-        (if_either Pays (first ky kx) _ _ (lower_paid z t s a p t.bottom y kx e hy gy (c.lower.inside gy))
-        (if_either Pays (first kx ky) _ _ (upper_paid z t s a p t.bottom x ky e hx gx (c.upper.inside gx))
+        (if_either Pays (first (Some ky) (Some kx)) _ _ (lower_paid z t s a p t.bottom y (Some kx) e hy gy (c.lower.inside gy))
+        (if_either Pays (first (Some kx) (Some ky)) _ _ (upper_paid z t s a p t.bottom x (Some ky) e hx gx (c.upper.inside gx))
         (both_paid z t s a p t.bottom x y kx hx hy gx (c.upper.inside gx) gy (c.lower.inside gy))))
 
 -- what a merge starts with: nothing written, nothing begun, room and free places for its inputs

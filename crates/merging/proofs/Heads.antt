@@ -1,9 +1,10 @@
 -- What a head shows of a side, and that the tests on heads are the definitions' tests on blocks.
 use Prim.Native.Nat.{ℕ, zero, suc, ◌+◌, ◌-◌, ◌/◌, ◌%◌, ◌^◌, ◌≤◌, ◌<◌}
 use mathlib.Core.Path.{◌≡◌, sym, ap, ◌∙◌, refl}
-use mathlib.Core.Bool.{Bool, true, false, not, ◌&&◌, ◌||◌, true≢false, and-false}
+use mathlib.Core.Bool.{Bool, true, false, not, ◌&&◌, ◌||◌, true≢false}
 use mathlib.Core.List.{List, [], ◌∷◌}
 use mathlib.Core.Option.{none, some}
+use Rattle.std.specs.Prelude.{Option, None, Some, is_some}
 use mathlib.Core.Logic.{dite}
 use native.Mathlib.Decide.{dec_lt}
 use native.Mathlib.Numerals.{add-one}
@@ -19,7 +20,7 @@ use Rattle.levels.specs.Merge.{Out, head_rec, ends_below, apart, reusable}
 use Rattle.blocks.specs.declared.Offsets.{Offsets}
 use Rattle.sides.specs.declared.Chunk.{Chunk}
 use Rattle.sides.specs.declared.Head.{Head}
-use Rattle.sides.specs.Sides.{head_at, whole_below, follows}
+use Rattle.sides.specs.Sides.{head_at, comes_before, whole_below, follows}
 use Rattle.merging.proofs.Relation.{Formed, head_size}
 use Rattle.merging.proofs.Blocks.{recs_from, block_of, begun}
 
@@ -66,19 +67,18 @@ recs_tombstone ws c j (suc n) h = go (get_or ws c.marks 0 / 2 ^ j) refl (recs_to
 
 -- what a head shows of the blocks that are left
 pub record Shows (ws : List ℕ) (h : Head) (b : Block) : Type 0 where
-  pub there : h.some ≡ true
-  pub whole : h.whole ≡ placed b
+  pub whole : is_some h.place ≡ placed b
   pub key : h.key ≡ first_key b.recs
   pub last : get_or ws (h.keys + (h.n - 1)) 0 ≡ last_key b.recs
   pub head : head_rec b ≡ record { key = h.key; tombstone = eqb h.tombstone 1; pay = h.pay }
   pub filled : 1 ≤ size b
-  pub place : h.whole ≡ true → b.place ≡ some h.place
-  pub n : h.whole ≡ true → h.n ≡ size b
-  pub marks : h.whole ≡ true → has_tombstone b.recs ≡ not (eqb h.marks 0)
+  pub place : (q : ℕ) → h.place ≡ Some q → b.place ≡ some q
+  pub n : is_some h.place ≡ true → h.n ≡ size b
+  pub marks : is_some h.place ≡ true → has_tombstone b.recs ≡ not (eqb h.marks 0)
 
-pub data Sees (ws : List ℕ) : Head → Level → Type 0 where
-  nothing : {h : Head} → h.some ≡ false → Sees ws h []
-  block : {h : Head} {b : Block} {bs : Level} → Shows ws h b → Sees ws h (b ∷ bs)
+pub data Sees (ws : List ℕ) : Option Head → Level → Type 0 where
+  nothing : Sees ws None []
+  block : {h : Head} {b : Block} {bs : Level} → Shows ws h b → Sees ws (Some h) (b ∷ bs)
 
 div_one : (n : ℕ) → n / 2 ^ 0 ≡ n
 div_one n = omega arith
@@ -86,30 +86,29 @@ div_one n = omega arith
 -- the next record of a chunk shows what is left of its block
 pub shows_at : (z : Offsets) (ws : List ℕ) (c : Chunk) (j : ℕ) → Formed z ws c → j < c.n → Shows ws (head_at ws c j) (begun j (block_of ws c))
 unfolding recs_from
-shows_at z ws c zero f l = go c.n c.listed refl refl f.low
+shows_at z ws c zero f l = go c.n c.place refl f.low
   where
-    go : (n : ℕ) (t : Bool) → c.n ≡ n → c.listed ≡ t → 1 ≤ n → Shows ws (record { some = true; whole = t && true; key = get_or ws (c.keys + 0) 0; tombstone = get_or ws c.marks 0 / 2 ^ 0 % 2; pay = get_or ws (c.pays + 0) 0; marks = get_or ws c.marks 0; keys = c.keys; pays = c.pays; n = n; place = c.place }) (record { place = if t then some c.place otherwise none; recs = recs_from ws c 0 n })
-    go zero t e g l = absurd (omega arith)
-    go (suc n) t e g l =
+    go : (n : ℕ) (o : Option ℕ) → c.n ≡ n → 1 ≤ n → Shows ws (record { key = get_or ws (c.keys + 0) 0; tombstone = get_or ws c.marks 0 / 2 ^ 0 % 2; pay = get_or ws (c.pays + 0) 0; marks = get_or ws c.marks 0; keys = c.keys; pays = c.pays; n = n; place = o }) (record { place = elim o [ Some q ↦ some q | None ↦ none ]; recs = recs_from ws c 0 n })
+    go zero o e l = absurd (omega arith)
+    go (suc n) o e l =
         record {
-          there = refl;
-          whole = starts t;
+          whole = starts o;
           key = refl;
           last = sym (recs_last ws c 0 (suc n) l ∙ (let w : 0 + (suc n - 1) ≡ suc n - 1 = omega arith in rw w));
           head = refl;
           filled = omega arith;
-          place = placed_at t;
+          place = placed_at o;
           n = λ _. sym (recs_length ws c 0 (suc n));
           marks = λ _. recs_tombstone ws c 0 (suc n) (rw div_one (rw (← e) f.bits)) ∙ rw div_one;
         }
       where
-        starts : (t : Bool) → (t && true) ≡ placed (record { place = if t then some c.place otherwise none; recs = recs_from ws c 0 (suc n) })
-        starts true = refl
-        starts false = refl
+        starts : (o : Option ℕ) → is_some o ≡ placed (record { place = elim o [ Some q ↦ some q | None ↦ none ]; recs = recs_from ws c 0 (suc n) })
+        starts (Some q) = refl
+        starts None = refl
 
-        placed_at : (t : Bool) → (t && true) ≡ true → (if t then some c.place otherwise none) ≡ some c.place
-        placed_at true e = refl
-        placed_at false e = absurd (true≢false (sym e))
+        placed_at : (o : Option ℕ) (q : ℕ) → o ≡ Some q → (elim o [ Some q ↦ some q | None ↦ none ]) ≡ some q
+        placed_at (Some p) q e = let w : p ≡ q = cc in ap some w
+        placed_at None q e = absurd (cc)
 shows_at z ws c (suc j) f l =
     rw recs_drop (go (c.n - suc j) refl)
   where
@@ -117,22 +116,24 @@ shows_at z ws c (suc j) f l =
     go zero e = absurd (omega arith)
     go (suc n) e =
         let v : 0 + suc j ≡ suc j = omega arith in
-        let u : (c.listed && eqb (suc j) 0) ≡ false = rw (ne_eqb (suc j) 0 (λ g. omega arith)) (and-false c.listed) in
+        let o : (if eqb (suc j) 0 then c.place otherwise None) ≡ None = rw (ne_eqb (suc j) 0 (λ g. omega arith)) in
+        let u : is_some (if eqb (suc j) 0 then c.place otherwise None) ≡ false = ap is_some o in
         rw v (record {
-          there = refl;
           whole = u;
           key = refl;
           last = sym (recs_last ws c (suc j) (suc n) (omega arith) ∙ (let w : suc j + (suc n - 1) ≡ c.n - 1 = omega arith in rw w));
           head = refl;
           filled = omega arith;
-          place = λ w. absurd (true≢false (sym w ∙ u));
+          place = λ q w. absurd (cc);
           n = λ w. absurd (true≢false (sym w ∙ u));
           marks = λ w. absurd (true≢false (sym w ∙ u));
         })
 
-ends_same : (ws : List ℕ) (k : ℕ) (o : Head) (l : Level) → Sees ws o l → ends_below k l ≡ (not o.some || ltb k o.key)
-ends_same ws k o [] (nothing e) = rw e
-ends_same ws k o (b ∷ bs) (block s) = rw (s.there, s.key)
+ends_same : (ws : List ℕ) (k : ℕ) (o : Option Head) (l : Level) → Sees ws o l → ends_below k l ≡ comes_before k o
+ends_same ws k None [] nothing = refl
+ends_same ws k None (b ∷ bs) s = elim s [ ]
+ends_same ws k (Some h) [] s = elim s [ ]
+ends_same ws k (Some h) (b ∷ bs) (block s) = rw s.key
 
 apart_same : (B n : ℕ) (done : Level) → 1 ≤ n → apart B n done ≡ ltb B (head_size B done + n)
 apart_same B n [] h = sym (lt-ltb B (B + n) (omega arith))
@@ -152,16 +153,16 @@ off true v x = refl
 off false v x = refl
 
 -- the test on heads is the definition's test
-pub follows_same : (z : Offsets) (bottom : Bool) (ws : List ℕ) (h o : Head) (b : Block) (l : Level) (out : Out) (e : ℕ) → Shows ws h b → Sees ws o l → e ≡ head_size z.b out.done
+pub follows_same : (z : Offsets) (bottom : Bool) (ws : List ℕ) (h : Head) (o : Option Head) (b : Block) (l : Level) (out : Out) (e : ℕ) → Shows ws h b → Sees ws o l → e ≡ head_size z.b out.done
     → follows z bottom ws h o (length out.buffer) e ≡ reusable z.b bottom out l b
 unfolding follows whole_below
-follows_same z bottom ws h o b l out e s t d = go h.whole refl out.buffer out.done d
+follows_same z bottom ws h o b l out e s t d = go (is_some h.place) refl out.buffer out.done d
   where
-    go : (w : Bool) → h.whole ≡ w → (buf : List Rec) (done : Level) → e ≡ head_size z.b done → follows z bottom ws h o (length buf) e ≡ reusable z.b bottom (record { buffer = buf; done = done }) l b
+    go : (w : Bool) → is_some h.place ≡ w → (buf : List Rec) (done : Level) → e ≡ head_size z.b done → follows z bottom ws h o (length buf) e ≡ reusable z.b bottom (record { buffer = buf; done = done }) l b
     go false w buf done d = rw (← s.whole, w) (if_same (eqb (length buf) 0) ∙ sym (off (ends_below (last_key b.recs) l) _ _))
     go true w [] done d =
         rw (← s.whole, w, ends_same ws (last_key b.recs) o l t, s.last, s.marks w, s.n w, d, apart_same z.b (size b) done s.filled)
-        (regroup (not o.some || ltb (last_key b.recs) o.key) (not (bottom && not (eqb h.marks 0))) (ltb z.b (head_size z.b done + size b)))
+        (regroup (comes_before (last_key b.recs) o) (not (bottom && not (eqb h.marks 0))) (ltb z.b (head_size z.b done + size b)))
     go true w (r ∷ rs) done d =
         rw (ne_eqb (length (r ∷ rs)) 0 (λ f. omega arith), ← s.whole, w, ends_same ws (last_key b.recs) o l t, s.last, s.marks w, s.n w, d, apart_same z.b (length (r ∷ rs)) done (omega arith))
-        (regroup (not o.some || ltb (last_key b.recs) o.key) (not (bottom && not (eqb h.marks 0))) (ltb z.b (length (r ∷ rs) + size b) && ltb z.b (head_size z.b done + length (r ∷ rs))))
+        (regroup (comes_before (last_key b.recs) o) (not (bottom && not (eqb h.marks 0))) (ltb z.b (length (r ∷ rs) + size b) && ltb z.b (head_size z.b done + length (r ∷ rs))))

@@ -1,15 +1,17 @@
 -- A merge lists and writes no more than its inputs pay for: a potential on numbers, kept by every step.
-use Prim.Native.Nat.{ℕ, zero, suc, ◌+◌, ◌-◌, ◌*◌, ◌≤◌, ◌<◌}
-use mathlib.Core.Path.{◌≡◌, sym, ap, refl}
-use mathlib.Core.Bool.{Bool, true, false, not, ◌&&◌, ◌||◌, true≢false}
+use Prim.Native.Nat.{ℕ, zero, suc, ◌+◌, ◌*◌, ◌≤◌, ◌<◌}
+use mathlib.Core.Path.{◌≡◌, sym, ap, ◌∙◌, refl}
+use mathlib.Core.Bool.{Bool, true, false, ◌&&◌, true≢false}
+use Rattle.std.specs.Prelude.{Option, None, Some, is_some}
 use mathlib.Core.List.{List}
-use native.Mathlib.Decide.{ℕ_discrete}
+use mathlib.Core.Logic.{dite}
+use native.Mathlib.Decide.{ℕ_discrete, dec_lt}
 use native.Mathlib.Nat.{mul-le-mul_left}
 use native.Mathlib.Omega.{arith}
-use lib.Dec.{ltb, leb, eqb}
+use lib.Dec.{leb, eqb}
 use lib.ListN.{get_or, set}
 use lib.Seq.{get_or-set_other}
-use borrow.Author.Tests.{leb-true, eqb-true}
+use borrow.Author.Tests.{leb-true}
 use Rattle.levels.specs.Basics.{if◌then◌otherwise◌}
 use Rattle.words.specs.Stores.{bit}
 use Rattle.blocks.specs.declared.Offsets.{Offsets}
@@ -18,9 +20,10 @@ use Rattle.sides.specs.declared.Chunk.{Chunk}
 use Rattle.sides.specs.declared.Head.{Head}
 use Rattle.stream.specs.declared.Point.{Point}
 use Rattle.stream.specs.declared.Inputs.{Inputs}
-use Rattle.sides.specs.Sides.{head_at, whole_below, follows}
+use Rattle.sides.specs.Sides.{head_at, follows_at}
+use Rattle.sides.proofs.Laws.{follows_late, follows_some}
 use Rattle.stream.specs.Machine.{Memory, flushed, written_at, gathered, reused, emitted, with_progress, with_buffer, point_after, moved}
-use Rattle.levels.proofs.Basics.{and_left, and_right, if_either}
+use Rattle.levels.proofs.Basics.{if_either}
 use Rattle.stream.proofs.Laws.{after_one}
 use Rattle.merging.specs.Contract.{count_marks}
 use Rattle.merging.proofs.Relation.{next_free}
@@ -106,10 +109,10 @@ on_list b r = if r then 2 * b otherwise 1
 abbrev on_places : ℕ → Bool → ℕ
 on_places b r = if r then b otherwise 1
 
-emit_spent : (z : Offsets) (a : Memory) (bottom : Bool) (x y : Point) (h : Head) (r : Bool) → Spent z (moved a x y) (emitted z bottom a (record { x = x; y = y; head = h; whole = r })) (on_list z.b r) (on_places z.b r)
+emit_spent : (z : Offsets) (a : Memory) (bottom : Bool) (x y : Point) (h : Head) (w : Option ℕ) → Spent z (moved a x y) (emitted z bottom a (record { x = x; y = y; head = h; whole = w })) (on_list z.b (is_some w)) (on_places z.b (is_some w))
 unfolding emitted
-emit_spent z a bottom x y h true = reuse_spent z (moved a x y) h.place
-emit_spent z a bottom x y h false = gather_spent z (moved a x y) bottom h
+emit_spent z a bottom x y h (Some q) = reuse_spent z (moved a x y) q
+emit_spent z a bottom x y h None = gather_spent z (moved a x y) bottom h
 
 -- what has been paid for since memory s
 pub record Paid (z : Offsets) (t : Inputs) (s a : Memory) : Type 0 where
@@ -139,16 +142,9 @@ module _ (b end : ℕ) (p : Point) where
       after_one (λ (q : Point). Far b end p q 1 1) p n (λ g. record { list = omega arith; places = omega arith; end_high = omega arith }) (λ g. record { list = omega arith; places = omega arith; end_high = omega arith })
 
 -- a block that is reused has not been begun
-follows_start : (z : Offsets) (bottom : Bool) (ws : List ℕ) (c : Chunk) (j : ℕ) (o : Head) (n e : ℕ) → follows z bottom ws (head_at ws c j) o n e ≡ true → j ≡ 0
-unfolding follows whole_below
-follows_start z bottom ws c j o n e f = eqb-true j 0 (and_right c.listed (eqb j 0) (go (eqb n 0) f))
-  where
-    h : Head
-    h = head_at ws c j
-
-    go : (t : Bool) → (if t then (h.whole && (not o.some || ltb (get_or ws (h.keys + (h.n - 1)) 0) o.key)) && (not (bottom && not (eqb h.marks 0)) && ltb z.b (e + h.n)) otherwise (h.whole && (not o.some || ltb (get_or ws (h.keys + (h.n - 1)) 0) o.key)) && (not (bottom && not (eqb h.marks 0)) && (ltb z.b (n + h.n) && ltb z.b (e + n)))) ≡ true → h.whole ≡ true
-    go true f = and_left h.whole _ (and_left _ _ f)
-    go false f = and_left h.whole _ (and_left _ _ f)
+follows_start : (z : Offsets) (bottom : Bool) (ws : List ℕ) (c : Chunk) (j : ℕ) (o : Option Head) (n e : ℕ) → is_some (follows_at z bottom ws (head_at ws c j) o n e) ≡ true → j ≡ 0
+follows_start z bottom ws c j o n e f =
+    dite (dec_lt 0 j) (λ y. absurd (true≢false (sym f ∙ (follows_some z bottom ws (head_at ws c j) o n e ∙ follows_late z bottom ws c j o n e y)))) (λ n. omega arith)
 
 module _ (z : Offsets) (t : Inputs) (s a : Memory) (p : Paid z t s a) where
   -- a move of the sides to x and y pays for what is spent then
@@ -167,27 +163,29 @@ module _ (z : Offsets) (t : Inputs) (s a : Memory) (p : Paid z t s a) where
       }
 
   module _ (bottom : Bool) where
-    pub upper_paid : (c : Chunk) (o : Head) (e : ℕ) → c.n ≤ z.b → a.st.x.i < t.x → a.st.x.j < c.n → let h = head_at a.words c a.st.x.j in let r = follows z bottom a.words h o a.st.buf.n e in
-        Paid z t s (emitted z bottom a (record { x = point_after a.st.x c.n r; y = a.st.y; head = h; whole = r }))
+    pub upper_paid : (c : Chunk) (o : Option Head) (e : ℕ) → c.n ≤ z.b → a.st.x.i < t.x → a.st.x.j < c.n → let h = head_at a.words c a.st.x.j in let w = follows_at z bottom a.words h o a.st.buf.n e in
+        Paid z t s (emitted z bottom a (record { x = point_after a.st.x c.n (is_some w); y = a.st.y; head = h; whole = w }))
     upper_paid c o e hi g j =
         let h = head_at a.words c a.st.x.j in
-        let r = follows z bottom a.words h o a.st.buf.n e in
+        let w = follows_at z bottom a.words h o a.st.buf.n e in
+        let r = is_some w in
         let v = point_after a.st.x c.n r in
         paid_by v a.st.y _ (on_list z.b r) (on_places z.b r) (on_list z.b r) (on_places z.b r) 0 0
-        (after_far z.b t.x a.st.x c.n r g j hi (follows_start z bottom a.words c a.st.x.j o a.st.buf.n e)) (stay_far z.b t.y a.st.y p.y_end) (omega arith) (omega arith) (emit_spent z a bottom v a.st.y h r)
+        (after_far z.b t.x a.st.x c.n r g j hi (follows_start z bottom a.words c a.st.x.j o a.st.buf.n e)) (stay_far z.b t.y a.st.y p.y_end) (omega arith) (omega arith) (emit_spent z a bottom v a.st.y h w)
 
-    pub lower_paid : (c : Chunk) (o : Head) (e : ℕ) → c.n ≤ z.b → a.st.y.i < t.y → a.st.y.j < c.n → let h = head_at a.words c a.st.y.j in let r = follows z bottom a.words h o a.st.buf.n e in
-        Paid z t s (emitted z bottom a (record { x = a.st.x; y = point_after a.st.y c.n r; head = h; whole = r }))
+    pub lower_paid : (c : Chunk) (o : Option Head) (e : ℕ) → c.n ≤ z.b → a.st.y.i < t.y → a.st.y.j < c.n → let h = head_at a.words c a.st.y.j in let w = follows_at z bottom a.words h o a.st.buf.n e in
+        Paid z t s (emitted z bottom a (record { x = a.st.x; y = point_after a.st.y c.n (is_some w); head = h; whole = w }))
     lower_paid c o e hi g j =
         let h = head_at a.words c a.st.y.j in
-        let r = follows z bottom a.words h o a.st.buf.n e in
+        let w = follows_at z bottom a.words h o a.st.buf.n e in
+        let r = is_some w in
         let v = point_after a.st.y c.n r in
         paid_by a.st.x v _ (on_list z.b r) (on_places z.b r) 0 0 (on_list z.b r) (on_places z.b r)
-        (stay_far z.b t.x a.st.x p.x_end) (after_far z.b t.y a.st.y c.n r g j hi (follows_start z bottom a.words c a.st.y.j o a.st.buf.n e)) (omega arith) (omega arith) (emit_spent z a bottom a.st.x v h r)
+        (stay_far z.b t.x a.st.x p.x_end) (after_far z.b t.y a.st.y c.n r g j hi (follows_start z bottom a.words c a.st.y.j o a.st.buf.n e)) (omega arith) (omega arith) (emit_spent z a bottom a.st.x v h w)
 
-    pub both_paid : (c d : Chunk) (h : Head) → c.n ≤ z.b → d.n ≤ z.b → a.st.x.i < t.x → a.st.x.j < c.n → a.st.y.i < t.y → a.st.y.j < d.n → Paid z t s (emitted z bottom a (record { x = point_after a.st.x c.n false; y = point_after a.st.y d.n false; head = h; whole = false }))
+    pub both_paid : (c d : Chunk) (h : Head) → c.n ≤ z.b → d.n ≤ z.b → a.st.x.i < t.x → a.st.x.j < c.n → a.st.y.i < t.y → a.st.y.j < d.n → Paid z t s (emitted z bottom a (record { x = point_after a.st.x c.n false; y = point_after a.st.y d.n false; head = h; whole = None }))
     both_paid c d h hc hd gx jx gy jy =
         let v = point_after a.st.x c.n false in
         let w = point_after a.st.y d.n false in
         paid_by v w _ 1 1 1 1 1 1
-        (after_far z.b t.x a.st.x c.n false gx jx hc (λ e. absurd (true≢false (sym e)))) (after_far z.b t.y a.st.y d.n false gy jy hd (λ e. absurd (true≢false (sym e)))) (omega arith) (omega arith) (emit_spent z a bottom v w h false)
+        (after_far z.b t.x a.st.x c.n false gx jx hc (λ e. absurd (true≢false (sym e)))) (after_far z.b t.y a.st.y d.n false gy jy hd (λ e. absurd (true≢false (sym e)))) (omega arith) (omega arith) (emit_spent z a bottom v w h None)

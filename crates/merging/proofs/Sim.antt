@@ -3,6 +3,7 @@ use Prim.Native.Nat.{ℕ, suc, ◌+◌, ◌-◌, ◌≤◌, ◌<◌}
 use mathlib.Core.Path.{◌≡◌, sym, ap, subst, ◌∙◌, refl}
 use mathlib.Core.Bool.{Bool, true, false, ◌&&◌, true≢false}
 use mathlib.Core.List.{List, [], ◌∷◌, ◌++◌}
+use Rattle.std.specs.Prelude.{Option, None, Some, is_some}
 use native.Mathlib.Decide.{dec_lt}
 use native.Mathlib.Numerals.{add-one}
 use native.Mathlib.Nat.{le_refl}
@@ -12,7 +13,7 @@ use lib.ListN.{length, get_or, set, length-append}
 use lib.Seq.{get_or-set_same}
 use borrow.Author.Tests.{le-leb, lt-leb, leb-true, eqb-true, eqb-false, ltb-true, ltb-false}
 use Rattle.levels.specs.Basics.{if◌then◌otherwise◌}
-use Rattle.levels.specs.Record.{Rec, Block, Level, new, size, placed}
+use Rattle.levels.specs.Record.{Rec, Block, Level, new, size}
 use Rattle.levels.specs.Merge.{Out, State, head_rec, reusable, flush, rest, reuse, gather, from_upper, from_lower, from_both, step}
 use Rattle.blocks.specs.declared.Offsets.{Offsets}
 use Rattle.blocks.specs.Blocks.{buffer_of, pushed}
@@ -22,9 +23,9 @@ use Rattle.sides.specs.declared.Head.{Head}
 use Rattle.stream.specs.declared.Point.{Point}
 use Rattle.stream.specs.declared.Move.{Move}
 use Rattle.stream.specs.declared.Inputs.{Inputs}
-use Rattle.sides.specs.Sides.{block_chunk, chunk_of, head_of, head_at, no_head, last_size, follows}
+use Rattle.sides.specs.Sides.{block_chunk, chunk_of, head_of, head_at, no_head, last_size, follows, follows_at}
+use Rattle.sides.proofs.Laws.{follows_some, place_of_start}
 use Rattle.stream.specs.Machine.{Memory, flushed, append, gathered, reused, emitted, with_progress, with_buffer, point_after, moved, chosen, turn, idle}
-use Rattle.levels.proofs.Basics.{and_left, and_right}
 use Rattle.stream.proofs.Laws.{flushed_m, after_one, idle_of}
 use Rattle.merging.proofs.Relation.{next_free, Holds, Stands, SideAt, LastIs, Core, Budget, Sim}
 use Rattle.merging.proofs.Blocks.{block_of, stored_at, count_at, begun, side, Flash}
@@ -33,7 +34,7 @@ use Rattle.merging.proofs.Heads.{recs_length, Shows, shows_at, Sees, nothing, bl
 use Rattle.merging.proofs.Moves.{side_cons, side_none, rest_more, rest_last}
 use Rattle.merging.proofs.Outs.{Fit, full_test, flush_holds, append_holds, gather_holds}
 use Rattle.merging.proofs.Frame.{Kept, flush_kept, append_kept, gather_kept, count_kept, block_same, side_kept, side_same}
-use Rattle.merging.proofs.Steps.{past, put, from_upper_lem, from_lower_lem, placed_of, gather_few}
+use Rattle.merging.proofs.Steps.{past, put, from_upper_lem, from_lower_lem, gather_few}
 
 -- the same world, at another place of the sides
 moved_holds : (z : Offsets) (d : Flash) (o : Out) (a : Memory) (x y : Point) → Holds z d o a → Holds z d o (moved a x y)
@@ -52,7 +53,7 @@ three P fx fy kx ky ex ey sl su sb wl wu wb pl pu pb = rw (ex, ey) (go (ltb fy f
     go false false false p q r = absurd (omega (arith, eqb-false fy fx q, ltb-false fx fy r, ltb-false fy fx p))
 
 -- what a side reads at a record, and at its end
-pub head_at_lem : (z : Offsets) (pages : Bool) (ws list : List ℕ) (i j end : ℕ) → i < end → head_of z pages ws list i j end ≡ head_at ws (chunk_of z pages ws list i) j
+pub head_at_lem : (z : Offsets) (pages : Bool) (ws list : List ℕ) (i j end : ℕ) → i < end → head_of z pages ws list i j end ≡ Some (head_at ws (chunk_of z pages ws list i) j)
 unfolding head_of
 head_at_lem z pages ws list i j end h = rw (lt-leb end i h)
 
@@ -68,11 +69,13 @@ record Placed (z : Offsets) (ws : List ℕ) (used : List Bool) (q : ℕ) (b : Bl
   is : b ≡ stored_at z ws q
 
 -- a listed chunk that stands is such a block
-listed_placed : (z : Offsets) (pages : Bool) (ws : List ℕ) (used : List Bool) (list : List ℕ) (k : ℕ) → Stands z pages ws used list k → (chunk_of z pages ws list k).listed ≡ true
-    → Placed z ws used (chunk_of z pages ws list k).place (block_of ws (chunk_of z pages ws list k))
+listed_placed : (z : Offsets) (pages : Bool) (ws : List ℕ) (used : List Bool) (list : List ℕ) (k : ℕ) → Stands z pages ws used list k → (q : ℕ) → (chunk_of z pages ws list k).place ≡ Some q
+    → Placed z ws used q (block_of ws (chunk_of z pages ws list k))
 unfolding chunk_of
-listed_placed z true ws used list k s e = absurd (true≢false (sym e))
-listed_placed z false ws used list k s e = record { low = s.place refl; taken = s.taken refl; high = s.formed.high; is = refl }
+listed_placed z true ws used list k s q e = absurd (cc)
+listed_placed z false ws used list k s q e =
+    let w : get_or list k 0 ≡ q = cc in
+    subst (λ (p : ℕ). Placed z ws used p (block_of ws (block_chunk z ws (get_or list k 0)))) w (record { low = s.place refl; taken = s.taken refl; high = s.formed.high; is = refl })
 
 -- a side at a record: what it reads, the block there as far as it is left, and the blocks behind it
 module _ {z : Offsets} {pages : Bool} {ws : List ℕ} {used : List Bool} {list : List ℕ} {end : ℕ} {p : Point} (k : SideAt z pages ws used list end p) (g : p.i < end) where
@@ -97,10 +100,12 @@ module _ {z : Offsets} {pages : Bool} {ws : List ℕ} {used : List Bool} {list :
   whole_is : eqb p.j 0 ≡ true → block_of ws chunk ≡ top
   whole_is e = rw (eqb-true p.j 0 e)
 
-  found : placed top ≡ true → Placed z ws used chunk.place top
-  found e =
-      let w = shows.whole ∙ e in
-      subst (Placed z ws used chunk.place) (whole_is (and_right chunk.listed (eqb p.j 0) w)) (listed_placed z pages ws used list p.i (k.stands p.i (le_refl p.i) g) (and_left chunk.listed (eqb p.j 0) w))
+  found : (q : ℕ) → head.place ≡ Some q → Placed z ws used q top
+  found q e = go (eqb p.j 0) refl e
+    where
+      go : (t : Bool) → eqb p.j 0 ≡ t → (if t then chunk.place otherwise None) ≡ Some q → Placed z ws used q top
+      go true f e = subst (Placed z ws used q) (whole_is f) (listed_placed z pages ws used list p.i (k.stands p.i (le_refl p.i) g) q e)
+      go false f e = absurd (cc)
 
   -- the side after the block, or after the record
   next_at : SideAt z pages ws used list end (record { i = p.i + 1; j = 0 })
@@ -202,53 +207,62 @@ module _ (z : Offsets) (t : Inputs) (xs ys : List ℕ) (d : Flash) where
           kept_on (record { upper = u; lower = l; out = reuse b o }) (append f q) (append_kept z here f q room p.low kf) (omega arith) (λ _. tl) eu el
           (append_holds z d b q (flush o.buffer o.done) f room (ap (λ (e : Block). e.place) p.is) (count_kept z here f c.sized kf.same q p.taken ∙ n) (flush_holds z d o here fit (moved_holds z d o a x y hs)))
 
-      -- the block is reused if r, else its next record is gathered
-      emit_step : (r : Bool) → (r ≡ true → Placed z a.words a.used h.place b) → h.tombstone < 2
-          → Both (record { upper = u; lower = l; out = put z.b bottom r b o }) (emitted z bottom a (record { x = x; y = y; head = h; whole = r }))
+      -- the block is reused at the place that the move has, else its next record is gathered
+      emit_step : (w : Option ℕ) → ((q : ℕ) → w ≡ Some q → Placed z a.words a.used q b) → h.tombstone < 2
+          → Both (record { upper = u; lower = l; out = put z.b bottom (is_some w) b o }) (emitted z bottom a (record { x = x; y = y; head = h; whole = w }))
       unfolding emitted
-      emit_step true p m = reuse_step h.place (p refl)
-      emit_step false p m = gather_step m
+      emit_step (Some q) p m = reuse_step q (p q refl)
+      emit_step None p m = gather_step m
 
   module _ (o : Out) (a : Memory) (c : Core z t xs ys o a) (g : Budget z a) (hs : Holds z d o a) where
-    -- whether the block that h shows is reused, where the other side reads i
-    abbrev whole : Head → Head → Bool
-    whole h i = follows z t.bottom a.words h i a.st.buf.n (last_size z a.words a.out a.st.m)
+    -- the place of the block that h shows, if it is reused where the other side reads i
+    abbrev whole : Head → Option Head → Option ℕ
+    whole h i = follows_at z t.bottom a.words h i a.st.buf.n (last_size z a.words a.out a.st.m)
 
-    test : (h i : Head) (b : Block) (l : Level) → Shows a.words h b → Sees a.words i l → whole h i ≡ reusable z.b t.bottom o l b
+    test : (h : Head) (i : Option Head) (b : Block) (l : Level) → Shows a.words h b → Sees a.words i l → is_some (whole h i) ≡ reusable z.b t.bottom o l b
     unfolding buffer_of
-    test h i b l s e = rw hs.buf (follows_same z t.bottom a.words h i b l o (last_size z a.words a.out a.st.m) s e hs.last)
+    test h i b l s e =
+        let m = last_size z a.words a.out a.st.m in
+        let f : follows z t.bottom a.words h i a.st.buf.n m ≡ reusable z.b t.bottom o l b = rw hs.buf (follows_same z t.bottom a.words h i b l o m s e hs.last) in
+        follows_some z t.bottom a.words h i a.st.buf.n m ∙ f
+
+    -- a block reused is the one that the head shows
+    placed_at : (i : Option Head) (end : ℕ) (pages : Bool) (list : List ℕ) (p : Point) (k : SideAt z pages a.words a.used list end p) (g : p.i < end) (q : ℕ) → whole (head k g) i ≡ Some q → Placed z a.words a.used q (top k g)
+    placed_at i end pages list p k g q f = found k g q (place_of_start (follows z t.bottom a.words (head k g) i a.st.buf.n (last_size z a.words a.out a.st.m)) (head k g).place q f)
 
     module _ (gx : a.st.x.i < t.x) where
-      upper_step : (i : Head) (l : Level) → l ≡ side z false a.words ys a.st.y.i a.st.y.j t.y → Sees a.words i l → let h = head c.upper gx in let r = whole h i in
-          Both (from_upper z.b t.bottom (top c.upper gx) (behind c.upper gx) l o) (emitted z t.bottom a (record { x = point_after a.st.x h.n r; y = a.st.y; head = h; whole = r }))
+      upper_step : (i : Option Head) (l : Level) → l ≡ side z false a.words ys a.st.y.i a.st.y.j t.y → Sees a.words i l → let h = head c.upper gx in let w = whole h i in
+          Both (from_upper z.b t.bottom (top c.upper gx) (behind c.upper gx) l o) (emitted z t.bottom a (record { x = point_after a.st.x h.n (is_some w); y = a.st.y; head = h; whole = w }))
       upper_step i l el e =
           let k = c.upper in
           let h = head k gx in
           let b = top k gx in
-          let r = reusable z.b t.bottom o l b in
-          rw (test h i b l (shows k gx) e)
-          (subst (λ (s : State). Both s (emitted z t.bottom a (record { x = point_after a.st.x h.n r; y = a.st.y; head = h; whole = r }))) (sym (from_upper_lem z.b t.bottom b (behind k gx) l o))
-          (emit_step o a (point_after a.st.x h.n r) a.st.y c g hs (after_at k gx r) c.lower t.bottom h b (shows k gx) (past r b (behind k gx)) l (after_side k gx r) el r (λ f. found k gx (placed_of z.b t.bottom o l b f)) (bit_low k gx)))
+          let w = whole h i in
+          let r = is_some w in
+          subst (λ (s : State). Both s (emitted z t.bottom a (record { x = point_after a.st.x h.n r; y = a.st.y; head = h; whole = w }))) (sym (from_upper_lem z.b t.bottom b (behind k gx) l o))
+          (rw (← test h i b l (shows k gx) e)
+          (emit_step o a (point_after a.st.x h.n r) a.st.y c g hs (after_at k gx r) c.lower t.bottom h b (shows k gx) (past r b (behind k gx)) l (after_side k gx r) el w (placed_at i t.x t.pages xs a.st.x k gx) (bit_low k gx)))
 
     module _ (gy : a.st.y.i < t.y) where
-      lower_step : (i : Head) (l : Level) → l ≡ side z t.pages a.words xs a.st.x.i a.st.x.j t.x → Sees a.words i l → let h = head c.lower gy in let r = whole h i in
-          Both (from_lower z.b t.bottom (top c.lower gy) (behind c.lower gy) l o) (emitted z t.bottom a (record { x = a.st.x; y = point_after a.st.y h.n r; head = h; whole = r }))
+      lower_step : (i : Option Head) (l : Level) → l ≡ side z t.pages a.words xs a.st.x.i a.st.x.j t.x → Sees a.words i l → let h = head c.lower gy in let w = whole h i in
+          Both (from_lower z.b t.bottom (top c.lower gy) (behind c.lower gy) l o) (emitted z t.bottom a (record { x = a.st.x; y = point_after a.st.y h.n (is_some w); head = h; whole = w }))
       lower_step i l el e =
           let k = c.lower in
           let h = head k gy in
           let b = top k gy in
-          let r = reusable z.b t.bottom o l b in
-          rw (test h i b l (shows k gy) e)
-          (subst (λ (s : State). Both s (emitted z t.bottom a (record { x = a.st.x; y = point_after a.st.y h.n r; head = h; whole = r }))) (sym (from_lower_lem z.b t.bottom b (behind k gy) l o))
-          (emit_step o a a.st.x (point_after a.st.y h.n r) c g hs c.upper (after_at k gy r) t.bottom h b (shows k gy) l (past r b (behind k gy)) el (after_side k gy r) r (λ f. found k gy (placed_of z.b t.bottom o l b f)) (bit_low k gy)))
+          let w = whole h i in
+          let r = is_some w in
+          subst (λ (s : State). Both s (emitted z t.bottom a (record { x = a.st.x; y = point_after a.st.y h.n r; head = h; whole = w }))) (sym (from_lower_lem z.b t.bottom b (behind k gy) l o))
+          (rw (← test h i b l (shows k gy) e)
+          (emit_step o a a.st.x (point_after a.st.y h.n r) c g hs c.upper (after_at k gy r) t.bottom h b (shows k gy) l (past r b (behind k gy)) el (after_side k gy r) w (placed_at i t.y false ys a.st.y k gy) (bit_low k gy)))
 
     both_step : (gx : a.st.x.i < t.x) (gy : a.st.y.i < t.y) → let h = head c.upper gx in let i = head c.lower gy in
-        Both (from_both z.b t.bottom (top c.upper gx) (behind c.upper gx) (top c.lower gy ∷ behind c.lower gy) o) (emitted z t.bottom a (record { x = point_after a.st.x h.n false; y = point_after a.st.y i.n false; head = h; whole = false }))
+        Both (from_both z.b t.bottom (top c.upper gx) (behind c.upper gx) (top c.lower gy ∷ behind c.lower gy) o) (emitted z t.bottom a (record { x = point_after a.st.x h.n false; y = point_after a.st.y i.n false; head = h; whole = None }))
     both_step gx gy =
         let k = c.upper in
         let l = c.lower in
         emit_step o a (point_after a.st.x (head k gx).n false) (point_after a.st.y (head l gy).n false) c g hs (after_at k gx false) (after_at l gy false) t.bottom (head k gx) (top k gx) (shows k gx)
-        (past false (top k gx) (behind k gx)) (past false (top l gy) (behind l gy)) (after_side k gx false) (after_side l gy false) false (λ f. absurd (true≢false (sym f))) (bit_low k gx)
+        (past false (top k gx) (behind k gx)) (past false (top l gy) (behind l gy)) (after_side k gx false) (after_side l gy false) None (λ q f. absurd (cc)) (bit_low k gx)
 
   -- one step on words is one step on blocks
   pub sim_step : (s : State) (a : Memory) → Core z t xs ys s.out a → Budget z a → Sim z t xs ys d s a → idle z t xs ys a ≡ false → Both (step z.b t.bottom s) (turn z t xs ys a)
@@ -261,12 +275,12 @@ module _ (z : Offsets) (t : Inputs) (xs ys : List ℕ) (d : Flash) where
           let cu = side_cons z t.pages a.words xs a.st.x.i a.st.x.j t.x gx in
           let sl = side_none z false a.words ys a.st.y.i a.st.y.j t.y (omega arith) in
           rw (m.upper ∙ cu, m.lower ∙ sl, head_at_lem z t.pages a.words xs a.st.x.i a.st.x.j t.x gx, head_no z false a.words ys a.st.y.i a.st.y.j t.y (omega arith))
-          (upper_step s.out a c g m.out gx no_head [] (sym sl) (nothing refl))
+          (upper_step s.out a c g m.out gx no_head [] (sym sl) nothing)
       go (no nx) (yes gy) =
           let cl = side_cons z false a.words ys a.st.y.i a.st.y.j t.y gy in
           let su = side_none z t.pages a.words xs a.st.x.i a.st.x.j t.x (omega arith) in
           rw (m.lower ∙ cl, m.upper ∙ su, head_at_lem z false a.words ys a.st.y.i a.st.y.j t.y gy, head_no z t.pages a.words xs a.st.x.i a.st.x.j t.x (omega arith))
-          (lower_step s.out a c g m.out gy no_head [] (sym su) (nothing refl))
+          (lower_step s.out a c g m.out gy no_head [] (sym su) nothing)
       go (yes gx) (yes gy) =
           let cu = side_cons z t.pages a.words xs a.st.x.i a.st.x.j t.x gx in
           let cl = side_cons z false a.words ys a.st.y.i a.st.y.j t.y gy in

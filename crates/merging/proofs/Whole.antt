@@ -3,6 +3,7 @@ use Prim.Native.Nat.{ℕ, zero, suc, ◌+◌, ◌-◌, ◌≤◌, ◌<◌}
 use mathlib.Core.Path.{◌≡◌, ◌∙◌, refl}
 use mathlib.Core.Bool.{Bool, true, false}
 use mathlib.Core.List.{List}
+use Rattle.std.specs.Prelude.{Option, None, Some}
 use native.Mathlib.Nat.{le_refl}
 use native.Mathlib.Omega.{arith}
 use lib.ListN.{get_or}
@@ -14,7 +15,7 @@ use Rattle.blocks.proofs.Laws.{free_found}
 use Rattle.stream.specs.declared.Move.{Move}
 use Rattle.stream.specs.declared.Inputs.{Inputs}
 use Rattle.sides.specs.Sides.{block_chunk, chunk_of}
-use Rattle.stream.specs.Machine.{Memory, gathered, reused, emitted, moved_to, moved, turn, idle, turns}
+use Rattle.stream.specs.Machine.{Memory, gathered, reused, emitted, moved_on, moved_to, moved, turn, idle, turns}
 use Rattle.levels.proofs.Basics.{if_either}
 use Rattle.stream.proofs.Laws.{idle_ends}
 use Rattle.joins.specs.Joins.{closed}
@@ -31,16 +32,23 @@ same_next z a b c k l =
 
 emit_same : (z : Offsets) (bottom : Bool) (a : Memory) (c : Move) → Free a.used (next_free z a) → Same z a (emitted z bottom a c)
 unfolding emitted reused
-emit_same z bottom a c f =
-    let b : Memory = moved a c.x c.y in
-    let k = (flush_kept z b f).same in
-    if_either (Same z a) c.whole (reused z b c.head.place) (gathered z bottom b c.head) (record { words = k.words; low = k.low; used = k.used })
-    (same_from z a (gathered z bottom b c.head) (moved_to a.st c.x c.y) (gather_kept z bottom b c.head f).same)
+emit_same z bottom a c f = go c.whole
+  where
+    b : Memory
+    b = moved a c.x c.y
+
+    go : (w : Option ℕ) → Same z a (elim w [ Some q ↦ reused z b q | None ↦ gathered z bottom b c.head ])
+    go (Some q) = let k = (flush_kept z b f).same in record { words = k.words; low = k.low; used = k.used }
+    go None = same_from z a (gathered z bottom b c.head) (moved_to a.st c.x c.y) (gather_kept z bottom b c.head f).same
 
 module _ (z : Offsets) (t : Inputs) (xs ys : List ℕ) where
   turn_same : (a : Memory) → Free a.used (next_free z a) → Same z a (turn z t xs ys a)
   unfolding turn
-  turn_same a f = emit_same z t.bottom a _ f
+  turn_same a f = go _
+    where
+      go : (m : Option Move) → Same z a (moved_on z t.bottom a m)
+      go (Some c) = emit_same z t.bottom a c f
+      go None = record { words = λ q u j h. refl; low = λ i h. refl; used = λ q u. u }
 
   pub turns_same : (n : ℕ) (a : Memory) → ((i : ℕ) → i < n → Free (turns z t xs ys i a).used (next_free z (turns z t xs ys i a))) → Same z a (turns z t xs ys n a)
   unfolding turns

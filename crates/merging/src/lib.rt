@@ -7,10 +7,10 @@ ghost use Rattle.blocks.specs.Blocks.{Marks};
 ghost use Rattle.geometry.specs.Room.{list_room};
 ghost use Rattle.merging.specs.Contract.{merge_of, Mergeable, Leaves, inputs_of, begin_of, limit_of};
 
-use blocks::Offsets;
+use blocks::{Buffer, Offsets};
 use geometry::Geometry;
 use layout::Layout;
-use stream::{Inputs, Point, Progress};
+use stream::{Desk, Inputs, Point, Progress};
 
 // Where a merge's blocks stand: X is the chunks x to xend of the upper level, the lower level's list
 // the entries start to end of an array, and Y the entries y to yend of it; X may be pages of level 0,
@@ -53,7 +53,6 @@ impl Cut {
         requires { self.start ≤ self.y }
         ensures { result ≡ begin_of self cursor }
     {
-        let empty = blocks::empty();
         let x = Point { i: self.x, j: 0 };
         let y = Point { i: self.y, j: 0 };
         Progress {
@@ -62,7 +61,7 @@ impl Cut {
             m: self.y - self.start,
             writes: 0,
             cursor: cursor,
-            buf: empty,
+            buf: Buffer::default(),
         }
     }
 
@@ -77,34 +76,33 @@ impl Cut {
 
 // Steps 3 and 4 of a merge. For every list of places in use that the marks stand for, the words, the
 // new list, the cursor and the marks afterwards are those of the merged level, its new blocks settled
-// in key order; the new list is in `out`.
+// in key order; the new list is on the desk.
 pub fn merge_blocks(
     s: &mut [u32],
-    used: &mut [bool; Geometry::MAX_P],
-    out: &mut [u32; Geometry::LIST_ROOM],
+    desk: &mut Desk,
     xs: &[u32; Geometry::LIST_ROOM],
     ys: &[u32; Geometry::LIST_ROOM],
     z: Layout,
     parts: Cut,
     cursor: usize,
 ) -> Merged
-    requires { Mergeable z s.old used.old out.old xs.now ys.now parts cursor }
-    ensures { (a : Allocation) → a.cursor ≡ cursor → Marks used.old a.used
-        → Leaves z (settle z.geo.p a (merge_of z s.old xs.now ys.now parts)) s.old s.new used.new out.new result }
+    requires { Mergeable z s.old desk.old.used desk.old.out xs.now ys.now parts cursor }
+    ensures { (a : Allocation) → a.cursor ≡ cursor → Marks desk.old.used a.used
+        → Leaves z (settle z.geo.p a (merge_of z s.old xs.now ys.now parts)) s.old s.new desk.new.used desk.new.out result }
 {
     let o = Offsets::of(z);
     let t = parts.inputs();
     let start = parts.start;
     let y = parts.y;
     let end = parts.end;
-    let st = parts.begin(cursor);
+    desk.st = parts.begin(cursor);
     let limit = parts.limit();
-    joins::copy_entries(out, ys, 0, start, y);
-    let v = stream::stream(s, used, out, xs, ys, o, t, st, limit);
-    let r = joins::close(s, used, out, ys, o, v, end);
+    slices::copy(ys, start, y - start, &mut desk.out, 0);
+    desk.stream(s, xs, ys, o, t, limit);
+    joins::close(s, desk, ys, o, end);
     Merged {
-        count: r.m,
-        cursor: r.cursor,
-        writes: r.writes,
+        count: desk.st.m,
+        cursor: desk.st.cursor,
+        writes: desk.st.writes,
     }
 }

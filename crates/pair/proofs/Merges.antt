@@ -1,12 +1,14 @@
 -- What a merge in the array of lists asks and leaves, and that it is a merge of parts of levels.
 use Prim.Native.Nat.{ℕ, zero, suc, ◌+◌, ◌-◌, ◌*◌, ◌≤◌, ◌<◌}
-use mathlib.Core.Path.{◌≡◌, sym, ap, ◌∙◌}
+use mathlib.Core.Path.{◌≡◌, refl, sym, ap, ◌∙◌}
 use mathlib.Core.Bool.{Bool, true, false}
 use mathlib.Core.List.{List, [], ◌∷◌, map}
 use native.Mathlib.Nat.{add-zero}
 use native.Mathlib.Omega.{arith}
 use lib.ListN.{length, get_or, take, drop, length-map, length-drop}
 use lib.Seq.{take_all, length-take-le, get_or-take}
+use Rattle.std.specs.Prelude.{Option, None, Some}
+use Rattle.std.specs.Option.{unwrap_or, option_map}
 use Rattle.geometry.specs.Room.{places_most, list_room}
 use Rattle.levels.specs.Record.{Level, records, rising, new}
 use Rattle.levels.specs.Rising.{Rising}
@@ -158,3 +160,7 @@ lower_leaves z st j ws ws' used' out lists lists' v k n w above under p c a writ
       first = c.first;
       overlap = c.overlap;
     }
+-- what is made of a value, or of another where there is none
+pub made_or : {A B : Type 0} (f : A → B) (o : Option A) (d : A) → f (unwrap_or o d) ≡ unwrap_or (option_map f o) (f d)
+made_or f None d = refl
+made_or f (Some x) d = refl

@@ -3,6 +3,7 @@
 #![tactic(auto)]
 
 ghost use Rattle.std.specs.Prelude.{◌≡◌, map, suc, ◌+◌, ◌≤◌, length};
+ghost use Rattle.std.specs.Option.{unwrap_or, option_map};
 ghost use Rattle.geometry.specs.Room.{list_room};
 ghost use Rattle.levels.specs.Record.{Level, pages};
 ghost use Rattle.levels.specs.Place.{Allocation, settle};
@@ -18,6 +19,7 @@ use choice::Fence;
 use geometry::Geometry;
 use layout::Layout;
 use merging::{Cut, Merged};
+use stream::Desk;
 
 // The blocks of a level at most, whose first and last keys the choice goes by: 2 × K(i) during a call.
 const FENCES: usize = 2 * Geometry::MAX_BOTTOM;
@@ -125,46 +127,24 @@ fn choose_pages(s: &[u32], lower: &[u32], z: Layout, a: usize, w: usize) -> Pick
     pick(s, lower, z, &above[..a], w)
 }
 
-// Steps 3 and 4 with the new list put in the place of the old one, which its blocks are read from till the end.
+// Steps 3 and 4 with the new list put in the place of the old one, which its blocks are read from till the end. Where X is pages of
+// level 0 no list is read for it, and there is none: the lists stand for one.
 fn merge_list(
     s: &mut [u32],
-    used: &mut [bool; Geometry::MAX_P],
+    desk: &mut Desk,
     lists: &mut [u32; Geometry::LIST_ROOM],
-    xs: &[u32; Geometry::LIST_ROOM],
+    xs: Option<&[u32; Geometry::LIST_ROOM]>,
     z: Layout,
     parts: Cut,
     cursor: usize,
 ) -> Merged
-    requires { Relistable z s.old used.old lists.old xs.now parts cursor }
-    ensures { (a : Allocation) → a.cursor ≡ cursor → Marks used.old a.used
-        → Relisted z (settle z.geo.p a (merge_of z s.old xs.now lists.old parts)) parts.start s.old s.new used.new lists.old lists.new result }
+    requires { Relistable z s.old desk.old.used lists.old (unwrap_or (option_map (λ l. l.now) xs) lists.old) parts cursor }
+    ensures { (a : Allocation) → a.cursor ≡ cursor → Marks desk.old.used a.used
+        → Relisted z (settle z.geo.p a (merge_of z s.old (unwrap_or (option_map (λ l. l.now) xs.entry) lists.old) lists.old parts)) parts.start s.old s.new desk.new.used lists.old lists.new result }
 {
-    let mut out = [0u32; Geometry::LIST_ROOM];
-    let start = parts.start;
-    let r = merging::merge_blocks(s, used, &mut out, xs, lists, z, parts, cursor);
-    let count = r.count;
-    slices::copy(&out, 0, count, lists, start);
-    r
-}
-
-// The same where X is pages of level 0, so that no list is read for it: the lists stand for one.
-fn merge_paged(
-    s: &mut [u32],
-    used: &mut [bool; Geometry::MAX_P],
-    lists: &mut [u32; Geometry::LIST_ROOM],
-    z: Layout,
-    parts: Cut,
-    cursor: usize,
-) -> Merged
-    requires { Relistable z s.old used.old lists.old lists.old parts cursor }
-    ensures { (a : Allocation) → a.cursor ≡ cursor → Marks used.old a.used
-        → Relisted z (settle z.geo.p a (merge_of z s.old lists.old lists.old parts)) parts.start s.old s.new used.new lists.old lists.new result }
-{
-    let mut out = [0u32; Geometry::LIST_ROOM];
-    let start = parts.start;
-    let r = merging::merge_blocks(s, used, &mut out, lists, lists, z, parts, cursor);
-    let count = r.count;
-    slices::copy(&out, 0, count, lists, start);
+    let x = xs.unwrap_or(lists);
+    let r = merging::merge_blocks(s, desk, x, lists, z, parts, cursor);
+    slices::copy(&desk.out, 0, r.count, lists, parts.start);
     r
 }
 
@@ -172,16 +152,16 @@ fn merge_paged(
 // Step 2 writes first, so its block takes its place before those of steps 3 and 4.
 pub fn merge_pair(
     s: &mut [u32],
-    used: &mut [bool; Geometry::MAX_P],
+    desk: &mut Desk,
     lists: &mut [u32; Geometry::LIST_ROOM],
     z: Layout,
     level: usize,
     lengths: Lengths,
     cursor: usize,
 ) -> Step
-    requires { PairReady z s.old used.old lists.old level lengths.above lengths.under cursor }
-    ensures { (al : Allocation) → al.cursor ≡ cursor → Marks used.old al.used
-        → PairMerged z level (level_of z s.old (part_of z.geo.h lists.old level) lengths.above) (level_of z s.old (part_of z.geo.h lists.old (suc level)) lengths.under) al s.old s.new used.new lists.old lists.new result }
+    requires { PairReady z s.old desk.old.used lists.old level lengths.above lengths.under cursor }
+    ensures { (al : Allocation) → al.cursor ≡ cursor → Marks desk.old.used al.used
+        → PairMerged z level (level_of z s.old (part_of z.geo.h lists.old level) lengths.above) (level_of z s.old (part_of z.geo.h lists.old (suc level)) lengths.under) al s.old s.new desk.new.used lists.old lists.new result }
 {
     let g = z.geo;
     let h = g.levels();
@@ -201,9 +181,9 @@ pub fn merge_pair(
     let mut xs = [0u32; Geometry::LIST_ROOM];
     slices::copy(lists, gap.y, w, &mut xs, picked.first);
     slices::copy_down(lists, gap.y + w, gap.end - gap.y, gap.y);
-    let u = merge_list(s, used, lists, &xs, z, gap, cursor);
+    let u = merge_list(s, desk, lists, Some(&xs), z, gap, cursor);
     let parts = picked.cut(w, below, lengths.under, false, next == h);
-    let l = merge_list(s, used, lists, &xs, z, parts, u.cursor);
+    let l = merge_list(s, desk, lists, Some(&xs), z, parts, u.cursor);
     Step {
         above: u.count,
         under: l.count,
@@ -218,15 +198,15 @@ pub fn merge_pair(
 // caller takes the pages out afterwards, `above` of them staying.
 pub fn merge_pages(
     s: &mut [u32],
-    used: &mut [bool; Geometry::MAX_P],
+    desk: &mut Desk,
     lists: &mut [u32; Geometry::LIST_ROOM],
     z: Layout,
     n: usize,
     cursor: usize,
 ) -> Step
-    requires { PagesReady z s.old used.old lists.old n cursor }
-    ensures { (al : Allocation) → al.cursor ≡ cursor → Marks used.old al.used
-        → PagesMerged z (level_of z s.old (part_of z.geo.h lists.old 1) n) al s.old s.new used.new lists.old lists.new result }
+    requires { PagesReady z s.old desk.old.used lists.old n cursor }
+    ensures { (al : Allocation) → al.cursor ≡ cursor → Marks desk.old.used al.used
+        → PagesMerged z (level_of z s.old (part_of z.geo.h lists.old 1) n) al s.old s.new desk.new.used lists.old lists.new result }
 {
     let g = z.geo;
     let h = g.levels();
@@ -236,7 +216,7 @@ pub fn merge_pages(
     let all = &lists[..];
     let picked = choose_pages(s, &all[at..at + n], z, a, w);
     let parts = picked.cut(w, at, n, true, 1 == h);
-    let l = merge_paged(s, used, lists, z, parts, cursor);
+    let l = merge_list(s, desk, lists, None, z, parts, cursor);
     Step {
         above: a - w,
         under: l.count,

@@ -1,24 +1,25 @@
 -- Laws of what a side reads.
 use Prim.Native.Nat.{ℕ, suc, ◌+◌, ◌-◌, ◌*◌, ◌^◌, ◌≤◌, ◌<◌}
-use mathlib.Core.Path.{◌≡◌, refl, sym, ◌∙◌}
-use mathlib.Core.Bool.{Bool, true, false, not, ◌&&◌, ◌||◌, true≢false}
+use mathlib.Core.Path.{◌≡◌, refl, sym, ◌∙◌, subst}
+use mathlib.Core.Bool.{Bool, true, false, ◌&&◌, true≢false}
 use mathlib.Core.List.{List}
 use native.Mathlib.Nat.{mul-le-mul_right}
 use native.Mathlib.Omega.{arith}
 use lib.Dec.{leb, ltb, eqb}
-use borrow.Author.Tests.{leb-false}
+use borrow.Author.Tests.{leb-true, leb-false, lt-leb, ne_eqb}
 use lib.ListN.{length, get_or, take, drop, length-drop}
 use lib.Seq.{length-take-le, get_or-take, get_or-drop}
-use Rattle.slices.specs.declared.Rank.{Rank}
-use Rattle.slices.specs.Ranks.{rank_of}
+use Rattle.std.specs.Prelude.{Option, Some, None, is_some}
+use Rattle.slices.specs.Ranks.{count_below}
 use Rattle.slices.proofs.Ranks.{all_below}
 use Rattle.levels.specs.Basics.{if◌then◌otherwise◌}
 use Rattle.levels.proofs.Basics.{if_either}
 use Rattle.blocks.specs.declared.Offsets.{Offsets}
 use Rattle.blocks.specs.Blocks.{Sized, start_of}
 use Rattle.blocks.proofs.Laws.{ends}
+use Rattle.sides.specs.declared.Chunk.{Chunk}
 use Rattle.sides.specs.declared.Head.{Head}
-use Rattle.sides.specs.Sides.{HeadOk, Chunked, Readable, Searchable, chunk_of, head_of, head_at, no_head, last_size}
+use Rattle.sides.specs.Sides.{HeadOk, Chunked, Readable, Searchable, chunk_of, head_of, head_at, no_head, last_size, whole_below, follows, follows_at}
 
 -- the words of a chunk lie in the store
 pub chunk_inside : (z : Offsets) (pages : Bool) (xs list : List ℕ) (i : ℕ) → Chunked z pages xs list i → (chunk_of z pages xs list i).n ≤ z.b
@@ -37,72 +38,103 @@ page_inside z xs i s l = let m = mul-le-mul_right {m = i} {n = z.top} z.b (omega
 pub readable_chunked : (z : Offsets) (pages : Bool) (xs list : List ℕ) (i j end : ℕ) → Readable z pages xs list i j end → i < end → Chunked z pages xs list i
 readable_chunked z pages xs list i j end k h = record { sized = k.sized; low = omega (arith, k.end_high); place = k.place h; page = k.page h }
 
-chunk_place_lem : (z : Offsets) (pages : Bool) (xs list : List ℕ) (i : ℕ) → Chunked z pages xs list i → (chunk_of z pages xs list i).place < 8192
+chunk_place_lem : (z : Offsets) (pages : Bool) (xs list : List ℕ) (i : ℕ) → Chunked z pages xs list i → (q : ℕ) → (chunk_of z pages xs list i).place ≡ Some q → q < 8192
 unfolding chunk_of
-chunk_place_lem z true xs list i k = omega arith
-chunk_place_lem z false xs list i k = let l = k.place refl in let s = k.sized in omega arith
+chunk_place_lem z true xs list i k q e = absurd (cc)
+chunk_place_lem z false xs list i k q e = let f : get_or list i 0 ≡ q = cc in let l = k.place refl in let s = k.sized in omega arith
 
--- the next record of a side is a record
-pub head_ok : (z : Offsets) (pages : Bool) (xs list : List ℕ) (i j end : ℕ) → Readable z pages xs list i j end → HeadOk (head_of z pages xs list i j end)
-unfolding head_of
-head_ok z pages xs list i j end k = go (leb end i) refl
-  where
-    go : (t : Bool) → leb end i ≡ t → HeadOk (if t then no_head otherwise head_at xs (chunk_of z pages xs list i) j)
-    go true e = record { tombstone = omega arith; n = omega arith; place = omega arith }
-    go false e =
-        let h = leb-false end i e in
-        record { tombstone = omega arith; n = omega (arith, k.count h, k.sized); place = chunk_place_lem z pages xs list i (readable_chunked z pages xs list i j end k h) }
+-- the place that a record has, or a block that follows, is its block's
+pub place_of_start : (t : Bool) (o : Option ℕ) (q : ℕ) → (if t then o otherwise None) ≡ Some q → o ≡ Some q
+place_of_start true o q e = e
+place_of_start false o q e = absurd (cc)
 
-pub head_some : (z : Offsets) (pages : Bool) (xs list : List ℕ) (i j end : ℕ) → Readable z pages xs list i j end → (head_of z pages xs list i j end).some ≡ true → (i < 4096) × (j < 16)
+pub head_none : (z : Offsets) (pages : Bool) (xs list : List ℕ) (i j end : ℕ) → head_of z pages xs list i j end ≡ None → end ≤ i
 unfolding head_of
-head_some z pages xs list i j end k s = go (leb end i) refl s
+head_none z pages xs list i j end e = go (leb end i) refl e
   where
-    go : (t : Bool) → leb end i ≡ t → (if t then no_head otherwise head_at xs (chunk_of z pages xs list i) j).some ≡ true → (i < 4096) × (j < 16)
-    go true e s = absurd (true≢false (sym s))
-    go false e s = let h = leb-false end i e in (omega (arith, k.end_high), omega (arith, k.inside h, k.count h, k.sized))
+    go : (t : Bool) → leb end i ≡ t → (if t then no_head otherwise Some (head_at xs (chunk_of z pages xs list i) j)) ≡ None → end ≤ i
+    go true f e = leb-true end i f
+    go false f e = absurd (cc)
 
-pub head_inside : (z : Offsets) (pages : Bool) (xs list : List ℕ) (i j end : ℕ) → Readable z pages xs list i j end → (head_of z pages xs list i j end).some ≡ true → j < (head_of z pages xs list i j end).n
+pub head_is : (z : Offsets) (pages : Bool) (xs list : List ℕ) (i j end : ℕ) → i < end → head_of z pages xs list i j end ≡ Some (head_at xs (chunk_of z pages xs list i) j)
 unfolding head_of
-head_inside z pages xs list i j end k s = go (leb end i) refl s
+head_is z pages xs list i j end l = rw (lt-leb end i l)
+
+-- a side that is not used up stands at a record of its chunk
+pub head_reads : (z : Offsets) (pages : Bool) (xs list : List ℕ) (i j end : ℕ) (h : Head) → head_of z pages xs list i j end ≡ Some h → (i < end) × (head_at xs (chunk_of z pages xs list i) j ≡ h)
+unfolding head_of
+head_reads z pages xs list i j end h e = go (leb end i) refl e
   where
-    go : (t : Bool) → leb end i ≡ t → (if t then no_head otherwise head_at xs (chunk_of z pages xs list i) j).some ≡ true → j < (if t then no_head otherwise head_at xs (chunk_of z pages xs list i) j).n
-    go true e s = absurd (true≢false (sym s))
-    go false e s = k.inside (leb-false end i e)
+    go : (t : Bool) → leb end i ≡ t → (if t then no_head otherwise Some (head_at xs (chunk_of z pages xs list i) j)) ≡ Some h → (i < end) × (head_at xs (chunk_of z pages xs list i) j ≡ h)
+    go true f e = absurd (cc)
+    go false f e = (leb-false end i f, cc)
+
+module _ (z : Offsets) (pages : Bool) (xs list : List ℕ) (i j end : ℕ) (k : Readable z pages xs list i j end) (h : Head) (e : head_of z pages xs list i j end ≡ Some h) where
+  abbrev chunk : Chunk
+  chunk = chunk_of z pages xs list i
+
+  within : i < end
+  within = (head_reads z pages xs list i j end h e).0
+
+  -- what holds of the chunk's record holds of the head
+  of_record : (P : Head → Type 0) → P (head_at xs chunk j) → P h
+  of_record P = subst P (head_reads z pages xs list i j end h e).1
+
+  -- the next record of a side is a record
+  pub head_ok : HeadOk h
+  head_ok =
+      of_record HeadOk (record {
+        tombstone = omega arith;
+        n = omega (arith, k.count within, k.sized);
+        place = λ q f. chunk_place_lem z pages xs list i (readable_chunked z pages xs list i j end k within) q (place_of_start (eqb j 0) chunk.place q f);
+      })
+
+  pub head_some : (i < 4096) × (j < 16)
+  head_some = (omega (arith, k.end_high, within), omega (arith, k.inside within, k.count within, k.sized))
+
+  pub head_inside : j < h.n
+  head_inside = of_record (λ (a : Head). j < a.n) (k.inside within)
+
+  -- a side that has a record stands in a block that can be searched
+  pub head_row : Searchable xs h
+  head_row =
+      let c = chunk_inside z pages xs list i (readable_chunked z pages xs list i j end k within) (k.count within) in
+      of_record (Searchable xs) (record { filled = omega (arith, k.inside within); inside = c.1; pays = c.2; rises = k.rises within })
 
 pub last_low : (z : Offsets) (xs out : List ℕ) (m : ℕ) → Sized z xs → ((i : ℕ) → get_or xs i 0 < 2 ^ 32) → last_size z xs out m < 2 ^ 32
 unfolding last_size
 last_low z xs out m k f = if_either (λ (n : ℕ). n < 2 ^ 32) (eqb m 0) z.b (get_or xs (start_of z (get_or out (m - 1) 0)) 0) (omega (arith, k.b_high)) (f _)
 
-pub head_none : (z : Offsets) (pages : Bool) (xs list : List ℕ) (i j end : ℕ) → leb end i ≡ not (head_of z pages xs list i j end).some
-unfolding head_of
-head_none z pages xs list i j end = go (leb end i)
-  where
-    go : (t : Bool) → t ≡ not (if t then no_head otherwise head_at xs (chunk_of z pages xs list i) j).some
-    go true = refl
-    go false = refl
+and_no : (p q : Bool) → p ≡ false → (p && q) ≡ false
+and_no true q e = absurd (true≢false e)
+and_no false q e = refl
 
--- where neither side's record comes first and not both are used up, both have one
-pub both_some : (a b l k : Bool) → (a && (not b || l)) ≡ false → (b && (not a || k)) ≡ false → (not a && not b) ≡ false → (a ≡ true) × (b ≡ true)
-both_some true true l k p q r = (refl, refl)
-both_some true false l k p q r = absurd (true≢false p)
-both_some false true l k p q r = absurd (true≢false q)
-both_some false false l k p q r = absurd (true≢false r)
+-- a block that has no place does not follow
+follows_placed : (z : Offsets) (bottom : Bool) (xs : List ℕ) (h : Head) (o : Option Head) (n e : ℕ) → is_some h.place ≡ false → follows z bottom xs h o n e ≡ false
+unfolding follows whole_below
+follows_placed z bottom xs h o n e w = if_either (λ (v : Bool). v ≡ false) (eqb n 0) _ _ (and_no _ _ (and_no _ _ w)) (and_no _ _ (and_no _ _ w))
 
--- a side that has a record stands in a block that can be searched
-pub head_row : (z : Offsets) (pages : Bool) (xs list : List ℕ) (i j end : ℕ) → Readable z pages xs list i j end → (head_of z pages xs list i j end).some ≡ true → Searchable xs (head_of z pages xs list i j end)
-unfolding head_of
-head_row z pages xs list i j end k s = go (leb end i) refl s
+-- nor does that of a record that is not its first
+pub follows_late : (z : Offsets) (bottom : Bool) (xs : List ℕ) (c : Chunk) (j : ℕ) (o : Option Head) (n e : ℕ) → 1 ≤ j → follows z bottom xs (head_at xs c j) o n e ≡ false
+follows_late z bottom xs c j o n e l =
+    let w : is_some (if eqb j 0 then c.place otherwise None) ≡ false = rw (ne_eqb j 0 (λ s. omega arith)) in
+    follows_placed z bottom xs (head_at xs c j) o n e w
+
+-- so a place is given exactly where the block follows
+pub follows_some : (z : Offsets) (bottom : Bool) (xs : List ℕ) (h : Head) (o : Option Head) (n e : ℕ) → is_some (follows_at z bottom xs h o n e) ≡ follows z bottom xs h o n e
+follows_some z bottom xs h o n e = go (follows z bottom xs h o n e) (is_some h.place) refl refl
   where
-    go : (t : Bool) → leb end i ≡ t → (if t then no_head otherwise head_at xs (chunk_of z pages xs list i) j).some ≡ true → Searchable xs (if t then no_head otherwise head_at xs (chunk_of z pages xs list i) j)
-    go true e s = absurd (true≢false (sym s))
-    go false e s =
-        let h = leb-false end i e in
-        let c = chunk_inside z pages xs list i (readable_chunked z pages xs list i j end k h) (k.count h) in
-        record { filled = omega (arith, k.inside h); inside = c.1; pays = c.2; rises = k.rises h }
+    go : (t u : Bool) → follows z bottom xs h o n e ≡ t → is_some h.place ≡ u → is_some (if t then h.place otherwise None) ≡ t
+    go true true f w = w
+    go true false f w = absurd (true≢false (sym f ∙ follows_placed z bottom xs h o n e w))
+    go false u f w = refl
+
+pub not_at : (z : Offsets) (bottom : Bool) (xs : List ℕ) (h : Head) (o : Option Head) (n e : ℕ) → follows z bottom xs h o n e ≡ false → follows_at z bottom xs h o n e ≡ None
+not_at z bottom xs h o n e f = rw f
 
 -- all keys of a block are below a key exactly if its last one is
-pub row_below : (xs : List ℕ) (h : Head) (k : ℕ) (r : Rank) → Searchable xs h → r ≡ rank_of k (take h.n (drop h.keys xs)) → eqb r.below h.n ≡ ltb (get_or xs (h.keys + (h.n - 1)) 0) k
-row_below xs h k r s e =
+pub row_below : (xs : List ℕ) (h : Head) (k n : ℕ) → Searchable xs h → n ≡ count_below k (take h.n (drop h.keys xs)) → eqb n h.n ≡ ltb (get_or xs (h.keys + (h.n - 1)) 0) k
+row_below xs h k n s e =
     let row = take h.n (drop h.keys xs) in
     let f = s.filled in
     let n : length row ≡ h.n = length-take-le h.n (drop h.keys xs) (rw length-drop (let i = s.inside in omega arith)) in

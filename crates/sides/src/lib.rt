@@ -1,31 +1,28 @@
 // What a side of a merge reads next: a record of a block or of a page of level 0, and whether its block may be reused.
 #![tactic(auto)]
 
-ghost use Rattle.std.specs.Prelude.{◌≡◌, true, false, ℕ, ◌+◌, ◌-◌, ◌*◌, ◌^◌, ◌%◌, ◌≤◌, ◌<◌, length, get_or};
+ghost use Rattle.std.specs.Prelude.{◌≡◌, true, false, ℕ, ◌+◌, ◌-◌, ◌*◌, ◌^◌, ◌%◌, ◌≤◌, ◌<◌, length, get_or, is_some};
 ghost use Rattle.blocks.specs.Blocks.{Sized};
 ghost use Rattle.blocks.specs.Room.{list_room};
-ghost use Rattle.sides.specs.Sides.{block_chunk, page_chunk, chunk_of, Chunked, head_of, head_at, Readable, Searchable, last_size, whole_below, follows, first};
+ghost use Rattle.sides.specs.Sides.{block_chunk, page_chunk, chunk_of, Chunked, head_of, head_at, Readable, Searchable, last_size, whole_below, follows, follows_at, first};
 
 use blocks::Offsets;
 
 // Where the records of a block or of a page of level 0 stand: the index of its mark word, of its
-// first key and of its first payload, and how many it has. A page is not listed and has no place.
+// first key and of its first payload, how many it has, and the place of a block, which is listed. A page has none.
 #[derive(Clone, Copy)]
 pub struct Chunk {
     pub marks: usize,
     pub keys: usize,
     pub pays: usize,
     pub n: usize,
-    pub place: usize,
-    pub listed: bool,
+    pub place: Option<usize>,
 }
 
 // What a side of the merge reads next: the next record, and the block that it stands in, by its mark word, the indices of its
-// first key and payload and its count. `whole` says that the record starts a listed block, which may then be reused.
+// first key and payload and its count. A record that starts a listed block has its place: the block may then be reused.
 #[derive(Clone, Copy)]
 pub struct Head {
-    pub some: bool,
-    pub whole: bool,
     pub key: u32,
     pub tombstone: u32,
     pub pay: u32,
@@ -33,15 +30,7 @@ pub struct Head {
     pub keys: usize,
     pub pays: usize,
     pub n: usize,
-    pub place: usize,
-}
-
-// Entry i of a place list, as a number to compute offsets with.
-pub fn listed(list: &[u32; blocks::LIST_ROOM], i: usize) -> usize
-    requires { i < list_room }
-    ensures { result ≡ get_or list.now i 0 }
-{
-    slices::word(list, i)
+    pub place: Option<usize>,
 }
 
 // The block at place q.
@@ -57,8 +46,7 @@ pub fn block_chunk(s: &[u32], z: Offsets, q: usize) -> Chunk
         keys: at + 2,
         pays: at + 2 + b,
         n: n,
-        place: q,
-        listed: true,
+        place: Some(q),
     }
 }
 
@@ -73,8 +61,7 @@ fn page_chunk(z: Offsets, i: usize) -> Chunk
         keys: z.keys + i * b,
         pays: z.pays + i * b,
         n: b,
-        place: 0,
-        listed: false,
+        place: None,
     }
 }
 
@@ -86,7 +73,7 @@ fn chunk_at(s: &[u32], z: Offsets, pages: bool, list: &[u32; blocks::LIST_ROOM],
     if pages {
         return page_chunk(z, i);
     }
-    let q = listed(list, i);
+    let q = list[i] as usize;
     block_chunk(s, z, q)
 }
 
@@ -102,9 +89,8 @@ pub fn head_at(s: &[u32], chunk: Chunk, j: usize) -> Head
     let m = s[ma];
     let k = s[ka + j];
     let v = s[va + j];
+    let place = if j == 0 { chunk.place } else { None };
     Head {
-        some: true,
-        whole: chunk.listed & (j == 0),
         key: k,
         tombstone: (m >> j) % 2,
         pay: v,
@@ -112,11 +98,11 @@ pub fn head_at(s: &[u32], chunk: Chunk, j: usize) -> Head
         keys: ka,
         pays: va,
         n: n,
-        place: chunk.place,
+        place: place,
     }
 }
 
-// The next record of a side: chunk i of it, record j.
+// The next record of a side: chunk i of it, record j. None: the side is used up.
 pub fn peek(
     s: &[u32],
     z: Offsets,
@@ -125,26 +111,15 @@ pub fn peek(
     i: usize,
     j: usize,
     end: usize,
-) -> Head
+) -> Option<Head>
     requires { Readable z pages s.now list.now i j end }
     ensures { result ≡ head_of z pages s.now list.now i j end }
 {
     if end <= i {
-        return Head {
-            some: false,
-            whole: false,
-            key: 0,
-            tombstone: 0,
-            pay: 0,
-            marks: 0,
-            keys: 0,
-            pays: 0,
-            n: 0,
-            place: 0,
-        };
+        return None;
     }
     let chunk = chunk_at(s, z, pages, list, i);
-    head_at(s, chunk, j)
+    Some(head_at(s, chunk, j))
 }
 
 // The size of the last block of the list so far; B where there is none.
@@ -155,45 +130,48 @@ pub fn last_size(s: &[u32], z: Offsets, out: &[u32; blocks::LIST_ROOM], m: usize
     if m == 0 {
         return z.b;
     }
-    let q = listed(out, m - 1);
+    let q = out[m - 1] as usize;
     let at = blocks::place_start(z, q);
     slices::word(s, at)
 }
 
-// a's next record comes before that of b.
-pub fn before(a: Head, other: Head) -> bool
+// The next record of a comes before that of the other side.
+pub fn before(a: Option<Head>, other: Option<Head>) -> bool
     ensures { result ≡ first a other }
 {
-    a.some & (!other.some | (a.key < other.key))
+    match (a, other) {
+        (Some(a), Some(b)) => a.key < b.key,
+        (Some(_), None) => true,
+        (None, _) => false,
+    }
 }
 
 // a starts a listed block that ends below the other's next key: all its keys are below it.
-fn whole_below(s: &[u32], a: Head, other: Head) -> bool
-    requires { a.whole ≡ true → Searchable s.now a }
+fn whole_below(s: &[u32], a: Head, other: Option<Head>) -> bool
+    requires { is_some a.place ≡ true → Searchable s.now a }
     ensures { result ≡ whole_below s.now a other }
 {
-    if !a.whole {
+    if a.place.is_none() {
         return false;
     }
-    if !other.some {
+    let Some(b) = other else {
         return true;
-    }
+    };
     let n = a.n;
-    let at = slices::rank_of(s, a.keys, n, other.key as usize);
-    at.below == n
+    slices::count_below(s, a.keys, n, b.key as usize) == n
 }
 
 // a's block may follow as it stands: the buffer has n records, the last block e.
-pub fn reusable(
+fn may_follow(
     s: &[u32],
     z: Offsets,
     bottom: bool,
     a: Head,
-    other: Head,
+    other: Option<Head>,
     n: usize,
     e: usize,
 ) -> bool
-    requires { (z.b ≤ 16) × (a.n ≤ 16) × (n ≤ 16) × (e < 2 ^ 32) × (a.whole ≡ true → Searchable s.now a) }
+    requires { (z.b ≤ 16) × (a.n ≤ 16) × (n ≤ 16) × (e < 2 ^ 32) × (is_some a.place ≡ true → Searchable s.now a) }
     ensures { result ≡ follows z bottom s.now a other n e }
 {
     let cap = z.b;
@@ -204,4 +182,24 @@ pub fn reusable(
         return below & (clean & (cap < e + size));
     }
     below & (clean & ((cap < n + size) & (cap < e + n)))
+}
+
+// The place of a's block, where it may follow as it stands.
+pub fn reusable(
+    s: &[u32],
+    z: Offsets,
+    bottom: bool,
+    a: Head,
+    other: Option<Head>,
+    n: usize,
+    e: usize,
+) -> Option<usize>
+    requires { (z.b ≤ 16) × (a.n ≤ 16) × (n ≤ 16) × (e < 2 ^ 32) × (is_some a.place ≡ true → Searchable s.now a) }
+    ensures { result ≡ follows_at z bottom s.now a other n e }
+{
+    if may_follow(s, z, bottom, a, other, n, e) {
+        a.place
+    } else {
+        None
+    }
 }

@@ -15,6 +15,7 @@ use geometry::Geometry;
 use layout::Layout;
 use levels::Ticket;
 use pair::Lengths;
+use stream::Desk;
 
 // Of one level: merges into it, blocks written by them, blocks written compacting it.
 #[derive(Clone, Copy, Default)]
@@ -115,13 +116,12 @@ fn compact_level(
     if !compaction::needs_compacting(s, list, z) {
         return r;
     }
-    let mut used = [false; Geometry::MAX_P];
-    marks(&mut used, lists, h, ns);
-    let mut out = [0u32; Geometry::LIST_ROOM];
+    let mut desk = Desk::new();
+    marks(&mut desk.used, lists, h, ns);
     let old = lists::entries(lists, h, level, n);
-    let m = compaction::compact(s, &mut used, &mut out, old, z, r.cursor);
+    let m = compaction::compact(s, &mut desk, old, z, r.cursor);
     let at = lists::start_of(h, level);
-    slices::copy(&out, 0, m.count, lists, at);
+    slices::copy(&desk.out, 0, m.count, lists, at);
     let counts = Counts {
         merges: 0,
         written: 0,
@@ -138,13 +138,13 @@ fn compact_level(
 // A merge from a listed level to the next without its step 5.
 fn merge_two(
     s: &mut [u32],
-    used: &mut [bool; Geometry::MAX_P],
+    desk: &mut Desk,
     lists: &mut [u32; Geometry::LIST_ROOM],
     z: Layout,
     level: usize,
     r: Run,
 ) -> Ticketed
-    requires { StepReady counts_most z s.old lists.old level r × (Marking used.old (store_of z s.old lists.old r) × (1 ≤ level)) }
+    requires { StepReady counts_most z s.old lists.old level r × (Marking desk.old.used (store_of z s.old lists.old r) × (1 ≤ level)) }
     ensures { LevelMerged z level s.old lists.old r s.new lists.new result }
 {
     let mut ns = r.ns;
@@ -152,7 +152,7 @@ fn merge_two(
         above: ns[level - 1],
         under: ns[level],
     };
-    let m = pair::merge_pair(s, used, lists, z, level, lengths, r.cursor);
+    let m = pair::merge_pair(s, desk, lists, z, level, lengths, r.cursor);
     let counts = Counts {
         merges: 1,
         written: m.writes,
@@ -173,16 +173,16 @@ fn merge_two(
 // A merge out of level 0, which is full, without its step 5.
 fn merge_top(
     s: &mut [u32],
-    used: &mut [bool; Geometry::MAX_P],
+    desk: &mut Desk,
     lists: &mut [u32; Geometry::LIST_ROOM],
     z: Layout,
     r: Run,
 ) -> Ticketed
-    requires { StepReady counts_most z s.old lists.old 0 r × Marking used.old (store_of z s.old lists.old r) }
+    requires { StepReady counts_most z s.old lists.old 0 r × Marking desk.old.used (store_of z s.old lists.old r) }
     ensures { LevelMerged z 0 s.old lists.old r s.new lists.new result }
 {
     let mut ns = r.ns;
-    let m = pair::merge_pages(s, used, lists, z, ns[0], r.cursor);
+    let m = pair::merge_pages(s, desk, lists, z, ns[0], r.cursor);
     let w = z.geo.window(0);
     top::close_gap(s, z, m.first, w);
     let counts = Counts {
@@ -214,16 +214,16 @@ pub fn merge_step(
         → Leaving z (after_merge (merge_level z.geo level t)) ((merge_level z.geo level t).written ++ compacted_blocks (merge_level z.geo level t).compactions) (step_counts (merge_level z.geo level t)) s.old r s.new lists.new result.run
         × (result.ticket ≡ ticket_of z.geo (merge_level z.geo level t)) }
 {
-    let mut used = [false; Geometry::MAX_P];
-    marks(&mut used, lists, z.geo.levels(), r.ns);
+    let mut desk = Desk::new();
+    marks(&mut desk.used, lists, z.geo.levels(), r.ns);
     if level == 0 {
-        let merged = merge_top(s, &mut used, lists, z, r);
+        let merged = merge_top(s, &mut desk, lists, z, r);
         return Ticketed {
             run: compact_level(s, lists, z, 1, merged.run),
             ticket: merged.ticket,
         };
     }
-    let merged = merge_two(s, &mut used, lists, z, level, r);
+    let merged = merge_two(s, &mut desk, lists, z, level, r);
     let next = compact_level(s, lists, z, level, merged.run);
     Ticketed {
         run: compact_level(s, lists, z, level + 1, next),

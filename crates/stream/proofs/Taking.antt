@@ -1,7 +1,7 @@
 -- Laws of what the code does in one go: how far a run reaches, and what it puts into the buffer.
 use Prim.Native.Nat.{ℕ, zero, suc, ◌+◌, ◌-◌, ◌*◌, ◌/◌, ◌%◌, ◌^◌, ◌≤◌, ◌<◌}
 use mathlib.Core.Path.{◌≡◌, sym, ap, ◌∙◌, refl, subst}
-use mathlib.Core.Bool.{Bool, true, false, not, ◌&&◌, ◌||◌, true≢false}
+use mathlib.Core.Bool.{Bool, true, false, not, ◌&&◌, true≢false}
 use mathlib.Core.List.{List}
 use native.Mathlib.Nat.{pow-suc}
 use native.Mathlib.Omega.{arith}
@@ -15,8 +15,8 @@ use Rattle.blocks.specs.declared.Offsets.{Offsets}
 use Rattle.blocks.specs.declared.Buffer.{Buffer}
 use Rattle.blocks.specs.Blocks.{pushed}
 use Rattle.sides.specs.declared.Head.{Head}
-use Rattle.slices.specs.declared.Rank.{Rank}
-use Rattle.slices.specs.Ranks.{Rising, count_below, rank_of}
+use Rattle.std.specs.Prelude.{Option, Some, None, is_some}
+use Rattle.slices.specs.Ranks.{Rising, count_below}
 use Rattle.slices.proofs.Ranks.{rank_before, rising_part, search_room}
 use Rattle.sides.specs.Sides.{first, Searchable}
 use Rattle.stream.specs.declared.Point.{Point}
@@ -96,77 +96,72 @@ marks_fit m n t l h b =
     rw s (let w = pushed_bits m n t l b in let p = pow_mono {i = n + 1} {j = 16} (omega arith) in omega arith)
 
 -- all records of a block that there is room for go along where the other side is used up
-pub ahead_all : (xs : List ℕ) (a other : Head) (j room left : ℕ) → j < a.n → left ≤ a.n - j - 1 → left ≤ room → other.some ≡ false → Ahead xs a other j room left
+pub ahead_all : (xs : List ℕ) (a : Head) (other : Option Head) (j room left : ℕ) → j < a.n → left ≤ a.n - j - 1 → left ≤ room → other ≡ None → Ahead xs a other j room left
 ahead_all xs a other j room left l h r e = record { inside = omega arith; fits = r; below = λ k f g. rw e }
 
 -- and else those of them whose keys are below its next one
 pub ahead_row : (xs : List ℕ) (a : Head) (j left : ℕ) → Searchable xs a → j < a.n → left ≤ a.n - j - 1 → (a.keys + (j + 1) + left ≤ length xs) × Rising 0 (take left (drop (a.keys + (j + 1)) xs))
 ahead_row xs a j left s l h = (omega (arith, s.inside), rising_part 0 a.keys a.n (j + 1) left xs (omega arith) s.rises)
 
-pub ahead_some : (xs : List ℕ) (a other : Head) (j room left : ℕ) (t : Rank) → Searchable xs a → j < a.n → left ≤ a.n - j - 1 → left ≤ room → t ≡ rank_of other.key (take left (drop (a.keys + (j + 1)) xs)) → Ahead xs a other j room t.below
-ahead_some xs a other j room left t s l h r e =
+pub ahead_some : (xs : List ℕ) (a b : Head) (other : Option Head) (j room left t : ℕ) → Searchable xs a → j < a.n → left ≤ a.n - j - 1 → left ≤ room → other ≡ Some b → t ≡ count_below b.key (take left (drop (a.keys + (j + 1)) xs)) → Ahead xs a other j room t
+ahead_some xs a b other j room left t s l h r o e =
     let row = take left (drop (a.keys + (j + 1)) xs) in
     let ready = ahead_row xs a j left s l h in
-    let b : t.below ≡ count_below other.key row = ap (λ (v : Rank). v.below) e in
-    let few : t.below ≤ left = rw b (search_room other.key (a.keys + (j + 1)) left xs ready.0 ready.1) in
+    let few : t ≤ left = rw e (search_room b.key (a.keys + (j + 1)) left xs ready.0 ready.1) in
     record {
       inside = omega (arith, few);
       fits = omega (arith, few);
       below = λ k f g.
           let i : a.keys + (j + 1) + (k - 1) ≡ a.keys + (j + k) = omega arith in
           let w : get_or row (k - 1) 0 ≡ get_or xs (a.keys + (j + k)) 0 = get_or-take left (drop (a.keys + (j + 1)) xs) (k - 1) 0 (omega (arith, few)) ∙ (get_or-drop (a.keys + (j + 1)) xs (k - 1) 0 ∙ ap (λ (m : ℕ). get_or xs m 0) i) in
-          let p = rank_before other.key 0 row (k - 1) ready.1 (rw (← b) (omega arith)) in
-          rw (lt-ltb _ _ (rw w at p)) (or_true (not other.some));
+          let p = rank_before b.key 0 row (k - 1) ready.1 (rw (← e) (omega arith)) in
+          rw o (lt-ltb _ _ (rw w at p));
     }
-  where
-    or_true : (t : Bool) → (t || true) ≡ true
-    or_true true = refl
-    or_true false = refl
 
 -- the buffer is not touched by a move of the sides
 pub moved_runnable : (z : Offsets) (xs : List ℕ) (w : Progress) (x y : Point) (r : Run) → Runnable z xs w r → Runnable z xs (moved_to w x y) r
 moved_runnable z xs w x y r k = record { room = k.room; bits = k.bits; low = k.low; keys = k.keys; pays = k.pays }
 
 -- The four ways out of `run_on`: the block follows as it stands, both sides have the key, or one side comes first.
-module _ (xs : List ℕ) (p q : Point) (x y : Head) (c : Move) (room : ℕ) (r : Run) where
-  pub grows_whole : c.whole ≡ true → r ≡ record { next = c; from = 0; more = 0 } → Grows xs p q x y c room r
+module _ (xs : List ℕ) (p q : Point) (x y : Option Head) (c : Move) (room : ℕ) (r : Run) where
+  pub grows_whole : is_some c.whole ≡ true → r ≡ record { next = c; from = 0; more = 0 } → Grows xs p q x y c room r
   unfolding grown
   grows_whole w e =
       subst (Grows xs p q x y c room) (sym e)
       (record {
-        same = sym (if_true c.whole _ _ w);
+        same = sym (if_true (is_some c.whole) _ _ w);
         lower = λ n f. absurd (true≢false (sym w ∙ n));
         upper = λ n f g. absurd (true≢false (sym w ∙ n));
       })
 
-  pub grows_tie : c.whole ≡ false → first y x ≡ false → first x y ≡ false → r ≡ record { next = c; from = p.j; more = 0 } → Grows xs p q x y c room r
+  pub grows_tie : is_some c.whole ≡ false → first y x ≡ false → first x y ≡ false → r ≡ record { next = c; from = p.j; more = 0 } → Grows xs p q x y c room r
   unfolding grown
   grows_tie w l u e =
       subst (Grows xs p q x y c room) (sym e)
       (record {
-        same = sym (if_false c.whole _ _ w ∙ (if_false (first y x) _ _ l ∙ if_false (first x y) _ _ u));
+        same = sym (if_false (is_some c.whole) _ _ w ∙ (if_false (first y x) _ _ l ∙ if_false (first x y) _ _ u));
         lower = λ n f. absurd (true≢false (sym f ∙ l));
         upper = λ n f g. absurd (true≢false (sym g ∙ u));
       })
 
-  pub grows_lower : (more : ℕ) → c.whole ≡ false → first y x ≡ true → Ahead xs y x q.j room more
-      → r ≡ along_y q y c more → Grows xs p q x y c room r
+  pub grows_lower : (more : ℕ) → is_some c.whole ≡ false → first y x ≡ true → Ahead xs c.head x q.j room more
+      → r ≡ along_y q c more → Grows xs p q x y c room r
   unfolding grown
   grows_lower more w l k e =
       subst (Grows xs p q x y c room) (sym e)
       (record {
-        same = sym (if_false c.whole _ _ w ∙ if_true (first y x) _ _ l);
+        same = sym (if_false (is_some c.whole) _ _ w ∙ if_true (first y x) _ _ l);
         lower = λ n f. k;
         upper = λ n f g. absurd (true≢false (sym l ∙ f));
       })
 
-  pub grows_upper : (more : ℕ) → c.whole ≡ false → first y x ≡ false → first x y ≡ true → Ahead xs x y p.j room more
-      → r ≡ along_x p x c more → Grows xs p q x y c room r
+  pub grows_upper : (more : ℕ) → is_some c.whole ≡ false → first y x ≡ false → first x y ≡ true → Ahead xs c.head y p.j room more
+      → r ≡ along_x p c more → Grows xs p q x y c room r
   unfolding grown
   grows_upper more w l u k e =
       subst (Grows xs p q x y c room) (sym e)
       (record {
-        same = sym (if_false c.whole _ _ w ∙ (if_false (first y x) _ _ l ∙ if_true (first x y) _ _ u));
+        same = sym (if_false (is_some c.whole) _ _ w ∙ (if_false (first y x) _ _ l ∙ if_true (first x y) _ _ u));
         lower = λ n f. absurd (true≢false (sym f ∙ l));
         upper = λ n f g. k;
       })

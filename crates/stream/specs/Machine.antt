@@ -1,14 +1,16 @@
 -- The merge as a machine over the words, the marks, the new list and a few numbers: what the code does, step by step.
-use Rattle.std.specs.Prelude.{ℕ, zero, suc, ◌+◌, ◌/◌, ◌%◌, ◌^◌, ◌≤◌, ◌<◌, ◌≡◌, Bool, true, false, not, ◌&&◌, ◌||◌, List, leb, ltb, eqb, length, get_or, set}
+use Rattle.std.specs.Prelude.{ℕ, zero, suc, ◌+◌, ◌/◌, ◌%◌, ◌^◌, ◌≤◌, ◌<◌, ◌≡◌, Bool, true, false, ◌&&◌, ◌||◌, List, leb, eqb, length, get_or, set, replicate, Option, None, Some, is_some}
+use Rattle.std.specs.Option.{ForSome}
 use Rattle.levels.specs.Basics.{if◌then◌otherwise◌}
 use Rattle.blocks.specs.declared.Offsets.{Offsets}
 use Rattle.blocks.specs.declared.Buffer.{Buffer}
 use Rattle.blocks.specs.Blocks.{Sized, SomeFree, next_mark, pushed, empty_buffer, written}
 use Rattle.blocks.specs.Room.{places_most, list_room}
 use Rattle.sides.specs.declared.Head.{Head}
-use Rattle.sides.specs.Sides.{Readable, Searchable, HeadOk, head_of, last_size, first, follows}
+use Rattle.sides.specs.Sides.{Readable, Searchable, head_of, last_size, comes_before, first, follows_at}
 use Rattle.stream.specs.declared.Point.{Point}
 use Rattle.stream.specs.declared.Progress.{Progress}
+use Rattle.stream.specs.declared.Desk.{Desk}
 use Rattle.stream.specs.declared.Move.{Move}
 use Rattle.stream.specs.declared.Run.{Run}
 use Rattle.stream.specs.declared.Inputs.{Inputs}
@@ -19,6 +21,18 @@ pub record Memory : Type 0 where
   pub used : List Bool
   pub out : List ℕ
   pub st : Progress
+
+-- the words, and the desk that a merge works at
+abbrev pub memory : List ℕ → Desk → Memory
+memory ws d = record { words = ws; used = d.used; out = d.out; st = d.st }
+
+-- nothing is read, gathered, listed or written yet
+abbrev pub begin_at : ℕ → Progress
+begin_at cursor = record { x = record { i = 0; j = 0 }; y = record { i = 0; j = 0 }; m = 0; writes = 0; cursor = cursor; buf = empty_buffer }
+
+-- no place is marked, and nothing is listed
+abbrev pub fresh_desk : Desk
+fresh_desk = record { used = replicate places_most false; out = replicate list_room 0; st = begin_at 0 }
 
 -- a buffer can be written
 pub record Flushable (z : Offsets) (xs : List ℕ) (used : List Bool) (w : Progress) : Type 0 where
@@ -87,32 +101,50 @@ moved_to w x y = record { x = x; y = y; m = w.m; writes = w.writes; cursor = w.c
 abbrev pub moved : Memory → Point → Point → Memory
 moved a x y = with_progress a (moved_to a.st x y)
 
--- The side whose record comes first moves on; of equal keys the upper record comes, and the lower is passed over.
--- The buffer has n records, the last block e.
-unfoldable pub chosen : Offsets → Bool → List ℕ → Point → Point → Head → Head → ℕ → ℕ → Move
-chosen z bottom xs p q x y n e =
-    let wholeX = follows z bottom xs x y n e in
-    let wholeY = follows z bottom xs y x n e in
-    if first y x then record { x = p; y = point_after q y.n wholeY; head = y; whole = wholeY }
-    otherwise if first x y then record { x = point_after p x.n wholeX; y = q; head = x; whole = wholeX }
-    otherwise record { x = point_after p x.n false; y = point_after q y.n false; head = x; whole = false }
+-- a record of X comes, which reads h, before the next one of Y, or a record of Y before that of X; the buffer has n records, the last
+-- block e
+abbrev pub upper_move : Offsets → Bool → List ℕ → Point → Point → Head → Option Head → ℕ → ℕ → Move
+upper_move z bottom xs p q h y n e = let w = follows_at z bottom xs h y n e in record { x = point_after p h.n (is_some w); y = q; head = h; whole = w }
 
--- some side has a record, and stands at it
-pub record Choosable (z : Offsets) (xs : List ℕ) (p q : Point) (x y : Head) (n e : ℕ) : Type 0 where
+abbrev pub lower_move : Offsets → Bool → List ℕ → Point → Point → Head → Option Head → ℕ → ℕ → Move
+lower_move z bottom xs p q h x n e = let w = follows_at z bottom xs h x n e in record { x = p; y = point_after q h.n (is_some w); head = h; whole = w }
+
+abbrev pub both_move : Point → Point → Head → Head → Move
+both_move p q h i = record { x = point_after p h.n false; y = point_after q i.n false; head = h; whole = None }
+
+-- The side whose record comes first moves on; of equal keys the upper record comes, and the lower is passed over.
+unfoldable pub chosen : Offsets → Bool → List ℕ → Point → Point → Option Head → Option Head → ℕ → ℕ → Option Move
+chosen z bottom xs p q None None n e = None
+chosen z bottom xs p q (Some h) None n e = Some (upper_move z bottom xs p q h None n e)
+chosen z bottom xs p q None (Some i) n e = Some (lower_move z bottom xs p q i None n e)
+chosen z bottom xs p q (Some h) (Some i) n e =
+    Some (if first (Some i) (Some h) then lower_move z bottom xs p q i (Some h) n e
+    otherwise if first (Some h) (Some i) then upper_move z bottom xs p q h (Some i) n e
+    otherwise both_move p q h i)
+
+-- a side that has a record stands at it
+pub record Standing (xs : List ℕ) (p : Point) (a : Head) : Type 0 where
+  pub low : p.i < list_room
+  pub inside : p.j < a.n
+  pub count : a.n ≤ 16
+  pub row : Searchable xs a
+
+-- each side that has a record stands at it
+pub record Choosable (z : Offsets) (xs : List ℕ) (p q : Point) (x y : Option Head) (n e : ℕ) : Type 0 where
   pub cap : z.b ≤ 16
   pub few : n ≤ 16
   pub last : e < 2 ^ 32
-  pub upper : HeadOk x
-  pub lower : HeadOk y
-  pub in_x : x.some ≡ true → (p.i < list_room) × (p.j < 16)
-  pub in_y : y.some ≡ true → (q.i < list_room) × (q.j < 16)
-  pub row_x : x.some ≡ true → Searchable xs x
-  pub row_y : y.some ≡ true → Searchable xs y
-  pub either : (not x.some && not y.some) ≡ false
+  pub upper : ForSome x (Standing xs p)
+  pub lower : ForSome y (Standing xs q)
 
 -- the sides move on, and the block follows as it stands, or its next record is gathered
 unfoldable pub emitted : Offsets → Bool → Memory → Move → Memory
-emitted z bottom a c = let b = moved a c.x c.y in if c.whole then reused z b c.head.place otherwise gathered z bottom b c.head
+emitted z bottom a c = let b = moved a c.x c.y in elim c.whole [ Some q ↦ reused z b q | None ↦ gathered z bottom b c.head ]
+
+-- where both sides are used up nothing is left to do
+abbrev pub moved_on : Offsets → Bool → Memory → Option Move → Memory
+moved_on z bottom a None = a
+moved_on z bottom a (Some c) = emitted z bottom a c
 
 -- the merge can write and gather
 pub record Movable (z : Offsets) (xs : List ℕ) (used : List Bool) (w : Progress) : Type 0 where
@@ -128,8 +160,8 @@ pub record Ready (z : Offsets) (t : Inputs) (xs ys : List ℕ) (a : Memory) : Ty
   pub listed : (i : ℕ) → i < a.st.m → get_or a.out i 0 < z.p
 
 module _ (z : Offsets) (t : Inputs) (xs ys : List ℕ) where
-  abbrev pub step_with : Memory → Head → Head → ℕ → Memory
-  step_with a x y e = emitted z t.bottom a (chosen z t.bottom a.words a.st.x a.st.y x y a.st.buf.n e)
+  abbrev pub step_with : Memory → Option Head → Option Head → ℕ → Memory
+  step_with a x y e = moved_on z t.bottom a (chosen z t.bottom a.words a.st.x a.st.y x y a.st.buf.n e)
 
   -- one step: a block is reused or a record is gathered
   unfoldable pub turn : Memory → Memory
@@ -171,46 +203,38 @@ gathered_run z bottom a r =
 -- `emitted`, with the records that go along
 unfoldable pub emitted_run : Offsets → Bool → Memory → Run → Memory
 emitted_run z bottom a r =
-    let b = moved a r.next.x r.next.y in
-    if r.next.whole then reused z b r.next.head.place otherwise gathered_run z bottom b r
+    let b = moved a r.next.x r.next.y in elim r.next.whole [ Some q ↦ reused z b q | None ↦ gathered_run z bottom b r ]
 
 -- `more` records of a's block after record j come before the other's next one, and there is room for them
-pub record Ahead (xs : List ℕ) (a other : Head) (j room more : ℕ) : Type 0 where
+pub record Ahead (xs : List ℕ) (a : Head) (other : Option Head) (j room more : ℕ) : Type 0 where
   pub inside : j + more < a.n
   pub fits : more ≤ room
-  pub below : (k : ℕ) → 1 ≤ k → k ≤ more → (not other.some || ltb (get_or xs (a.keys + (j + k)) 0) other.key) ≡ true
+  pub below : (k : ℕ) → 1 ≤ k → k ≤ more → comes_before (get_or xs (a.keys + (j + k)) 0) other ≡ true
 
 -- a side that goes on by so many records within its block
 abbrev pub further : Point → ℕ → Point
 further p more = record { i = p.i; j = p.j + more }
 
 -- a move of one record of Y, or of X, with `more` records of the same block
-abbrev pub along_y : Point → Head → Move → ℕ → Run
-along_y q y c more = record { next = record { x = c.x; y = point_after (further q more) y.n false; head = c.head; whole = c.whole }; from = q.j; more = more }
+abbrev pub along_y : Point → Move → ℕ → Run
+along_y q c more = record { next = record { x = c.x; y = point_after (further q more) c.head.n false; head = c.head; whole = c.whole }; from = q.j; more = more }
 
-abbrev pub along_x : Point → Head → Move → ℕ → Run
-along_x p x c more = record { next = record { x = point_after (further p more) x.n false; y = c.y; head = c.head; whole = c.whole }; from = p.j; more = more }
+abbrev pub along_x : Point → Move → ℕ → Run
+along_x p c more = record { next = record { x = point_after (further p more) c.head.n false; y = c.y; head = c.head; whole = c.whole }; from = p.j; more = more }
 
 -- the move of the side that comes first, with those records; a block that follows, and a record that both sides have, go alone
-unfoldable pub grown : Point → Point → Head → Head → Move → ℕ → Run
+unfoldable pub grown : Point → Point → Option Head → Option Head → Move → ℕ → Run
 grown p q x y c more =
-    if c.whole then record { next = c; from = 0; more = 0 }
-    otherwise if first y x then along_y q y c more
-    otherwise if first x y then along_x p x c more
+    if is_some c.whole then record { next = c; from = 0; more = 0 }
+    otherwise if first y x then along_y q c more
+    otherwise if first x y then along_x p c more
     otherwise record { next = c; from = p.j; more = 0 }
 
 -- the records that go with a move come next
-pub record Grows (xs : List ℕ) (p q : Point) (x y : Head) (c : Move) (room : ℕ) (r : Run) : Type 0 where
+pub record Grows (xs : List ℕ) (p q : Point) (x y : Option Head) (c : Move) (room : ℕ) (r : Run) : Type 0 where
   pub same : r ≡ grown p q x y c r.more
-  pub lower : c.whole ≡ false → first y x ≡ true → Ahead xs y x q.j room r.more
-  pub upper : c.whole ≡ false → first y x ≡ false → first x y ≡ true → Ahead xs x y p.j room r.more
-
--- a side that has a record stands at it
-pub record Standing (xs : List ℕ) (p : Point) (a : Head) : Type 0 where
-  pub low : p.i < list_room
-  pub inside : p.j < a.n
-  pub count : a.n ≤ 16
-  pub row : Searchable xs a
+  pub lower : is_some c.whole ≡ false → first y x ≡ true → Ahead xs c.head x q.j room r.more
+  pub upper : is_some c.whole ≡ false → first y x ≡ false → first x y ≡ true → Ahead xs c.head y p.j room r.more
 
 -- the records of a run lie in the store, and the buffer has room for them
 pub record Runnable (z : Offsets) (xs : List ℕ) (w : Progress) (r : Run) : Type 0 where

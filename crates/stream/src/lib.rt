@@ -1,10 +1,11 @@
 // Step 3 of a merge: X and Y are read in key order, blocks are reused or their records gathered.
 #![tactic(auto)]
 
-ghost use Rattle.std.specs.Prelude.{◌≡◌, true, false, ℕ, ◌+◌, ◌-◌, ◌≤◌, ◌<◌};
+ghost use Rattle.std.specs.Prelude.{◌≡◌, true, false, ℕ, ◌+◌, ◌-◌, ◌≤◌, ◌<◌, is_some};
+ghost use Rattle.std.specs.Option.{ForSome};
 ghost use Rattle.blocks.specs.Room.{places_most, list_room};
-ghost use Rattle.sides.specs.Sides.{HeadOk, Searchable};
-ghost use Rattle.stream.specs.Machine.{Memory, Flushable, Gatherable, Movable, Choosable, Standing, Runnable, Ahead, Grows, Ready, Turned, flushed, reused, gathered, gathered_run, point_after, moved_to, chosen, emitted_run, turns, idle};
+ghost use Rattle.sides.specs.Sides.{Searchable, first};
+ghost use Rattle.stream.specs.Machine.{memory, Flushable, Gatherable, Movable, Choosable, Standing, Runnable, Ahead, Grows, Ready, Turned, flushed, reused, gathered, gathered_run, begin_at, fresh_desk, point_after, chosen, emitted_run, turns, idle};
 
 use blocks::{Buffer, Offsets};
 use sides::Head;
@@ -28,14 +29,23 @@ pub struct Progress {
     pub buf: Buffer,
 }
 
-// What a step does: where X and Y stand then, the record that comes, and whether its whole block
-// follows as it stands.
+// What a merge works at besides the words: the marks of the places in use, the list that it builds, and where it stands. It is
+// large, so it is made once for a merge and lent.
+#[derive(Drop)]
+pub struct Desk {
+    pub used: [bool; blocks::PLACES],
+    pub out: [u32; blocks::LIST_ROOM],
+    pub st: Progress,
+}
+
+// What a step does: where X and Y stand then, the record that comes, and the place of its block, if the whole block follows as it
+// stands.
 #[derive(Clone, Copy)]
 pub struct Move {
     pub x: Point,
     pub y: Point,
     pub head: Head,
-    pub whole: bool,
+    pub whole: Option<usize>,
 }
 
 // A move, and how many records more of the same block are gathered with its record, which is record `from` of the block.
@@ -56,82 +66,82 @@ pub struct Inputs {
     pub bottom: bool,
 }
 
-// A buffer that is not empty is written at the first free place after the cursor, and listed.
-pub fn flush(
-    s: &mut [u32],
-    used: &mut [bool; blocks::PLACES],
-    out: &mut [u32; blocks::LIST_ROOM],
-    z: Offsets,
-    st: Progress,
-) -> Progress
-    requires { Flushable z s.old used.old st }
-    ensures { ◌≡◌ {A = Memory} (record { words = s.new; used = used.new; out = out.new; st = result }) (flushed z (record { words = s.old; used = used.old; out = out.old; st = st })) }
-{
-    let buf = st.buf;
-    let n = buf.n;
-    if n == 0 {
-        return st;
+impl Progress {
+    // Nothing is read, gathered, listed or written yet; free places are looked for after the cursor.
+    pub fn begin(cursor: usize) -> Progress
+        ensures { result ≡ begin_at cursor }
+    {
+        let start = Point { i: 0, j: 0 };
+        Progress {
+            x: start,
+            y: start,
+            m: 0,
+            writes: 0,
+            cursor: cursor,
+            buf: Buffer::default(),
+        }
     }
-    let m = st.m;
-    let p = z.p;
-    let cursor = st.cursor;
-    let q = blocks::first_free(used, p, cursor);
-    used[q] = true;
-    blocks::write_block(s, z, q, buf);
-    out[m] = q as u32;
-    let mut v = st;
-    v.m = m + 1;
-    v.writes = st.writes + 1;
-    v.cursor = q;
-    v.buf = blocks::empty();
-    v
 }
 
-// The buffer is written, and the block at place q follows as it stands.
-fn reuse(
-    s: &mut [u32],
-    used: &mut [bool; blocks::PLACES],
-    out: &mut [u32; blocks::LIST_ROOM],
-    z: Offsets,
-    st: Progress,
-    q: usize,
-) -> Progress
-    requires { Flushable z s.old used.old st × (st.m + 2 ≤ list_room) × (q < places_most) }
-    ensures { ◌≡◌ {A = Memory} (record { words = s.new; used = used.new; out = out.new; st = result }) (reused z (record { words = s.old; used = used.old; out = out.old; st = st }) q) }
-{
-    let mut v = flush(s, used, out, z, st);
-    let m = v.m;
-    out[m] = q as u32;
-    v.m = m + 1;
-    v
-}
+impl Desk {
+    // No place is marked, and nothing is listed.
+    pub fn new() -> Desk
+        ensures { result ≡ fresh_desk }
+    {
+        Desk {
+            used: [false; blocks::PLACES],
+            out: [0; blocks::LIST_ROOM],
+            st: Progress::begin(0),
+        }
+    }
 
-// One record into the buffer, which is written when it has B; the last level drops tombstones.
-pub fn gather(
-    s: &mut [u32],
-    used: &mut [bool; blocks::PLACES],
-    out: &mut [u32; blocks::LIST_ROOM],
-    z: Offsets,
-    bottom: bool,
-    st: Progress,
-    head: Head,
-) -> Progress
-    requires { Flushable z s.old used.old st × Gatherable z st × (head.tombstone < 2) }
-    ensures { ◌≡◌ {A = Memory} (record { words = s.new; used = used.new; out = out.new; st = result }) (gathered z bottom (record { words = s.old; used = used.old; out = out.old; st = st }) head) }
-{
-    if bottom & (head.tombstone == 1) {
-        return st;
+    // A buffer that is not empty is written at the first free place after the cursor, and listed.
+    pub fn flush(&mut self, s: &mut [u32], z: Offsets)
+        requires { Flushable z s.old self.old.used self.old.st }
+        ensures { memory s.new self.new ≡ flushed z (memory s.old self.old) }
+    {
+        let buf = self.st.buf;
+        let n = buf.n;
+        if n == 0 {
+            return;
+        }
+        let m = self.st.m;
+        let q = blocks::first_free(&self.used, z.p, self.st.cursor);
+        self.used[q] = true;
+        blocks::write_block(s, z, q, buf);
+        self.out[m] = q as u32;
+        self.st.m = m + 1;
+        self.st.writes = self.st.writes + 1;
+        self.st.cursor = q;
+        self.st.buf = Buffer::default();
     }
-    let buf = st.buf;
-    let more = buf.push(head.key, head.tombstone, head.pay);
-    let n = more.n;
-    let b = z.b;
-    let mut v = st;
-    v.buf = more;
-    if b <= n {
-        return flush(s, used, out, z, v);
+
+    // The buffer is written, and the block at place q follows as it stands.
+    fn reuse(&mut self, s: &mut [u32], z: Offsets, q: usize)
+        requires { Flushable z s.old self.old.used self.old.st × (self.old.st.m + 2 ≤ list_room) × (q < places_most) }
+        ensures { memory s.new self.new ≡ reused z (memory s.old self.old) q }
+    {
+        self.flush(s, z);
+        let m = self.st.m;
+        self.out[m] = q as u32;
+        self.st.m = m + 1;
     }
-    v
+
+    // One record into the buffer, which is written when it has B; the last level drops tombstones.
+    pub fn gather(&mut self, s: &mut [u32], z: Offsets, bottom: bool, head: Head)
+        requires { Flushable z s.old self.old.used self.old.st × Gatherable z self.old.st × (head.tombstone < 2) }
+        ensures { memory s.new self.new ≡ gathered z bottom (memory s.old self.old) head }
+    {
+        if bottom & (head.tombstone == 1) {
+            return;
+        }
+        let buf = self.st.buf;
+        let more = buf.push(head.key, head.tombstone, head.pay);
+        self.st.buf = more;
+        if z.b <= more.n {
+            self.flush(s, z);
+        }
+    }
 }
 
 impl Point {
@@ -164,20 +174,17 @@ impl Move {
     }
 }
 
-impl Progress {
-    // The same, with X and Y further on.
-    fn moved(mut self, x: Point, y: Point) -> Progress
-        ensures { result ≡ moved_to self x y }
-    {
-        self.x = x;
-        self.y = y;
-        self
-    }
-}
-
 // The side whose record comes first moves on; of equal keys the upper record comes, and the lower
-// is passed over. The last block has e records.
-fn choose(s: &[u32], z: Offsets, bottom: bool, st: Progress, x: Head, y: Head, e: usize) -> Move
+// is passed over. The last block has e records. None: both sides are used up.
+fn choose(
+    s: &[u32],
+    z: Offsets,
+    bottom: bool,
+    st: Progress,
+    x: Option<Head>,
+    y: Option<Head>,
+    e: usize,
+) -> Option<Move>
     requires { Choosable z s.now st.x st.y x y st.buf.n e }
     ensures { result ≡ chosen z bottom s.now st.x st.y x y st.buf.n e }
 {
@@ -185,210 +192,189 @@ fn choose(s: &[u32], z: Offsets, bottom: bool, st: Progress, x: Head, y: Head, e
     let py = st.y;
     let buf = st.buf;
     let n = buf.n;
-    if sides::before(y, x) {
-        let whole = sides::reusable(s, z, bottom, y, x, n, e);
-        let v = py.after(y.n, whole);
-        return Move {
+    if let Some(b) = y
+        && sides::before(y, x)
+    {
+        let whole = sides::reusable(s, z, bottom, b, x, n, e);
+        let v = py.after(b.n, whole.is_some());
+        return Some(Move {
             x: px,
             y: v,
-            head: y,
+            head: b,
             whole: whole,
-        };
+        });
     }
-    if sides::before(x, y) {
-        let whole = sides::reusable(s, z, bottom, x, y, n, e);
-        let u = px.after(x.n, whole);
-        return Move {
+    if let Some(a) = x
+        && sides::before(x, y)
+    {
+        let whole = sides::reusable(s, z, bottom, a, y, n, e);
+        let u = px.after(a.n, whole.is_some());
+        return Some(Move {
             x: u,
             y: py,
-            head: x,
+            head: a,
             whole: whole,
-        };
+        });
     }
-    let u = px.after(x.n, false);
-    let v = py.after(y.n, false);
-    Move {
+    let (Some(a), Some(b)) = (x, y) else {
+        return None;
+    };
+    let u = px.after(a.n, false);
+    let v = py.after(b.n, false);
+    Some(Move {
         x: u,
         y: v,
-        head: x,
-        whole: false,
-    }
-}
-
-// The smaller of two numbers.
-fn fewer(x: usize, y: usize) -> usize
-    ensures { (result ≤ x) × (result ≤ y) }
-{
-    if y < x { y } else { x }
+        head: a,
+        whole: None,
+    })
 }
 
 // How many records of a's block after record j come before the other side's next, `room` at most.
-fn ahead(s: &[u32], a: Head, j: usize, other: Head, room: usize) -> usize
+fn ahead(s: &[u32], a: Head, j: usize, other: Option<Head>, room: usize) -> usize
     requires { (j < a.n) × Searchable s.now a }
     ensures { Ahead s.now a other j room result }
 {
-    let left = fewer(a.n - j - 1, room);
-    if !other.some {
+    let left = (a.n - j - 1).min(room);
+    let Some(b) = other else {
         return left;
-    }
-    let at = slices::rank_of(s, a.keys + (j + 1), left, other.key as usize);
-    at.below
+    };
+    slices::count_below(s, a.keys + (j + 1), left, b.key as usize)
 }
 
 // A record that is gathered takes those of its block with it that come next, as many as the buffer has room for.
-fn run_on(s: &[u32], z: Offsets, st: Progress, next: Move, x: Head, y: Head) -> Run
-    requires { (z.b ≤ 16) × (st.buf.n < z.b) × (x.some ≡ true → Standing s.now st.x x) × (y.some ≡ true → Standing s.now st.y y) }
+fn run_on(s: &[u32], z: Offsets, st: Progress, next: Move, x: Option<Head>, y: Option<Head>) -> Run
+    requires { (z.b ≤ 16) × (st.buf.n < z.b) × (first x y ≡ true → Standing s.now st.x next.head) × (first y x ≡ true → Standing s.now st.y next.head) }
     ensures { Grows s.now st.x st.y x y next (z.b - st.buf.n - 1) result }
 {
     let px = st.x;
     let py = st.y;
     let buf = st.buf;
     let room = z.b - buf.n - 1;
+    let head = next.head;
     let mut m = next;
-    if next.whole {
+    if next.whole.is_some() {
         return m.run(0, 0);
     }
     if sides::before(y, x) {
-        let more = ahead(s, y, py.j, x, room);
+        let more = ahead(s, head, py.j, x, room);
         let last = Point {
             i: py.i,
             j: py.j + more,
         };
-        m.y = last.after(y.n, false);
+        m.y = last.after(head.n, false);
         return m.run(py.j, more);
     }
     if sides::before(x, y) {
-        let more = ahead(s, x, px.j, y, room);
+        let more = ahead(s, head, px.j, y, room);
         let last = Point {
             i: px.i,
             j: px.j + more,
         };
-        m.x = last.after(x.n, false);
+        m.x = last.after(head.n, false);
         return m.run(px.j, more);
     }
     m.run(px.j, 0)
 }
 
-// The records of a run into the buffer, which is written when it has B; the last level drops tombstones.
-fn gather_run(
-    s: &mut [u32],
-    used: &mut [bool; blocks::PLACES],
-    out: &mut [u32; blocks::LIST_ROOM],
-    z: Offsets,
-    bottom: bool,
-    st: Progress,
-    run: Run,
-) -> Progress
-    requires { Flushable z s.old used.old st × Runnable z s.old st run }
-    ensures { ◌≡◌ {A = Memory} (record { words = s.new; used = used.new; out = out.new; st = result }) (gathered_run z bottom (record { words = s.old; used = used.old; out = out.old; st = st }) run) }
-{
-    let mut buf = st.buf;
-    let next = run.next;
-    let head = next.head;
-    let from = run.from;
-    let end = run.more + 1;
-    for k in 0..end {
-        let i = from + k;
-        let t = (head.marks >> i) % 2;
-        if !(bottom & (t == 1)) {
-            let n = buf.n;
-            buf.keys[n] = s[head.keys + i];
-            buf.pays[n] = s[head.pays + i];
-            buf.marks = buf.marks + (t << n);
-            buf.n = n + 1;
+impl Desk {
+    // The records of a run into the buffer, which is written when it has B; the last level drops tombstones.
+    fn gather_run(&mut self, s: &mut [u32], z: Offsets, bottom: bool, run: Run)
+        requires { Flushable z s.old self.old.used self.old.st × Runnable z s.old self.old.st run }
+        ensures { memory s.new self.new ≡ gathered_run z bottom (memory s.old self.old) run }
+    {
+        let mut buf = self.st.buf;
+        let next = run.next;
+        let head = next.head;
+        let from = run.from;
+        let end = run.more + 1;
+        for k in 0..end {
+            let i = from + k;
+            let t = (head.marks >> i) % 2;
+            if !(bottom & (t == 1)) {
+                let n = buf.n;
+                buf.keys[n] = s[head.keys + i];
+                buf.pays[n] = s[head.pays + i];
+                buf.marks = buf.marks + (t << n);
+                buf.n = n + 1;
+            }
+        }
+        let n = buf.n;
+        self.st.buf = buf;
+        if z.b <= n {
+            self.flush(s, z);
         }
     }
-    let n = buf.n;
-    let mut v = st;
-    v.buf = buf;
-    if z.b <= n {
-        return flush(s, used, out, z, v);
-    }
-    v
-}
 
-// The sides move on, and the block follows as it stands, or its next records are gathered. A step
-// calls this at one place only, so that it is compiled into the loop.
-fn emit(
-    s: &mut [u32],
-    used: &mut [bool; blocks::PLACES],
-    out: &mut [u32; blocks::LIST_ROOM],
-    z: Offsets,
-    bottom: bool,
-    st: Progress,
-    run: Run,
-) -> Progress
-    requires { Movable z s.old used.old st × HeadOk run.next.head × (run.next.whole ≡ false → Runnable z s.old st run) }
-    ensures { ◌≡◌ {A = Memory} (record { words = s.new; used = used.new; out = out.new; st = result }) (emitted_run z bottom (record { words = s.old; used = used.old; out = out.old; st = st }) run) }
-{
-    let next = run.next;
-    let x = next.x;
-    let y = next.y;
-    let head = next.head;
-    let v = st.moved(x, y);
-    if next.whole {
-        let q = head.place;
-        return reuse(s, used, out, z, v, q);
-    }
-    gather_run(s, used, out, z, bottom, v, run)
-}
-
-// One step of the merge: the block that stands next is reused, or its next records are gathered in one go; of equal keys the upper record stands alone.
-pub fn step(
-    s: &mut [u32],
-    used: &mut [bool; blocks::PLACES],
-    out: &mut [u32; blocks::LIST_ROOM],
-    xs: &[u32; blocks::LIST_ROOM],
-    ys: &[u32; blocks::LIST_ROOM],
-    z: Offsets,
-    t: Inputs,
-    st: Progress,
-) -> Progress
-    requires ready { Ready z t xs.now ys.now (record { words = s.old; used = used.old; out = out.old; st = st }) }
-    requires going { idle z t xs.now ys.now (record { words = s.old; used = used.old; out = out.old; st = st }) ≡ false }
-    ensures { Turned z t xs.now ys.now 1 (record { words = s.old; used = used.old; out = out.old; st = st }) (record { words = s.new; used = used.new; out = out.new; st = result }) }
-{
-    let px = st.x;
-    let py = st.y;
-    let xe = t.x;
-    let ye = t.y;
-    let pages = t.pages;
-    let bottom = t.bottom;
-    let x = sides::peek(s, z, pages, xs, px.i, px.j, xe);
-    let y = sides::peek(s, z, false, ys, py.i, py.j, ye);
-    let m = st.m;
-    let e = sides::last_size(s, z, out, m);
-    let next = choose(s, z, bottom, st, x, y, e);
-    let run = run_on(s, z, st, next, x, y);
-    emit(s, used, out, z, bottom, st, run)
-}
-
-// The merge of the two sides, in at most `limit` steps.
-pub fn stream(
-    s: &mut [u32],
-    used: &mut [bool; blocks::PLACES],
-    out: &mut [u32; blocks::LIST_ROOM],
-    xs: &[u32; blocks::LIST_ROOM],
-    ys: &[u32; blocks::LIST_ROOM],
-    z: Offsets,
-    t: Inputs,
-    st: Progress,
-    limit: usize,
-) -> Progress
-    requires ready { (i : ℕ) → i ≤ limit → Ready z t xs.now ys.now (turns z t xs.now ys.now i (record { words = s.old; used = used.old; out = out.old; st = st })) }
-    requires ends { idle z t xs.now ys.now (turns z t xs.now ys.now limit (record { words = s.old; used = used.old; out = out.old; st = st })) ≡ true }
-    ensures { ◌≡◌ {A = Memory} (record { words = s.new; used = used.new; out = out.new; st = result }) (turns z t xs.now ys.now limit (record { words = s.old; used = used.old; out = out.old; st = st })) }
-{
-    let mut v = st;
-    let xe = t.x;
-    let ye = t.y;
-    for k in 0..limit {
-        let px = v.x;
-        let py = v.y;
-        if (xe <= px.i) & (ye <= py.i) {
-            return v;
+    // The sides move on, and the block follows as it stands, or its next records are gathered. A step
+    // calls this at one place only, so that it is compiled into the loop.
+    fn emit(&mut self, s: &mut [u32], z: Offsets, bottom: bool, run: Run)
+        requires { Movable z s.old self.old.used self.old.st × ForSome run.next.whole (λ q. q < places_most) × (is_some run.next.whole ≡ false → Runnable z s.old self.old.st run) }
+        ensures { memory s.new self.new ≡ emitted_run z bottom (memory s.old self.old) run }
+    {
+        let next = run.next;
+        self.st.x = next.x;
+        self.st.y = next.y;
+        if let Some(q) = next.whole {
+            self.reuse(s, z, q);
+            return;
         }
-        v = step(s, used, out, xs, ys, z, t, v);
+        self.gather_run(s, z, bottom, run);
     }
-    v
+
+    // One step of the merge: the block that stands next is reused, or its next records are gathered in one go; of equal keys the upper
+    // record stands alone. Where both sides are used up nothing is left to do.
+    pub fn step(
+        &mut self,
+        s: &mut [u32],
+        xs: &[u32; blocks::LIST_ROOM],
+        ys: &[u32; blocks::LIST_ROOM],
+        z: Offsets,
+        t: Inputs,
+    )
+        requires { Ready z t xs.now ys.now (memory s.old self.old) }
+        ensures { Turned z t xs.now ys.now 1 (memory s.old self.old) (memory s.new self.new) }
+    {
+        let st = self.st;
+        let px = st.x;
+        let py = st.y;
+        let xe = t.x;
+        let ye = t.y;
+        let pages = t.pages;
+        let bottom = t.bottom;
+        let x = sides::peek(s, z, pages, xs, px.i, px.j, xe);
+        let y = sides::peek(s, z, false, ys, py.i, py.j, ye);
+        let m = st.m;
+        let e = sides::last_size(s, z, &self.out, m);
+        let Some(next) = choose(s, z, bottom, st, x, y, e) else {
+            return;
+        };
+        let run = run_on(s, z, st, next, x, y);
+        self.emit(s, z, bottom, run);
+    }
+
+    // The merge of the two sides, in at most `limit` steps.
+    pub fn stream(
+        &mut self,
+        s: &mut [u32],
+        xs: &[u32; blocks::LIST_ROOM],
+        ys: &[u32; blocks::LIST_ROOM],
+        z: Offsets,
+        t: Inputs,
+        limit: usize,
+    )
+        requires ready { (i : ℕ) → i ≤ limit → Ready z t xs.now ys.now (turns z t xs.now ys.now i (memory s.old self.old)) }
+        requires ends { idle z t xs.now ys.now (turns z t xs.now ys.now limit (memory s.old self.old)) ≡ true }
+        ensures { memory s.new self.new ≡ turns z t xs.now ys.now limit (memory s.old self.old) }
+    {
+        let xe = t.x;
+        let ye = t.y;
+        for k in 0..limit {
+            let px = self.st.x;
+            let py = self.st.y;
+            if (xe <= px.i) & (ye <= py.i) {
+                return;
+            }
+            self.step(s, xs, ys, z, t);
+        }
+    }
 }

@@ -1,21 +1,25 @@
-use Rattle.stream.specs.Machine.{Memory}
-use mathlib.Core.Path.{◌∙◌}
+use borrow.Author.Rules.{rules}
+use mathlib.Core.Path.{◌≡◌, ◌∙◌}
+use lib.ListN.{length}
+use Rattle.geometry.specs.Room.{list_room}
+use Rattle.stream.specs.Machine.{memory}
 use Rattle.compaction.proofs.Whole.{gathers, flushes_in, leaves_in}
 use Rattle.compaction.proofs.compact.Goals as goal
 
-pub gather_blocks-v-requires : goal.gather_blocks-v-requires
-gather_blocks-v-requires c =
+pub gather_blocks-requires : goal.gather_blocks-requires
+gather_blocks-requires c =
     let a = c.args in
-    rw (c.of-o.ensures, c.begin-st.ensures) (gathers a.z a.s.now a.used.now a.out.now a.list.now a.cursor c.requires.0 c.requires.1)
+    let l : length a.desk.now.out ≡ list_room = search rules in
+    rw (c.of-o.ensures, c.begin-desk.ensures) (gathers a.z a.s.now a.desk.now.used a.desk.now.out a.list.now a.cursor c.requires l)
 
-pub flush-r-requires : goal.flush-r-requires
-flush-r-requires c =
+pub flush-requires : goal.flush-requires
+flush-requires c =
     let a = c.args in
-    let b : Memory = record { words = c.gather_blocks-v.new.s; used = c.gather_blocks-v.new.used; out = c.gather_blocks-v.new.out; st = c.gather_blocks-v.result } in
-    rw c.of-o.ensures (flushes_in a.z a.s.now a.used.now a.out.now a.list.now a.cursor c.requires.0 c.requires.1 b (c.gather_blocks-v.ensures ∙ rw (c.of-o.ensures, c.begin-st.ensures)))
+    let l : length a.desk.now.out ≡ list_room = search rules in
+    rw c.of-o.ensures (flushes_in a.z a.s.now a.desk.now.used a.desk.now.out a.list.now a.cursor c.requires l (memory c.gather_blocks.new.s c.gather_blocks.new.desk) (c.gather_blocks.ensures ∙ rw (c.of-o.ensures, c.begin-desk.ensures)))
 
 pub returns : goal.returns
 returns c =
     let a = c.args in
-    let b : Memory = record { words = c.flush-r.new.s; used = c.flush-r.new.used; out = c.flush-r.new.out; st = c.flush-r.result } in
-    leaves_in a.z a.s.now a.used.now a.out.now a.list.now a.cursor c.requires.0 c.requires.1 b (c.flush-r.ensures ∙ rw (c.gather_blocks-v.ensures, c.of-o.ensures, c.begin-st.ensures))
+    let l : length a.desk.now.out ≡ list_room = search rules in
+    leaves_in a.z a.s.now a.desk.now.used a.desk.now.out a.list.now a.cursor c.requires l (memory c.flush.new.s c.flush.new.self) (c.flush.ensures ∙ rw (c.gather_blocks.ensures, c.of-o.ensures, c.begin-desk.ensures))

@@ -1,30 +1,25 @@
-use borrow.Author.Rules.{rules}
 use native.Mathlib.Omega.{arith}
 use mathlib.Core.Path.{◌≡◌, refl, ◌∙◌}
 use lib.ListN.{length}
-use Rattle.stream.specs.Machine.{Memory}
+use Rattle.stream.specs.Machine.{memory}
 use Rattle.compaction.specs.Machine.{blocks_gathered}
 use Rattle.compaction.proofs.Steps.{blocks_more}
 use Rattle.compaction.proofs.gather_blocks.Goals as goal
 
-pub loop-i-init : goal.loop-i-init
+pub loop-q-init : goal.loop-q-init
 unfolding blocks_gathered
-loop-i-init c = (search rules, (refl, refl))
+loop-q-init c = refl
 
-pub gather_chunk-v-requires : goal.gather_chunk-v-requires
-gather_chunk-v-requires c =
-    let l = c.loop-i in
-    rw (c.word-q.ensures.0, l.invariant.1.1) (c.requires l.i c.loop-i-test.true)
+pub gather_chunk-requires : goal.gather_chunk-requires
+gather_chunk-requires c = let l = c.loop-q in rw l.invariant (c.requires l.q-index c.loop-q-test.true)
 
-pub loop-i-preserved : goal.loop-i-preserved
-loop-i-preserved c =
+pub loop-q-preserved : goal.loop-q-preserved
+loop-q-preserved c =
     let a = c.args in
-    let l = c.loop-i in
-    let m : Memory = record { words = a.s.now; used = a.used.now; out = a.out.now; st = a.st } in
-    let b : Memory = record { words = l.s; used = l.used; out = l.out; st = l.v } in
-    (omega arith, (c.gather_chunk-v.auto.s ∙ l.invariant.1.0, c.gather_chunk-v.ensures ∙ rw c.word-q.ensures.0 (blocks_more a.z a.list.now l.i m b l.invariant.1.1)))
+    let l = c.loop-q in
+    c.gather_chunk.ensures ∙ blocks_more a.z a.list.now l.q-index (memory a.s.now a.desk.now) (memory l.s l.desk) l.invariant
 
 pub returns : goal.returns
 returns c =
-    let n : c.loop-i.i ≡ length c.args.list.now = omega arith in
-    rw n at c.loop-i.invariant.1.1
+    let n : c.loop-q.q-index ≡ length c.args.list.now = omega arith in
+    rw n at c.loop-q.invariant

@@ -1,8 +1,9 @@
 use borrow.Author.Rules.{rules}
 use native.Mathlib.Omega.{arith}
 use mathlib.Core.Path.{◌≡◌, refl, ◌∙◌, ap}
+use lib.ListN.{length}
 use Rattle.sides.specs.declared.Chunk.{Chunk}
-use Rattle.stream.specs.Machine.{Memory}
+use Rattle.stream.specs.Machine.{memory}
 use Rattle.compaction.specs.Machine.{records_gathered}
 use Rattle.compaction.proofs.Steps.{records_more, roomy_in, head_inside}
 use Rattle.compaction.proofs.gather_chunk.Goals as goal
@@ -12,21 +13,19 @@ block_chunk-chunk-requires c = (c.requires.sized, c.requires.place)
 
 pub loop-j-init : goal.loop-j-init
 unfolding records_gathered
-loop-j-init c = (search rules, (refl, refl))
+loop-j-init c = refl
 
 pub head_at-head-requires : goal.head_at-head-requires
 head_at-head-requires c =
     let a = c.args in
-    let m : Memory = record { words = a.s.now; used = a.used.now; out = a.out.now; st = a.st } in
-    head_inside a.z a.q m c.block_chunk-chunk.result c.loop-j.s c.loop-j.j c.requires c.block_chunk-chunk.ensures c.loop-j.invariant.1.0 c.loop-j-test.true
+    let e : length c.loop-j.s ≡ length a.s.now = search rules in
+    head_inside a.z a.q (memory a.s.now a.desk.now) c.block_chunk-chunk.result c.loop-j.s c.loop-j.j c.requires c.block_chunk-chunk.ensures e c.loop-j-test.true
 
-pub gather-v-requires : goal.gather-v-requires
-gather-v-requires c =
+pub gather-requires : goal.gather-requires
+gather-requires c =
     let a = c.args in
     let l = c.loop-j in
-    let m : Memory = record { words = a.s.now; used = a.used.now; out = a.out.now; st = a.st } in
-    let b : Memory = record { words = l.s; used = l.used; out = l.out; st = l.v } in
-    let r = roomy_in a.z a.q c.block_chunk-chunk.result l.j m b c.requires c.block_chunk-chunk.ensures c.loop-j-test.true l.invariant.1.1 in
+    let r = roomy_in a.z a.q c.block_chunk-chunk.result l.j (memory a.s.now a.desk.now) (memory l.s l.desk) c.requires c.block_chunk-chunk.ensures c.loop-j-test.true l.invariant in
     (r.flushable, r.gatherable, rw c.head_at-head.ensures (omega arith))
 
 pub overflow_step-j : goal.overflow_step-j
@@ -36,11 +35,9 @@ pub loop-j-preserved : goal.loop-j-preserved
 loop-j-preserved c =
     let a = c.args in
     let l = c.loop-j in
-    let m : Memory = record { words = a.s.now; used = a.used.now; out = a.out.now; st = a.st } in
-    let b : Memory = record { words = l.s; used = l.used; out = l.out; st = l.v } in
-    (omega arith, (c.gather-v.auto.s ∙ l.invariant.1.0, c.gather-v.ensures ∙ rw c.head_at-head.ensures (records_more a.z c.block_chunk-chunk.result l.j m b l.invariant.1.1)))
+    c.gather.ensures ∙ rw c.head_at-head.ensures (records_more a.z c.block_chunk-chunk.result l.j (memory a.s.now a.desk.now) (memory l.s l.desk) l.invariant)
 
 pub returns : goal.returns
 returns c =
     let n : c.loop-j.j ≡ c.block_chunk-chunk.result.n = omega arith in
-    rw (n, c.block_chunk-chunk.ensures) at c.loop-j.invariant.1.1
+    rw (n, c.block_chunk-chunk.ensures) at c.loop-j.invariant

@@ -16,50 +16,50 @@ unfolding after_joined
 returns-then-end-i c = rw (le-leb _ _ c.if-end-i.true)
 
 pub place_start-at-requires : goal.place_start-at-requires
-place_start-at-requires c = let h : c.listed-q.result < c.args.z.p = rw c.listed-q.ensures (c.requires.place c.if-end-i.false) in omega (arith, c.requires.lefts.sized)
+place_start-at-requires c = let h : get_or c.args.ys.now c.args.desk.now.st.y.i 0 < c.args.z.p = c.requires.place c.if-end-i.false in omega (arith, c.requires.lefts.sized)
 
 pub word-size-requires : goal.word-size-requires
-word-size-requires c = rw (c.place_start-at.ensures, c.listed-q.ensures) (omega (arith, in_store c.args.z c.args.s.now c.requires.lefts.sized (get_or c.args.ys.now c.args.st.y.i 0) 0 (c.requires.place c.if-end-i.false) (omega arith)))
+word-size-requires c = rw c.place_start-at.ensures (omega (arith, in_store c.args.z c.args.s.now c.requires.lefts.sized (get_or c.args.ys.now c.args.desk.now.st.y.i 0) 0 (c.requires.place c.if-end-i.false) (omega arith)))
 
 pub overflow_add-e : goal.overflow_add-e
 overflow_add-e c =
-    let l = last_low c.args.z c.args.s.now c.args.out.now c.args.st.m c.requires.lefts.sized (λ i. (c.type_inv.s i).fits) in
+    let l = last_low c.args.z c.args.s.now c.args.desk.now.out c.args.desk.now.st.m c.requires.lefts.sized (λ i. (c.type_inv.s i).fits) in
     let e = c.last_size-e.ensures in
     let f = c.word-size.ensures.0 in
     let g = (c.type_inv.s c.place_start-at.result).fits in
     omega arith
 
-pub pull_last-v-requires : goal.pull_last-v-requires
-pull_last-v-requires c =
+pub pull_last-requires : goal.pull_last-requires
+pull_last-requires c =
     let n = c.if-n-eq0.true in
-    let f : 1 ≤ c.word-size.result = rw (c.word-size.ensures.0, c.place_start-at.ensures, c.listed-q.ensures) (c.requires.filled c.if-end-i.false) in
-    pull_able c.args.z c.args.s.now c.args.out.now c.args.st c.word-size.result c.requires.lefts f (omega arith) (rw (← c.last_size-e.ensures) c.if-e-size.true)
+    let f : 1 ≤ c.word-size.result = rw (c.word-size.ensures.0, c.place_start-at.ensures) (c.requires.filled c.if-end-i.false) in
+    pull_able c.args.z c.args.s.now c.args.desk.now.out c.args.desk.now.st c.word-size.result c.requires.lefts f (omega arith) (rw (← c.last_size-e.ensures) c.if-e-size.true)
 
 pub take_after-requires : goal.take_after-requires
 take_after-requires c =
-    let f : 1 ≤ c.word-size.result = rw (c.word-size.ensures.0, c.place_start-at.ensures, c.listed-q.ensures) (c.requires.filled c.if-end-i.false) in
+    let f : 1 ≤ c.word-size.result = rw (c.word-size.ensures.0, c.place_start-at.ensures) (c.requires.filled c.if-end-i.false) in
     let h = rw c.last_size-e.ensures at c.if-e-size.true in
-    let p = last_pull c.args.z c.args.s.now c.args.out.now c.args.st.m c.word-size.result f h in
-    let n = pulled_n c.args.z c.args.s.now c.args.out.now c.args.st in
-    let w : c.word-size.result ≡ get_or c.args.s.now (start_of c.args.z c.listed-q.result) 0 = c.word-size.ensures.0 ∙ ap (λ (k : ℕ). get_or c.args.s.now k 0) c.place_start-at.ensures in
-    let v = ap (λ (p : Point). p.i) (pulled_y c.args.z c.args.s.now c.args.out.now c.args.st) in
+    let p = last_pull c.args.z c.args.s.now c.args.desk.now.out c.args.desk.now.st.m c.word-size.result f h in
+    let n = pulled_n c.args.z c.args.s.now c.args.desk.now.out c.args.desk.now.st in
+    let w : c.word-size.result ≡ get_or c.args.s.now (start_of c.args.z (get_or c.args.ys.now c.args.desk.now.st.y.i 0)) 0 = c.word-size.ensures.0 ∙ ap (λ (k : ℕ). get_or c.args.s.now k 0) c.place_start-at.ensures in
+    let v = ap (λ (p : Point). p.i) (pulled_y c.args.z c.args.s.now c.args.desk.now.out c.args.desk.now.st) in
     let e = p.1 in
     let z = c.if-n-eq0.true in
     let x = c.requires.end_high in
     let y = c.if-end-i.false in
-    rw c.pull_last-v.ensures (record { sized = c.requires.lefts.sized; place = rw c.listed-q.ensures (c.requires.place c.if-end-i.false); clean = pulled_clean c.args.z c.args.s.now c.args.out.now c.args.st; few = omega arith }, omega arith)
+    rw c.pull_last.ensures (record { sized = c.requires.lefts.sized; place = c.requires.place c.if-end-i.false; clean = pulled_clean c.args.z c.args.s.now c.args.desk.now.out c.args.desk.now.st; few = omega arith }, omega arith)
 
 pub returns-then-e-size : goal.returns-then-e-size
 unfolding after_joined
 returns-then-e-size c =
     let h = le-leb _ _ c.if-e-size.true in
-    c.take_after.ensures ∙ rw (c.pull_last-v.ensures, lt-leb _ _ c.if-end-i.false, eq-eqb _ _ c.if-n-eq0.true, ← c.last_size-e.ensures, ← c.listed-q.ensures, ← c.place_start-at.ensures, ← c.word-size.ensures.0, h)
+    c.take_after.ensures ∙ rw (c.pull_last.ensures, lt-leb _ _ c.if-end-i.false, eq-eqb _ _ c.if-n-eq0.true, ← c.last_size-e.ensures, ← c.place_start-at.ensures, ← c.word-size.ensures.0, h)
 
-pub returns-then-n-eq0 : goal.returns-then-n-eq0
+pub returns-else-e-size : goal.returns-else-e-size
 unfolding after_joined
-returns-then-n-eq0 c =
+returns-else-e-size c =
     let h = lt-leb _ _ c.if-e-size.false in
-    rw (lt-leb _ _ c.if-end-i.false, eq-eqb _ _ c.if-n-eq0.true, ← c.last_size-e.ensures, ← c.listed-q.ensures, ← c.place_start-at.ensures, ← c.word-size.ensures.0, h)
+    rw (lt-leb _ _ c.if-end-i.false, eq-eqb _ _ c.if-n-eq0.true, ← c.last_size-e.ensures, ← c.place_start-at.ensures, ← c.word-size.ensures.0, h)
 
 pub overflow_add-n : goal.overflow_add-n
 overflow_add-n c =
@@ -69,20 +69,20 @@ overflow_add-n c =
 
 pub take_after-requires-then-n-size : goal.take_after-requires-then-n-size
 take_after-requires-then-n-size c =
-    let w : c.word-size.result ≡ get_or c.args.s.now (start_of c.args.z c.listed-q.result) 0 = c.word-size.ensures.0 ∙ ap (λ (k : ℕ). get_or c.args.s.now k 0) c.place_start-at.ensures in
+    let w : c.word-size.result ≡ get_or c.args.s.now (start_of c.args.z (get_or c.args.ys.now c.args.desk.now.st.y.i 0)) 0 = c.word-size.ensures.0 ∙ ap (λ (k : ℕ). get_or c.args.s.now k 0) c.place_start-at.ensures in
     let t = c.if-n-size.true in
     let x = c.requires.end_high in
     let y = c.if-end-i.false in
-    (record { sized = c.requires.lefts.sized; place = rw c.listed-q.ensures (c.requires.place c.if-end-i.false); clean = c.requires.clean; few = omega arith }, omega arith)
+    (record { sized = c.requires.lefts.sized; place = c.requires.place c.if-end-i.false; clean = c.requires.clean; few = omega arith }, omega arith)
 
 pub returns-then-n-size : goal.returns-then-n-size
 unfolding after_joined
 returns-then-n-size c =
     let h = le-leb _ _ c.if-n-size.true in
-    c.take_after-then-n-size.ensures ∙ rw (lt-leb _ _ c.if-end-i.false, ne_eqb _ _ c.if-n-eq0.false, ← c.listed-q.ensures, ← c.place_start-at.ensures, ← c.word-size.ensures.0, h)
+    c.take_after-then-n-size.ensures ∙ rw (lt-leb _ _ c.if-end-i.false, ne_eqb _ _ c.if-n-eq0.false, ← c.place_start-at.ensures, ← c.word-size.ensures.0, h)
 
-pub returns : goal.returns
+pub returns-else-n-size : goal.returns-else-n-size
 unfolding after_joined
-returns c =
+returns-else-n-size c =
     let h = lt-leb _ _ c.if-n-size.false in
-    rw (lt-leb _ _ c.if-end-i.false, ne_eqb _ _ c.if-n-eq0.false, ← c.listed-q.ensures, ← c.place_start-at.ensures, ← c.word-size.ensures.0, h)
+    rw (lt-leb _ _ c.if-end-i.false, ne_eqb _ _ c.if-n-eq0.false, ← c.place_start-at.ensures, ← c.word-size.ensures.0, h)

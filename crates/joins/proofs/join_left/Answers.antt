@@ -14,7 +14,7 @@ returns-then-n-eq0 c = rw (eq-eqb _ _ c.if-n-eq0.true)
 
 pub overflow_add-e : goal.overflow_add-e
 overflow_add-e c =
-    let l = last_low c.args.z c.args.s.now c.args.out.now c.args.st.m c.requires.sized (λ i. (c.type_inv.s i).fits) in
+    let l = last_low c.args.z c.args.s.now c.args.desk.now.out c.args.desk.now.st.m c.requires.sized (λ i. (c.type_inv.s i).fits) in
     let e = c.last_size-e.ensures in
     let f = c.requires.few in
     omega arith
@@ -22,12 +22,12 @@ overflow_add-e c =
 pub pull_last-requires : goal.pull_last-requires
 pull_last-requires c =
     let n = c.if-n-eq0.false in
-    pull_able c.args.z c.args.s.now c.args.out.now c.args.st c.args.st.buf.n c.requires (omega arith) (le_refl _) (let h : c.last_size-e.result + c.args.st.buf.n ≤ c.args.z.b = omega arith in rw (← c.last_size-e.ensures) h)
+    pull_able c.args.z c.args.s.now c.args.desk.now.out c.args.desk.now.st c.args.desk.now.st.buf.n c.requires (omega arith) (le_refl _) (let h : c.last_size-e.result + c.args.desk.now.st.buf.n ≤ c.args.z.b = omega arith in rw (← c.last_size-e.ensures) h)
 
 pub returns-then-e-n : goal.returns-then-e-n
 unfolding left_joined
-returns-then-e-n c = let h = le-leb (c.last_size-e.result + c.args.st.buf.n) c.args.z.b (omega arith) in c.pull_last.ensures ∙ rw (ne_eqb _ _ c.if-n-eq0.false, ← c.last_size-e.ensures, h)
+returns-then-e-n c = let h = le-leb (c.last_size-e.result + c.args.desk.now.st.buf.n) c.args.z.b (omega arith) in c.pull_last.ensures ∙ rw (ne_eqb _ _ c.if-n-eq0.false, ← c.last_size-e.ensures, h)
 
-pub returns : goal.returns
+pub returns-else-e-n : goal.returns-else-e-n
 unfolding left_joined
-returns c = let h = lt-leb (c.last_size-e.result + c.args.st.buf.n) c.args.z.b (omega arith) in rw (ne_eqb _ _ c.if-n-eq0.false, ← c.last_size-e.ensures, h)
+returns-else-e-n c = let h = lt-leb (c.last_size-e.result + c.args.desk.now.st.buf.n) c.args.z.b (omega arith) in rw (ne_eqb _ _ c.if-n-eq0.false, ← c.last_size-e.ensures, h)

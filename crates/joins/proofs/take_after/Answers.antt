@@ -3,4 +3,4 @@ use Rattle.joins.proofs.take_after.Goals as goal
 
 pub returns : goal.returns
 unfolding after_taken
-returns c = rw c.append_block-v.ensures
+returns c = rw c.append_block-desk.ensures

@@ -10,8 +10,8 @@ unfolding chunk_of
 returns-then-pages c = rw c.if-pages.true c.page_chunk.ensures
 
 pub block_chunk-requires : goal.block_chunk-requires
-block_chunk-requires c = (c.requires.sized, rw c.listed-q.ensures (c.requires.place c.if-pages.false))
+block_chunk-requires c = (c.requires.sized, c.requires.place c.if-pages.false)
 
 pub returns : goal.returns
 unfolding chunk_of
-returns c = rw (c.if-pages.false, c.block_chunk.ensures, c.listed-q.ensures)
+returns c = rw (c.if-pages.false, c.block_chunk.ensures)

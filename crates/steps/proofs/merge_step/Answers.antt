@@ -1,11 +1,12 @@
-use mathlib.Core.Path.{refl, sym, ◌∙◌}
+use mathlib.Core.Path.{ap, refl, sym, ◌∙◌}
 use native.Mathlib.Omega.{arith}
 use Rattle.steps.proofs.Merging.{level_low}
 use Rattle.steps.proofs.Chaining.{step_markable, step_marks, step_asks, first_asks, step_top, second_asks, step_below}
+use Rattle.stream.specs.declared.Desk.{Desk}
 use Rattle.steps.proofs.merge_step.Goals as goal
 
 pub marks-requires : goal.marks-requires
-marks-requires c = (refl, rw c.levels.ensures (step_markable _ _ _ _ _ c.requires))
+marks-requires c = (ap (λ (d : Desk). d.used) c.new-desk.ensures, rw c.levels.ensures (step_markable _ _ _ _ _ c.requires))
 
 pub merge_top-merged-requires : goal.merge_top-merged-requires
 merge_top-merged-requires c = (rw c.if-level-eq0.true at (step_asks _ _ _ _ _ c.requires), step_marks _ _ _ _ _ c.requires c.marks.new.used _ c.levels.ensures c.marks.ensures)

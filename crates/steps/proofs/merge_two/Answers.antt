@@ -41,11 +41,11 @@ merge_pair-m-requires c = two_ready _ _ _ _ _ c.requires.0 _ c.requires.1.0 (c.a
 
 pub count-requires : goal.count-requires
 count-requires c =
-    let w = two_few _ _ _ _ _ c.requires.0 c.args.used.now c.requires.1.0 (c.args.level - 1) (omega (arith, c.requires.1.1)) _ _ _ _ c.merge_pair-m.ensures in
+    let w = two_few _ _ _ _ _ c.requires.0 c.args.desk.now.used c.requires.1.0 (c.args.level - 1) (omega (arith, c.requires.1.1)) _ _ _ _ c.merge_pair-m.ensures in
     (omega arith, (omega (arith, low (goal.at.count-requires c).Start), (c.requires.0.small, record { merges = omega arith; written = w; compacted = omega arith })))
 
 pub ticket-requires : goal.ticket-requires
-ticket-requires c = two_words _ _ _ _ _ c.requires.0 c.args.used.now c.requires.1.0 (c.args.level - 1) (omega (arith, c.requires.1.1)) _ _ _ _ c.merge_pair-m.ensures
+ticket-requires c = two_words _ _ _ _ _ c.requires.0 c.args.desk.now.used c.requires.1.0 (c.args.level - 1) (omega (arith, c.requires.1.1)) _ _ _ _ c.merge_pair-m.ensures
 
 pub returns : goal.returns
-returns c = two_merged _ _ _ _ _ c.requires.0 c.args.used.now c.requires.1.0 (c.args.level - 1) (omega (arith, c.requires.1.1)) _ _ _ _ c.merge_pair-m.ensures _ _ _ _ c.count.ensures refl c.ticket.ensures refl
+returns c = two_merged _ _ _ _ _ c.requires.0 c.args.desk.now.used c.requires.1.0 (c.args.level - 1) (omega (arith, c.requires.1.1)) _ _ _ _ c.merge_pair-m.ensures _ _ _ _ c.count.ensures refl c.ticket.ensures refl

@@ -1,4 +1,4 @@
 use Rattle.merging.proofs.Cut.begin.Goals as goal
 
 pub returns : goal.returns
-returns c = rw c.empty-empty.ensures
+returns c = rw c.default.ensures

@@ -2,10 +2,10 @@ use Prim.Native.Nat.{suc, ◌+◌, ◌/◌, ◌%◌, ◌^◌}
 use native.Mathlib.Omega.{arith}
 use mathlib.Core.Path.{◌≡◌, ◌∙◌, ap}
 use mathlib.Core.Bool.{not}
-use Rattle.stream.specs.Machine.{taken_run}
+use Rattle.stream.specs.Machine.{memory, taken_run}
 use Rattle.stream.proofs.Taking.{held_none, held_next, stored, dropped, marks_fit, fill_full, fill_more}
-use Rattle.stream.proofs.gather_run.Goals as goal
-use Rattle.stream.proofs.gather_run.Goals.{then-not-bottom-t, else-not-bottom-t}
+use Rattle.stream.proofs.Desk.gather_run.Goals as goal
+use Rattle.stream.proofs.Desk.gather_run.Goals.{then-not-bottom-t, else-not-bottom-t}
 
 pub loop-k-init : goal.loop-k-init
 loop-k-init c = (omega arith, held_none _ _ _ _ _ c.requires.1.bits)
@@ -33,13 +33,13 @@ returns-then-z-n c =
     let a = c.args in
     let l = c.loop-k in
     let n : l.k ≡ suc a.run.more = omega arith in
-    let e = l.invariant.1.same ∙ ap (taken_run a.s.now a.bottom a.run.next.head a.run.from a.st.buf) n in
-    c.flush.ensures ∙ fill_full a.z (record { words = a.s.now; used = a.used.now; out = a.out.now; st = a.st }) l.buf _ e c.if-z-n.true
+    let e = l.invariant.1.same ∙ ap (taken_run a.s.now a.bottom a.run.next.head a.run.from a.self.now.st.buf) n in
+    c.flush.ensures ∙ fill_full a.z (memory a.s.now a.self.now) l.buf _ e c.if-z-n.true
 
-pub returns : goal.returns
-returns c =
+pub returns-else-z-n : goal.returns-else-z-n
+returns-else-z-n c =
     let a = c.args in
     let l = c.loop-k in
     let n : l.k ≡ suc a.run.more = omega arith in
-    let e = l.invariant.1.same ∙ ap (taken_run a.s.now a.bottom a.run.next.head a.run.from a.st.buf) n in
-    fill_more a.z (record { words = a.s.now; used = a.used.now; out = a.out.now; st = a.st }) l.buf _ e c.if-z-n.false
+    let e = l.invariant.1.same ∙ ap (taken_run a.s.now a.bottom a.run.next.head a.run.from a.self.now.st.buf) n in
+    fill_more a.z (memory a.s.now a.self.now) l.buf _ e c.if-z-n.false

@@ -1,6 +1,6 @@
 use Prim.Native.Nat.{◌-◌, ◌≤◌}
 use Rattle.stream.proofs.Taking.{Held}
-use Rattle.stream.proofs.gather_run.Given as goal
+use Rattle.stream.proofs.Desk.gather_run.Given as goal
 
 abbrev pub invariant-loop-k : goal.invariant-loop-k
 invariant-loop-k l = (l.k ≤ l.end) × Held l.s l.bottom l.head l.from l.initial.buf l.k l.buf

@@ -2,7 +2,7 @@ use borrow.Author.Tests.{le-leb, lt-leb}
 use native.Mathlib.Omega.{arith}
 use mathlib.Core.Path.{◌∙◌}
 use Rattle.stream.specs.Machine.{gathered}
-use Rattle.stream.proofs.gather.Goals as goal
+use Rattle.stream.proofs.Desk.gather.Goals as goal
 
 pub returns-then-bottom-head : goal.returns-then-bottom-head
 unfolding gathered
@@ -13,16 +13,16 @@ flush-requires c =
     let p = c.push-more.ensures in
     record { sized = c.requires.0.sized; cursor = c.requires.0.cursor; full = rw p (omega (arith, c.requires.1, c.requires.0.sized)); room = c.requires.0.room; count = c.requires.0.count; free = c.requires.0.free }
 
-pub returns-then-b-n : goal.returns-then-b-n
+pub returns-then-z-more : goal.returns-then-z-more
 unfolding gathered
-returns-then-b-n c =
+returns-then-z-more c =
     let p = c.push-more.ensures in
-    let h = le-leb _ _ (rw p at c.if-b-n.true) in
+    let h = le-leb _ _ (rw p at c.if-z-more.true) in
     c.flush.ensures ∙ rw (p, c.if-bottom-head.false, h)
 
-pub returns : goal.returns
+pub returns-else-z-more : goal.returns-else-z-more
 unfolding gathered
-returns c =
+returns-else-z-more c =
     let p = c.push-more.ensures in
-    let h = lt-leb _ _ (rw p at c.if-b-n.false) in
+    let h = lt-leb _ _ (rw p at c.if-z-more.false) in
     rw (p, c.if-bottom-head.false, h)

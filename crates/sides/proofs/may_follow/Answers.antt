@@ -1,6 +1,6 @@
 use borrow.Author.Tests.{eq-eqb, ne_eqb}
 use Rattle.sides.specs.Sides.{follows}
-use Rattle.sides.proofs.reusable.Goals as goal
+use Rattle.sides.proofs.may_follow.Goals as goal
 
 pub returns-then-n-eq0 : goal.returns-then-n-eq0
 unfolding follows

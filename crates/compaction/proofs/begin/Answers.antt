@@ -1,4 +1,0 @@
-use Rattle.compaction.proofs.begin.Goals as goal
-
-pub returns : goal.returns
-returns c = rw c.empty-empty.ensures
