@@ -15,11 +15,12 @@ use Rattle.levels.proofs.Lists.{get_d_map_in}
 use Rattle.levels.proofs.Choice.{IsLeast, least_of_is}
 use Rattle.choice.specs.declared.Choice.{Choice}
 use Rattle.choice.specs.declared.Stretch.{Stretch}
-use Rattle.choice.specs.Fences.{Fence, fences_from, fences_of, Ordered, Fenced, fence_runs, low_of, high_of, fence_overlap, overlaps_of, choose_fences, choice_of, with_stretch, stretch_of, run_over, fewer}
+use Rattle.choice.specs.declared.Fence.{Fence}
+use Rattle.choice.specs.Fences.{Ordered, fence_runs, fence_overlap, overlaps_of, choose_fences, choice_of, with_stretch, stretch_of, run_over, fewer}
 use Rattle.choice.specs.Pass.{AtRun}
 use Rattle.choice.proofs.Order.{overlap_stretch}
 use Rattle.choice.proofs.Once.{at_start, runs_length, runs_at, run_at, pass_at, pass_first, pass_next}
-use Rattle.choice.proofs.Keys.{run_from, fences_length, low_at, high_at}
+use Rattle.choice.proofs.Keys.{low_at, high_at}
 
 pub overlaps_length : (w : ℕ) (above under : List Fence) → 1 ≤ w → length (overlaps_of w above under) ≡ suc (length above) - w
 unfolding overlaps_of
@@ -110,45 +111,29 @@ module _ (w : ℕ) (above under : List Fence) where
     unfolding choice_among choose_fences
     among_all i h = rw (take_all i (overlaps_of w above under) (omega (arith, overlaps_length w above under p)))
 
--- the same for fences kept as lists of keys, `at` the stretch below run i
-module _ (firsts lasts starts ends : List ℕ) (a n w : ℕ) (p : 1 ≤ w) (f : Fenced starts ends 0 n) where
-  abbrev above : List Fence
-  above = fences_of firsts lasts a
-
-  abbrev under : List Fence
-  under = fences_of starts ends n
-
-  long : length above ≡ a
-  long = fences_length firsts lasts 0 a
-
-  run_here : (i : ℕ) (at : Stretch) → i + w ≤ a → at ≡ stretch_of (fences_from firsts lasts i w) under → choice_at w above under i ≡ run_over i at
-  run_here i at h e =
-      rw (run_from firsts lasts a i w h, overlap_stretch (fences_from firsts lasts i w) under f.ordered, ← e)
-
-  run_keys : (i lo hi : ℕ) → i + w ≤ a → lo ≡ get_or firsts i 0 → hi ≡ get_or lasts (i + w - 1) 0 → (lo ≡ low_of (run_at w i above)) × (hi ≡ high_of (run_at w i above))
-  run_keys i lo hi h e d = rw (run_from firsts lasts a i w h, low_at firsts lasts i w p, high_at firsts lasts i w p) (e, d)
+-- the same by the fences that the code reads, `at` the stretch below run i
+module _ (above under : List Fence) (w : ℕ) (p : 1 ≤ w) (o : Ordered 0 under) (d : Fence) where
+  run_here : (i : ℕ) (at : Stretch) → at ≡ stretch_of (run_at w i above) under → choice_at w above under i ≡ run_over i at
+  run_here i at e = rw (overlap_stretch (run_at w i above) under o, ← e)
 
   -- the ends at the first run, and at run i, are where the pass has them
-  pub pass_here : (lo hi : ℕ) (at : Stretch) → w ≤ a → lo ≡ get_or firsts 0 0 → hi ≡ get_or lasts (0 + w - 1) 0 → AtRun lo hi under at_start at → at ≡ pass_at w above under 0
-  pass_here lo hi at h e d r =
-      let k = run_keys 0 lo hi (omega arith) e d in
-      r.moved ∙ rw (k.0, k.1) (sym (pass_first w p above under (rw long h)))
+  pub pass_here : (at : Stretch) → w ≤ length above → AtRun (get_or above 0 d).first (get_or above (0 + w - 1) d).last under at_start at → at ≡ pass_at w above under 0
+  pass_here at h r = r.moved ∙ rw (← low_at above d 0 w p (omega arith), ← high_at above d 0 w p (omega arith)) (sym (pass_first w p above under h))
 
-  pub pass_on : (i lo hi : ℕ) (before at : Stretch) → 1 ≤ i → i + w ≤ a → lo ≡ get_or firsts i 0 → hi ≡ get_or lasts (i + w - 1) 0 → before ≡ pass_at w above under (i - 1) → AtRun lo hi under before at → at ≡ pass_at w above under i
-  pass_on zero lo hi before at l h e d b r = absurd (omega arith)
-  pass_on (suc i) lo hi before at l h e d b r =
-      let k = run_keys (suc i) lo hi h e d in
+  pub pass_on : (i : ℕ) (before at : Stretch) → 1 ≤ i → i + w ≤ length above → before ≡ pass_at w above under (i - 1) → AtRun (get_or above i d).first (get_or above (i + w - 1) d).last under before at → at ≡ pass_at w above under i
+  pass_on zero before at l h b r = absurd (omega arith)
+  pass_on (suc i) before at l h b r =
       let m : suc i - 1 ≡ i = omega arith in
-      r.moved ∙ rw (b, m, k.0, k.1) (sym (pass_next w p above under i (rw long h)))
+      r.moved ∙ rw (b, m, ← low_at above d (suc i) w p h, ← high_at above d (suc i) w p h) (sym (pass_next w p above under i h))
 
-  pub choose_first : (at : Stretch) → w ≤ a → at ≡ stretch_of (fences_from firsts lasts 0 w) under → choice_among w above under 1 ≡ run_over 0 at
-  choose_first at h e = among_first w above under p (rw long h) ∙ run_here 0 at (omega arith) e
+  pub choose_first : (at : Stretch) → w ≤ length above → at ≡ stretch_of (run_at w 0 above) under → choice_among w above under 1 ≡ run_over 0 at
+  choose_first at h e = among_first w above under p h ∙ run_here 0 at e
 
-  pub choose_more : (i : ℕ) (at : Stretch) → 1 ≤ i → i + w ≤ a → at ≡ stretch_of (fences_from firsts lasts i w) under → choice_among w above under (i + 1) ≡ fewer (choice_among w above under i) (run_over i at)
-  choose_more i at l h e = among_more w above under p i l (rw long h) ∙ ap (fewer (choice_among w above under i)) (run_here i at h e)
+  pub choose_more : (i : ℕ) (at : Stretch) → 1 ≤ i → i + w ≤ length above → at ≡ stretch_of (run_at w i above) under → choice_among w above under (i + 1) ≡ fewer (choice_among w above under i) (run_over i at)
+  choose_more i at l h e = among_more w above under p i l h ∙ ap (fewer (choice_among w above under i)) (run_here i at e)
 
-  pub choose_all : (i : ℕ) → a < i + w → choice_among w above under i ≡ choice_of (choose_fences w above under)
-  choose_all i h = among_all w above under p i (rw long h)
+  pub choose_all : (i : ℕ) → length above < i + w → choice_among w above under i ≡ choice_of (choose_fences w above under)
+  choose_all i h = among_all w above under p i h
 
 -- The chosen run.
 

@@ -12,7 +12,8 @@ use Rattle.slices.specs.Ranks.{Rising, count_below}
 use Rattle.levels.specs.Record.{Block, Level, first_key, last_key}
 use Rattle.levels.specs.Choose.{lo_of, hi_of, below, not_above, cut_at}
 use Rattle.choice.specs.declared.Stretch.{Stretch}
-use Rattle.choice.specs.Fences.{Fence, fence_of, Ordered, count_at_most, first_keys, last_keys, stretch_of}
+use Rattle.choice.specs.declared.Fence.{Fence}
+use Rattle.choice.specs.Fences.{fence_of, Ordered, count_at_most, first_keys, last_keys, stretch_of}
 use Rattle.slices.proofs.Ranks.{count_in, count_none, count_high, count_drop, rising_drop}
 use Rattle.levels.proofs.Lists.{map_take, map_drop}
 use Rattle.choice.proofs.Lists.{map_of_map}

@@ -2,13 +2,13 @@
 use Prim.Native.Nat.{ℕ, suc}
 use mathlib.Core.Path.{◌≡◌, refl, sym, ap}
 use mathlib.Core.Bool.{Bool, true, false}
-use mathlib.Core.List.{List, [], ◌∷◌, map}
+use mathlib.Core.List.{[], ◌∷◌, map}
 use lib.Dec.{leb}
 use lib.ListN.{length, take, length-map}
 use Rattle.levels.specs.Basics.{if◌then◌otherwise◌}
 use Rattle.levels.specs.Record.{Level, records, rising, last_key}
 use Rattle.levels.specs.Choose.{Least, runs, lo_of, hi_of, count_meets, overlap, choose}
-use Rattle.choice.specs.Fences.{fence_of, fences_of, Ordered, fence_runs, low_of, high_of, count_over, fence_overlap, overlaps_of, choose_fences, choice_of, with_stretch}
+use Rattle.choice.specs.Fences.{fence_of, Ordered, fence_runs, low_of, high_of, count_over, fence_overlap, overlaps_of, choose_fences, choice_of, with_stretch}
 use Rattle.levels.proofs.Lists.{map_take}
 use Rattle.levels.proofs.Rising.{test_rising}
 use Rattle.levels.proofs.Levels as levels
@@ -51,11 +51,10 @@ unfolding choose_fences overlaps_of
 choose_fences_lem w above under =
     rw (runs_fences w above, map_of_map (fence_overlap (map fence_of under)) (map fence_of) (overlap under) (overlap_fences under) (runs w above))
 
--- the same, for lists of keys that hold the fences of the two levels
-pub choice_fences : (firsts lasts starts ends : List ℕ) (a n w : ℕ) (above under : Level) → fences_of firsts lasts a ≡ map fence_of above → fences_of starts ends n ≡ map fence_of under
-    → choice_of (choose_fences w (fences_of firsts lasts a) (fences_of starts ends n)) ≡ choice_of (with_stretch w (map fence_of above) (map fence_of under) (choose w above under))
+-- the same, of the choice as the code has it
+pub choice_fences : (w : ℕ) (above under : Level) → choice_of (choose_fences w (map fence_of above) (map fence_of under)) ≡ choice_of (with_stretch w (map fence_of above) (map fence_of under) (choose w above under))
 unfolding choose_fences
-choice_fences firsts lasts starts ends a n w above under e d = rw (e, d) (ap (λ (l : Least). choice_of (with_stretch w (map fence_of above) (map fence_of under) l)) (sym (choose_fences_lem w above under)))
+choice_fences w above under = ap (λ (l : Least). choice_of (with_stretch w (map fence_of above) (map fence_of under) l)) (sym (choose_fences_lem w above under))
 
 -- Blocks in key order.
 

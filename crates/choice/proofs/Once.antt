@@ -11,7 +11,8 @@ use borrow.Author.Tests.{leb-true}
 use Rattle.levels.specs.Basics.{if◌then◌otherwise◌}
 use Rattle.levels.proofs.Choice.{run_of, runs_of}
 use Rattle.choice.specs.declared.Stretch.{Stretch}
-use Rattle.choice.specs.Fences.{Fence, Ordered, fence_runs, low_of, high_of, first_keys, last_keys, stretch_of}
+use Rattle.choice.specs.declared.Fence.{Fence}
+use Rattle.choice.specs.Fences.{Ordered, fence_runs, low_of, high_of, first_keys, last_keys, stretch_of}
 use Rattle.choice.specs.Pass.{moves_of, move_on, NotPast}
 use Rattle.choice.proofs.Pass.{moves_high, at_run, at_stretch, next_run}
 

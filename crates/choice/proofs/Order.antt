@@ -9,7 +9,8 @@ use lib.ListN.{length, take, drop}
 use borrow.Author.Tests.{leb-true, leb-false, ltb-true, ltb-false}
 use Rattle.slices.specs.Ranks.{Rising, count_below}
 use Rattle.levels.specs.Basics.{if◌then◌otherwise◌}
-use Rattle.choice.specs.Fences.{Fence, Ordered, low_of, high_of, count_over, fence_overlap, count_at_most, first_keys, last_keys, stretch_of}
+use Rattle.choice.specs.declared.Fence.{Fence}
+use Rattle.choice.specs.Fences.{Ordered, low_of, high_of, count_over, fence_overlap, count_at_most, first_keys, last_keys, stretch_of}
 use Rattle.slices.proofs.Ranks.{count_in, count_out, count_none, rising_weak}
 
 pub lasts_rise : (low : ℕ) (fs : List Fence) → Ordered low fs → Rising low (last_keys fs)

@@ -1,18 +1,20 @@
 -- A step of card 4's pass: both ends move forward to where the next run has them.
-use Prim.Native.Nat.{ℕ, zero, suc, ◌+◌, ◌≤◌, ◌<◌}
+use Prim.Native.Nat.{ℕ, zero, suc, ◌+◌, ◌≤◌}
 use mathlib.Core.Path.{◌≡◌, refl, sym, ap}
 use mathlib.Core.Bool.{Bool, true, false}
-use mathlib.Core.List.{List, [], ◌∷◌}
-use native.Mathlib.Numerals.{add-one}
+use mathlib.Core.List.{List, [], ◌∷◌, map}
 use native.Mathlib.Omega.{arith}
-use lib.Dec.{ltb}
-use lib.ListN.{length, get_or, take, drop, length-drop}
-use lib.Seq.{drop-cons, length-take-le, get_or-take}
-use borrow.Author.Tests.{ltb-true, ltb-false, lt-ltb, le-ltb}
+use lib.Dec.{leb, ltb}
+use lib.ListN.{length, take, drop}
+use Rattle.std.proofs.Common.{cond}
+use Rattle.std.specs.List.{take_while}
+use Rattle.std.proofs.lemmas.List.Sums.{take_while-cons}
+use borrow.Author.Tests.{leb-true, leb-false, ltb-true, ltb-false, lt-ltb, le-ltb}
 use Rattle.slices.specs.Ranks.{Rising, count_below}
 use Rattle.levels.specs.Basics.{if◌then◌otherwise◌}
 use Rattle.choice.specs.declared.Stretch.{Stretch}
-use Rattle.choice.specs.Fences.{Fence, Ordered, low_of, high_of, first_keys, last_keys, stretch_of}
+use Rattle.choice.specs.declared.Fence.{Fence}
+use Rattle.choice.specs.Fences.{Ordered, low_of, high_of, first_keys, last_keys, stretch_of}
 use Rattle.choice.specs.Pass.{moves_of, move_on, AtRun, NotPast}
 use Rattle.slices.proofs.Ranks.{count_in, count_out, count_none, count_drop, rising_drop}
 use Rattle.choice.proofs.Order.{lasts_rise, firsts_rise}
@@ -28,27 +30,22 @@ moves_high bound (k ∷ ks) = go (ltb k bound) (moves_high bound ks)
     go true ih = omega arith
     go false ih = omega arith
 
--- Its loop, over the first n keys: one below the bound is a move more, and one that is not stops it, as the last key does.
-module _ (bound n : ℕ) (keys : List ℕ) (h : n ≤ length keys) where
-  abbrev ks : List ℕ
-  ks = take n keys
+pub at_most : (k hi : ℕ) → leb k hi ≡ ltb k (suc hi)
+at_most k hi = go (leb k hi) refl
+  where
+    go : (t : Bool) → leb k hi ≡ t → t ≡ ltb k (suc hi)
+    go true e = sym (lt-ltb k (suc hi) (omega (arith, leb-true k hi e)))
+    go false e = sym (le-ltb k (suc hi) (leb-false k hi e))
 
-  long : length ks ≡ n
-  long = length-take-le n keys h
-
-  key_at : (at : ℕ) → at < n → drop at ks ≡ get_or keys at 0 ∷ drop (at + 1) ks
-  key_at at l = rw (add-one at, ← get_or-take n keys at 0 l) (drop-cons ks at 0 (omega (arith, long)))
-
-  pub forward_more : (at : ℕ) → at < n → get_or keys at 0 < bound → at + moves_of bound (drop at ks) ≡ at + 1 + moves_of bound (drop (at + 1) ks)
-  unfolding moves_of
-  forward_more at l p = rw (key_at at l, lt-ltb (get_or keys at 0) bound p) (omega arith)
-
-  pub forward_stop : (at : ℕ) → at < n → bound ≤ get_or keys at 0 → at + moves_of bound (drop at ks) ≡ at
-  unfolding moves_of
-  forward_stop at l p = rw (key_at at l, le-ltb (get_or keys at 0) bound p) (omega arith)
-
-  pub forward_end : (at : ℕ) → n ≤ at → at + moves_of bound (drop at ks) ≡ at
-  forward_end at l = omega (arith, moves_high bound (drop at ks), length-drop at ks, long)
+-- its chain over the fences from where it stands: p tells whether a fence is moved over
+pub passed_moves : (p : Fence → Bool) (key : Fence → ℕ) (bound : ℕ) → ((f : Fence) → p f ≡ ltb (key f) bound) → (fs : List Fence) → length (take_while p fs) ≡ moves_of bound (map key fs)
+unfolding moves_of
+passed_moves p key bound e [] = refl
+passed_moves p key bound e (f ∷ fs) = rw (take_while-cons p f fs, e f) (go (ltb (key f) bound) (passed_moves p key bound e fs))
+  where
+    go : (t : Bool) → length (take_while p fs) ≡ moves_of bound (map key fs) → length (cond t (f ∷ take_while p fs) []) ≡ (if t then suc (moves_of bound (map key fs)) otherwise 0)
+    go true ih = ap suc ih
+    go false ih = refl
 
 -- among rising keys it moves over all that are below the bound
 moves_count : (bound low : ℕ) (ks : List ℕ) → Rising low ks → moves_of bound ks ≡ count_below bound ks

@@ -1,41 +1,21 @@
 -- Step 1 of a merge over key fences: the choice of the run needs the first and the last key of each block, and no words of the places.
-use Rattle.std.specs.Prelude.{ℕ, suc, ◌+◌, ◌-◌, ◌≤◌, ◌&&◌, List, [], ◌∷◌, map, leb, ltb, length, take, drop, get_or}
+use Rattle.std.specs.Prelude.{ℕ, suc, ◌-◌, ◌≤◌, ◌&&◌, List, [], ◌∷◌, map, leb, ltb, length, take, drop}
 use Rattle.slices.specs.Ranks.{count_below}
-use Rattle.levels.specs.Basics.{if◌then◌otherwise◌, each}
+use Rattle.levels.specs.Basics.{if◌then◌otherwise◌}
 use Rattle.levels.specs.Record.{Block, first_key, last_key}
 use Rattle.levels.specs.Choose.{Least, least_of}
 use Rattle.choice.specs.declared.Choice.{Choice}
+use Rattle.choice.specs.declared.Fence.{Fence}
 use Rattle.choice.specs.declared.Stretch.{Stretch}
 
--- The fence of a block: its first and its last key.
-pub record Fence : Type 0 where
-  pub first : ℕ
-  pub last : ℕ
-
+-- the fence of a block
 abbrev pub fence_of : Block → Fence
 fence_of b = record { first = first_key b.recs; last = last_key b.recs }
-
--- Fences kept as two lists of keys: fence i, and the n fences from fence i on.
-abbrev pub fence_at : List ℕ → List ℕ → ℕ → Fence
-fence_at firsts lasts i = record { first = get_or firsts i 0; last = get_or lasts i 0 }
-
-unfoldable pub fences_from : List ℕ → List ℕ → ℕ → ℕ → List Fence
-fences_from firsts lasts i n = each (fence_at firsts lasts) i n
-
--- the first n fences
-abbrev pub fences_of : List ℕ → List ℕ → ℕ → List Fence
-fences_of firsts lasts n = fences_from firsts lasts 0 n
 
 -- Blocks in key order: none ends before it begins, and each begins above the end of the one before it, the first not below `low`.
 abbrev pub Ordered : ℕ → List Fence → Type 0
 Ordered low [] = Unit {0}
 Ordered low (f ∷ fs) = (low ≤ f.first) × ((f.first ≤ f.last) × Ordered (suc f.last) fs)
-
--- two lists of keys have n fences from fence i on, those of blocks in key order
-pub record Fenced (firsts lasts : List ℕ) (i n : ℕ) : Type 0 where
-  pub first_room : i + n ≤ length firsts
-  pub last_room : i + n ≤ length lasts
-  pub ordered : Ordered 0 (fences_from firsts lasts i n)
 
 -- the runs of w neighbours, lowest keys first
 unfoldable pub fence_runs : ℕ → List Fence → List (List Fence)

@@ -4,7 +4,8 @@ use Rattle.std.specs.Prelude.{ℕ, suc, ◌+◌, ◌≤◌, ◌≡◌, List, [],
 use Rattle.slices.specs.Ranks.{count_below}
 use Rattle.levels.specs.Basics.{if◌then◌otherwise◌}
 use Rattle.choice.specs.declared.Stretch.{Stretch}
-use Rattle.choice.specs.Fences.{Fence, count_at_most, first_keys, last_keys}
+use Rattle.choice.specs.declared.Fence.{Fence}
+use Rattle.choice.specs.Fences.{count_at_most, first_keys, last_keys}
 
 -- An end moves forward over keys that are below a bound, one by one, up to the first that is not: how many moves that is.
 unfoldable pub moves_of : ℕ → List ℕ → ℕ

@@ -1,12 +1,18 @@
-// Step 1 of a merge: which run of neighbours goes down, and which blocks below it meets. Both are settled by
-// the first and last keys of the blocks alone, so the choice reads two lists of keys for each level and no words of a store:
-// `firsts` and `lasts` of the blocks above, `starts` and `ends` of those below. It goes over them once (card 4): as the run
-// moves on, both ends of the stretch below it move forward.
+// Step 1 of a merge: which run of neighbours goes down, and which blocks below it meets. Both are settled by the first and last
+// keys of the blocks alone, their fences, so the choice reads a list of fences for each level and no words of a store. It goes
+// over both lists once (card 4): as the run moves on, both ends of the stretch below it move forward.
 #![tactic(auto)]
 
-ghost use Rattle.std.specs.Prelude.{◌≡◌, ◌+◌, ◌≤◌, length, take, drop};
-ghost use Rattle.choice.specs.Fences.{Fenced, fences_of, choose_fences, choice_of, run_over, fewer};
-ghost use Rattle.choice.specs.Pass.{moves_of, AtRun, NotPast};
+ghost use Rattle.std.specs.Prelude.{◌≡◌, ◌≤◌, length, nat_lt, nat_le, take_while};
+ghost use Rattle.choice.specs.Fences.{Ordered, choose_fences, choice_of, run_over, fewer};
+ghost use Rattle.choice.specs.Pass.{AtRun, NotPast};
+
+// The fence of a block: its first and its last key.
+#[derive(Clone, Copy, Default)]
+pub struct Fence {
+    pub first: u32,
+    pub last: u32,
+}
 
 // The blocks of a level from index `start` on, up to but without index `end`.
 #[derive(Clone, Copy)]
@@ -24,33 +30,28 @@ pub struct Choice {
     pub below: Stretch,
 }
 
-// Where an end of the stretch stands that has moved forward from index `from` over the keys below a bound.
-fn forward(keys: &[u32], from: usize, n: usize, bound: usize) -> usize
-    requires { (from ≤ n) × (n ≤ length keys.now) }
-    ensures { result ≡ from + moves_of bound (drop from (take n keys.now)) }
+// How many blocks from the first on end below a key.
+fn ended(fences: &[Fence], key: u32) -> usize
+    ensures { result ≡ length (take_while (λ f. nat_lt f.last key) fences.now) }
 {
-    let mut at = from;
-    while at < n && (keys[at] as usize) < bound {
-        at += 1;
-    }
-    at
+    fences.iter().take_while(|f| f.last < key).count()
+}
+
+// How many blocks from the first on begin no higher than a key.
+fn begun(fences: &[Fence], key: u32) -> usize
+    ensures { result ≡ length (take_while (λ f. nat_le f.first key) fences.now) }
+{
+    fences.iter().take_while(|f| f.first <= key).count()
 }
 
 // Both ends for a run from key `lowest` to key `highest`, from where they stood at the run before it.
-fn move_on(
-    at: Stretch,
-    lowest: u32,
-    highest: u32,
-    starts: &[u32],
-    ends: &[u32],
-    n: usize,
-) -> Stretch
-    requires { Fenced starts.now ends.now 0 n × NotPast lowest highest (fences_of starts.now ends.now n) at }
-    ensures { AtRun lowest highest (fences_of starts.now ends.now n) at result }
+fn move_on(at: Stretch, lowest: u32, highest: u32, under: &[Fence]) -> Stretch
+    requires { Ordered 0 under.now × NotPast lowest highest under.now at }
+    ensures { AtRun lowest highest under.now at result }
 {
     Stretch {
-        start: forward(ends, at.start, n, lowest as usize),
-        end: forward(starts, at.end, n, highest as usize + 1),
+        start: at.start + ended(&under[at.start..], lowest),
+        end: at.end + begun(&under[at.end..], highest),
     }
 }
 
@@ -77,25 +78,17 @@ fn fewer(best: Choice, later: Choice) -> Choice
     best
 }
 
-// The run of w neighbours among `a` blocks that overlaps the fewest of the n blocks below; of equals, the lowest. With it
-// comes Y, where the two ends stood at that run.
-pub fn choose_run(
-    firsts: &[u32],
-    lasts: &[u32],
-    a: usize,
-    starts: &[u32],
-    ends: &[u32],
-    n: usize,
-    w: usize,
-) -> Choice
-    requires { (1 ≤ w) × ((w ≤ a) × (Fenced firsts.now lasts.now 0 a × Fenced starts.now ends.now 0 n)) }
-    ensures { result ≡ choice_of (choose_fences w (fences_of firsts.now lasts.now a) (fences_of starts.now ends.now n)) }
+// The run of w neighbours above that overlaps the fewest of the blocks below; of equals, the lowest. With it comes Y, where the
+// two ends stood at that run.
+pub fn choose_run(above: &[Fence], under: &[Fence], w: usize) -> Choice
+    requires { (1 ≤ w) × ((w ≤ length above.now) × (Ordered 0 above.now × Ordered 0 under.now)) }
+    ensures { result ≡ choice_of (choose_fences w above.now under.now) }
 {
     let none = Stretch { start: 0, end: 0 };
-    let mut at = move_on(none, firsts[0], lasts[w - 1], starts, ends, n);
+    let mut at = move_on(none, above[0].first, above[w - 1].last, under);
     let mut best = run_over(0, at);
-    for i in 1..a - w + 1 {
-        at = move_on(at, firsts[i], lasts[i + w - 1], starts, ends, n);
+    for i in 1..above.len() - w + 1 {
+        at = move_on(at, above[i].first, above[i + w - 1].last, under);
         best = fewer(best, run_over(i, at));
     }
     best

@@ -10,13 +10,14 @@ use Rattle.geometry.specs.Geometry.{capacity_of, top_capacity_of, block_width}
 use Rattle.levels.specs.Basics.{each}
 use Rattle.levels.specs.Record.{Rec, Block, first_key, last_key, new, pages}
 use Rattle.words.specs.Stores.{word, keys_of, slots_at, page_slots, top_slots, top_recs, top_count_at, block_slots, block_at, record_count}
-use Rattle.choice.specs.Fences.{Fence, fence_of, fence_at, fences_from, fences_of}
+use Rattle.choice.specs.declared.Fence.{Fence}
+use Rattle.choice.specs.Fences.{fence_of}
 use Rattle.fences.specs.Reading.{fill, listed_fence, page_fence, Readable}
 use Rattle.levels.proofs.Lists.{map_take, map_drop}
 use Rattle.levels.proofs.Compaction.{pages_at, pages_full}
-use Rattle.levels.proofs.Each.{length_each, each_add, each_take, each_drop, get_d_each, each_same, each_get_d, map_each}
+use Rattle.levels.proofs.Each.{length_each, each_add, each_take, each_drop, get_d_each, each_get_d, map_each}
 use Rattle.words.proofs.Top.{top_length}
-use Rattle.fences.proofs.Lists.{fill_same, fill_inside}
+use Rattle.fences.proofs.Lists.{take_fill}
 use Rattle.layout.proofs.Laws.{place_word_inside, keys_before, places_before}
 use Rattle.layout.specs.Layouts.{Proper, place_start, Fitted}
 use Rattle.layout.specs.declared.Layout.{Layout}
@@ -79,7 +80,7 @@ keys_top z ws h =
     map_take (λ (r : Rec). r.key) (top_count_at z ws) (top_slots z ws) ∙ rw (keys_pages z ws 0 (capacity_of z.geo 0), e) (each_take (word ws) z.keys (top_count_at z ws) (capacity_of z.geo 0 * z.geo.b) h)
 
 -- the fence of a full page of level 0
-pub page_words : (z : Layout) (ws : List ℕ) (i : ℕ) → 1 ≤ z.geo.b → suc i * z.geo.b ≤ top_count_at z ws → top_count_at z ws ≤ top_capacity_of z.geo
+page_words : (z : Layout) (ws : List ℕ) (i : ℕ) → 1 ≤ z.geo.b → suc i * z.geo.b ≤ top_count_at z ws → top_count_at z ws ≤ top_capacity_of z.geo
     → page_fence z ws i ≡ record { first = word ws (z.keys + i * z.geo.b); last = word ws (z.keys + i * z.geo.b + z.geo.b - 1) }
 unfolding page_fence
 page_words z ws i p h l =
@@ -104,53 +105,37 @@ place_room z ws place at e k l =
     let m : 1 ≤ word ws at = rw e k.filled in
     (omega (arith, place_word_inside z l.proper {j = 2} k.inside (omega arith), l.words), omega (arith, l.words, place_word_inside z l.proper {j = 1 + word ws at} k.inside (omega arith)))
 
--- the keys of a full page lie in the store
-pub page_room : (z : Layout) (ws : List ℕ) (n i keys b : ℕ) → keys ≡ z.keys → b ≡ z.geo.b → Fitted z ws
-    → n * z.geo.b ≤ top_count_at z ws → top_count_at z ws ≤ top_capacity_of z.geo → i < n → (1 ≤ b) × (keys + i * b + b ≤ length ws)
-page_room z ws n i keys b e d l h m k =
-    let v = l.proper in
-    let r = v.valid.ranged.b_low in
-    let w : suc i * z.geo.b ≤ n * z.geo.b = mul-le-mul_right z.geo.b k in
-    rw (e, d) (omega arith, omega (arith, l.words, keys_inside z v (i * z.geo.b + z.geo.b - 1) (omega arith)))
+-- the keys of a full page lie in the store, and what is read of them is its fence
+module _ (z : Layout) (ws : List ℕ) (n i b : ℕ) (d : b ≡ z.geo.b) (v : Fitted z ws) (h : n * z.geo.b ≤ top_count_at z ws) (l : top_count_at z ws ≤ top_capacity_of z.geo) (k : i < n) where
+  page_in : suc i * z.geo.b ≤ n * z.geo.b
+  page_in = mul-le-mul_right z.geo.b k
 
--- what is read for n full pages is their fences
-module _ (z : Layout) (ws xs : List ℕ) (n keys b : ℕ) (e : keys ≡ z.keys) (d : b ≡ z.geo.b) (v : Proper z) (h : n * z.geo.b ≤ top_count_at z ws) (l : top_count_at z ws ≤ top_capacity_of z.geo) where
-  page : (j : ℕ) → j < n → page_fence z ws j ≡ record { first = word ws (keys + j * b); last = word ws (keys + j * b + b - 1) }
-  page j k =
-      let w : suc j * z.geo.b ≤ n * z.geo.b = mul-le-mul_right z.geo.b k in
-      rw (e, d) (page_words z ws j (omega (arith, v.valid.ranged.b_low)) (omega arith) l)
+  pub page_room : (1 ≤ b) × (z.keys + i * b + b ≤ length ws)
+  page_room =
+      let r = v.proper.valid.ranged.b_low in
+      let w = page_in in
+      rw d (omega arith, omega (arith, v.words, keys_inside z v.proper (i * z.geo.b + z.geo.b - 1) (omega arith)))
 
-  pub pages_firsts : fill (λ j. word ws (keys + j * b)) n xs ≡ fill (λ j. (page_fence z ws j).first) n xs
-  pages_firsts = fill_same _ _ n xs (λ j k. sym (ap (λ (f : Fence). f.first) (page j k)))
+  pub page_read : page_fence z ws i ≡ record { first = word ws (z.keys + i * b); last = word ws (z.keys + i * b + b - 1) }
+  page_read = let w = page_in in rw d (page_words z ws i (omega (arith, v.proper.valid.ranged.b_low)) (omega arith) l)
 
-  pub pages_lasts : fill (λ j. word ws (keys + j * b + b - 1)) n xs ≡ fill (λ j. (page_fence z ws j).last) n xs
-  pages_lasts = fill_same _ _ n xs (λ j k. sym (ap (λ (f : Fence). f.last) (page j k)))
-
--- Lists that were filled with fences hold the fences of the blocks.
-
-fill_fences : (f : ℕ → Fence) (n : ℕ) (xs ys firsts lasts : List ℕ) → firsts ≡ fill (λ i. (f i).first) n xs → lasts ≡ fill (λ i. (f i).last) n ys → fences_of firsts lasts n ≡ each f 0 n
-unfolding fences_from
-fill_fences f n xs ys firsts lasts e d =
-    each_same (fence_at firsts lasts) f 0 n
-    (λ j a l. let k : j < n = omega arith in rw (e, d, fill_inside (λ i. (f i).first) n xs j k, fill_inside (λ i. (f i).last) n ys j k))
+-- A list filled with fences holds the fences of the blocks.
 
 -- the listed blocks: with the list of a level, `level_at`
-pub listed_fences : (z : Layout) (ws list : List ℕ) (n : ℕ) (xs ys firsts lasts : List ℕ)
-    → firsts ≡ fill (λ i. (listed_fence z ws list i).first) n xs → lasts ≡ fill (λ i. (listed_fence z ws list i).last) n ys → n ≤ length list
-    → fences_of firsts lasts n ≡ map fence_of (map (block_at z ws) (take n list))
+pub listed_fences : (z : Layout) (ws list : List ℕ) (xs fences : List Fence) → fences ≡ fill (listed_fence z ws list) (length list) xs → take (length list) fences ≡ map fence_of (map (block_at z ws) list)
 unfolding listed_fence
-listed_fences z ws list n xs ys firsts lasts e d h =
-    fill_fences (listed_fence z ws list) n xs ys firsts lasts e d
-    ∙ sym (ap (map fence_of) (ap (map (block_at z ws)) (sym (each_get_d 0 list n h)) ∙ map_each (block_at z ws) (word list) 0 n) ∙ map_each fence_of (λ (i : ℕ). block_at z ws (word list i)) 0 n)
+listed_fences z ws list xs fences e =
+    let n = length list in
+    ap (take n) e ∙ take_fill (listed_fence z ws list) n xs
+    ∙ sym (ap (map fence_of) (ap (map (block_at z ws)) (sym (take_all n list (omega arith)) ∙ sym (each_get_d 0 list n (omega arith))) ∙ map_each (block_at z ws) (word list) 0 n) ∙ map_each fence_of (λ (i : ℕ). block_at z ws (word list i)) 0 n)
 
 -- the pages of a level 0 of n full pages
-pub page_fences : (z : Layout) (ws : List ℕ) (n : ℕ) (xs ys firsts lasts : List ℕ)
-    → firsts ≡ fill (λ i. (page_fence z ws i).first) n xs → lasts ≡ fill (λ i. (page_fence z ws i).last) n ys
+pub page_fences : (z : Layout) (ws : List ℕ) (n : ℕ) (xs fences : List Fence) → fences ≡ fill (page_fence z ws) n xs
     → 1 ≤ z.geo.b → top_count_at z ws ≡ n * z.geo.b → top_count_at z ws ≤ top_capacity_of z.geo
-    → fences_of firsts lasts n ≡ map fence_of (pages z.geo.b (top_recs z ws))
+    → take n fences ≡ map fence_of (pages z.geo.b (top_recs z ws))
 unfolding page_fence
-page_fences z ws n xs ys firsts lasts a b p e l =
+page_fences z ws n xs fences a p e l =
     let ps = pages z.geo.b (top_recs z ws) in
     let m : length ps ≡ n = pages_full z.geo.b n (top_recs z ws) p (top_length z ws l ∙ e) in
-    fill_fences (page_fence z ws) n xs ys firsts lasts a b
+    ap (take n) a ∙ take_fill (page_fence z ws) n xs
     ∙ sym (ap (map fence_of) (sym (each_get_d (new []) ps n (omega arith) ∙ take_all n ps (omega arith))) ∙ map_each fence_of (λ (i : ℕ). get_or ps i (new [])) 0 n)

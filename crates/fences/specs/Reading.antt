@@ -3,11 +3,12 @@ use Rattle.std.specs.Prelude.{ℕ, ◌≤◌, ◌<◌, List, [], ◌++◌, drop,
 use Rattle.levels.specs.Basics.{each}
 use Rattle.levels.specs.Record.{new, pages}
 use Rattle.words.specs.Stores.{word, record_count, block_at, top_recs}
-use Rattle.choice.specs.Fences.{Fence, fence_of}
+use Rattle.choice.specs.declared.Fence.{Fence}
+use Rattle.choice.specs.Fences.{fence_of}
 use Rattle.layout.specs.declared.Layout.{Layout}
 
 -- A list whose first n entries are f(0) .. f(n − 1), the others as before.
-unfoldable pub fill : (ℕ → ℕ) → ℕ → List ℕ → List ℕ
+unfoldable pub fill : {A : Type 0} → (ℕ → A) → ℕ → List A → List A
 fill f n xs = each f 0 n ++ drop n xs
 
 -- the fence of the i-th block of a place list, and of page i of level 0

@@ -8,40 +8,35 @@ ghost use Rattle.layout.specs.Layouts.{Fitted};
 ghost use Rattle.words.specs.Stores.{word, top_count_at};
 ghost use Rattle.fences.specs.Reading.{fill, listed_fence, page_fence, Readable};
 
+use choice::Fence;
 use layout::Layout;
 
-// The fences of the n blocks that a place list names first.
-pub fn fence_blocks(
-    s: &[u32],
-    z: Layout,
-    list: &[u32],
-    n: usize,
-    firsts: &mut [u32],
-    lasts: &mut [u32],
-)
-    requires { Fitted z s.now × ((n ≤ length list.now) × ((n ≤ length firsts.old) × ((n ≤ length lasts.old) × ((i : ℕ) → i < n → Readable z s.now (word list.now i))))) }
-    ensures { (firsts.new ≡ fill (λ i. (listed_fence z s.now list.now i).first) n firsts.old) × (lasts.new ≡ fill (λ i. (listed_fence z s.now list.now i).last) n lasts.old) }
+// The fences of the blocks of a place list, into as many entries.
+pub fn fence_blocks(s: &[u32], z: Layout, list: &[u32], fences: &mut [Fence])
+    requires { Fitted z s.now × ((length list.now ≤ length fences.old) × ((i : ℕ) → i < length list.now → Readable z s.now (word list.now i))) }
+    ensures { fences.new ≡ fill (listed_fence z s.now list.now) (length list.now) fences.old }
 {
-    for i in 0..n {
-        let place = list[i] as usize;
-        let at = z.place_start(place);
+    for (i, place) in list.iter().enumerate() {
+        let at = z.place_start(*place as usize);
         let count = s[at] as usize;
-        firsts[i] = s[at + 2];
-        lasts[i] = s[at + 1 + count];
+        fences[i] = Fence {
+            first: s[at + 2],
+            last: s[at + 1 + count],
+        };
     }
 }
 
-// The fences of the first n pages of level 0, which are full: so their keys stand without a gap.
-pub fn fence_pages(s: &[u32], z: Layout, n: usize, firsts: &mut [u32], lasts: &mut [u32])
-    requires { Fitted z s.now × ((n * z.geo.b ≤ top_count_at z s.now) × ((top_count_at z s.now ≤ top_capacity_of z.geo) × ((n ≤ length firsts.old) × (n ≤ length lasts.old)))) }
-    ensures { (firsts.new ≡ fill (λ i. (page_fence z s.now i).first) n firsts.old) × (lasts.new ≡ fill (λ i. (page_fence z s.now i).last) n lasts.old) }
+// The fences of the first pages of level 0, one into each entry. They are full: so their keys stand without a gap.
+pub fn fence_pages(s: &[u32], z: Layout, fences: &mut [Fence])
+    requires { Fitted z s.now × ((length fences.old * z.geo.b ≤ top_count_at z s.now) × (top_count_at z s.now ≤ top_capacity_of z.geo)) }
+    ensures { fences.new ≡ fill (page_fence z s.now) (length fences.old) fences.old }
 {
-    let g = z.geo;
-    let keys = z.keys;
-    let b = g.block_records();
-    for i in 0..n {
-        let at = keys + i * b;
-        firsts[i] = s[at];
-        lasts[i] = s[at + b - 1];
+    let b = z.geo.block_records();
+    for i in 0..fences.len() {
+        let at = z.keys + i * b;
+        fences[i] = Fence {
+            first: s[at],
+            last: s[at + b - 1],
+        };
     }
 }

@@ -2,33 +2,30 @@
 use Prim.Native.Nat.{ℕ, ◌+◌, ◌-◌, ◌≤◌}
 use mathlib.Core.Path.{◌≡◌, sym, ap, ◌∙◌}
 use mathlib.Core.List.{List, map}
-use native.Mathlib.Nat.{le_refl}
 use native.Mathlib.Omega.{arith}
 use lib.ListN.{length, take, drop, length-map}
-use lib.Seq.{take-length}
 use Rattle.levels.specs.Record.{Level}
 use Rattle.levels.specs.Choose.{Least, choose, cut_at}
 use Rattle.levels.proofs.Cut.{cut_lengths}
 use Rattle.words.specs.Stores.{block_at}
 use Rattle.choice.specs.declared.Choice.{Choice}
 use Rattle.choice.specs.declared.Stretch.{Stretch}
-use Rattle.choice.specs.Fences.{Fenced, Ordered, fence_of, fences_of, choose_fences, choice_of, stretch_of}
+use Rattle.choice.specs.declared.Fence.{Fence}
+use Rattle.choice.specs.Fences.{Ordered, fence_of, choose_fences, choice_of, stretch_of}
 use Rattle.fences.specs.Reading.{fill, listed_fence}
 use Rattle.choice.proofs.Levels.{choose_fences_lem, choice_fences}
 use Rattle.choice.proofs.Choose.{chosen_inside, chosen_overlap}
 use Rattle.choice.proofs.Cut.{cut_before, cut_over, cut_behind, cut_start, cut_end}
-use Rattle.choice.proofs.Keys.{level_fenced}
 use Rattle.fences.proofs.Words.{listed_fences}
 use Rattle.pair.specs.declared.Picked.{Picked}
 use Rattle.pair.specs.Contract.{Chosen, Readables}
 use Rattle.layout.specs.declared.Layout.{Layout}
 
 -- what is found by fences is the choice by blocks
-pub picked : (firsts lasts starts ends : List ℕ) (a n w : ℕ) (c : Choice) → c ≡ choice_of (choose_fences w (fences_of firsts lasts a) (fences_of starts ends n))
-    → (above under : Level) → fences_of firsts lasts a ≡ map fence_of above → fences_of starts ends n ≡ map fence_of under
+pub picked : (w : ℕ) (c : Choice) (above under : Level) → c ≡ choice_of (choose_fences w (map fence_of above) (map fence_of under))
     → Chosen w above under (record { first = c.first; overlap = c.overlap; start = c.below.start; end = c.below.end })
-picked firsts lasts starts ends a n w c e above under ea eu =
-    let d = e ∙ choice_fences firsts lasts starts ends a n w above under ea eu in
+picked w c above under e =
+    let d = e ∙ choice_fences w above under in
     let first : c.first ≡ (choose w above under).at = ap (λ (x : Choice). x.first) d in
     record {
       first = first;
@@ -36,14 +33,13 @@ picked firsts lasts starts ends a n w c e above under ea eu =
       stretch = ap (λ (x : Choice). x.below) d ∙ ap (λ (k : ℕ). stretch_of (take w (drop k (map fence_of above))) (map fence_of under)) (sym first);
     }
 
--- lists of keys filled from the blocks of a place list
-module _ (z : Layout) (ws list : List ℕ) (k : Readables z ws list) (xs ys firsts lasts : List ℕ)
-    (e : firsts ≡ fill (λ i. (listed_fence z ws list i).first) (length list) xs) (d : lasts ≡ fill (λ i. (listed_fence z ws list i).last) (length list) ys) where
-  pub listed_are : fences_of firsts lasts (length list) ≡ map fence_of (map (block_at z ws) list)
-  listed_are = rw take-length at (listed_fences z ws list (length list) xs ys firsts lasts e d (le_refl (length list)))
+-- a list filled with the fences of the blocks of a place list
+module _ (z : Layout) (ws list : List ℕ) (k : Readables z ws list) (xs fences : List Fence) (e : fences ≡ fill (listed_fence z ws list) (length list) xs) where
+  pub listed_are : take (length list) fences ≡ map fence_of (map (block_at z ws) list)
+  listed_are = listed_fences z ws list xs fences e
 
-  pub listed_fenced : length list ≤ length firsts → length list ≤ length lasts → Fenced firsts lasts 0 (length list)
-  listed_fenced p q = level_fenced firsts lasts (length list) (map (block_at z ws) list) p q listed_are k.ordered
+  pub listed_ordered : Ordered 0 (take (length list) fences)
+  listed_ordered = rw listed_are k.ordered
 
 -- What a chosen run has, of two levels in key order.
 module _ (w : ℕ) (above under : Level) (r : Picked) (k : Chosen w above under r) (oa : Ordered 0 (map fence_of above)) (ou : Ordered 0 (map fence_of under)) (p : 1 ≤ w) (h : w ≤ length above) where

@@ -27,7 +27,8 @@ use Rattle.words.proofs.Slots.{slots_length}
 use Rattle.words.proofs.Top.{top_slots_length}
 use Rattle.lists.specs.Flat.{part_start, part_room, part_of}
 use Rattle.lists.proofs.Flat.{part_inside}
-use Rattle.choice.specs.Fences.{Ordered, Fenced, fence_of, fences_of}
+use Rattle.choice.specs.declared.Fence.{Fence}
+use Rattle.choice.specs.Fences.{Ordered, fence_of}
 use Rattle.fences.specs.Reading.{fill, page_fence}
 use Rattle.choice.proofs.Keys.{level_fenced}
 use Rattle.levels.proofs.Levels.{Filled}
@@ -75,14 +76,13 @@ top_full z ws e =
     let l : length (page_slots z ws 0 (capacity_of z.geo 0)) ≡ top_capacity_of z.geo = top_slots_length z ws in
     take_all (top_count_at z ws) (page_slots z ws 0 (capacity_of z.geo 0)) (omega arith)
 
--- lists of keys filled from the pages of level 0
-module _ (z : Layout) (ws : List ℕ) (a : ℕ) (b : 1 ≤ z.geo.b) (k : Paged z ws a) (xs ys firsts lasts : List ℕ)
-    (e : firsts ≡ fill (λ i. (page_fence z ws i).first) a xs) (d : lasts ≡ fill (λ i. (page_fence z ws i).last) a ys) where
-  pub paged_are : fences_of firsts lasts a ≡ map fence_of (pages z.geo.b (top_recs z ws))
-  paged_are = page_fences z ws a xs ys firsts lasts e d b k.count k.fits
+-- a list filled with the fences of the pages of level 0
+module _ (z : Layout) (ws : List ℕ) (a : ℕ) (b : 1 ≤ z.geo.b) (k : Paged z ws a) (xs fences : List Fence) (e : fences ≡ fill (page_fence z ws) a xs) where
+  pub paged_are : take a fences ≡ map fence_of (pages z.geo.b (top_recs z ws))
+  paged_are = page_fences z ws a xs fences e b k.count k.fits
 
-  pub paged_fenced : a ≤ length firsts → a ≤ length lasts → Fenced firsts lasts 0 a
-  paged_fenced p q = level_fenced firsts lasts a (pages z.geo.b (top_recs z ws)) p q paged_are k.ordered
+  pub paged_ordered : Ordered 0 (take a fences)
+  paged_ordered = rw paged_are k.ordered
 
 module _ (z : Layout) (ws : List ℕ) (used : List Bool) (lists : List ℕ) (n cursor : ℕ) (k : PagesReady z ws used lists n cursor) where
   abbrev w : ℕ

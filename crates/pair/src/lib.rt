@@ -10,11 +10,12 @@ ghost use Rattle.levels.specs.Place.{Allocation, settle};
 ghost use Rattle.layout.specs.Layouts.{Proper};
 ghost use Rattle.words.specs.Stores.{top_recs, block_at};
 ghost use Rattle.lists.specs.Flat.{part_of};
-ghost use Rattle.choice.specs.Fences.{Fenced, fence_of, fences_of};
+ghost use Rattle.choice.specs.Fences.{Ordered, fence_of};
 ghost use Rattle.blocks.specs.Blocks.{Marks};
 ghost use Rattle.merging.specs.Contract.{merge_of};
 ghost use Rattle.pair.specs.Contract.{level_of, gap_at, meets_at, Chosen, Readables, Paged, Relistable, Relisted, PairReady, PairMerged, PagesReady, PagesMerged};
 
+use choice::Fence;
 use geometry::Geometry;
 use layout::Layout;
 use merging::{Cut, Merged};
@@ -91,23 +92,13 @@ impl Picked {
 }
 
 // Step 1, over the fences of the level above and those of the listed level below.
-fn pick(
-    s: &[u32],
-    lower: &[u32],
-    z: Layout,
-    firsts: &[u32],
-    lasts: &[u32],
-    a: usize,
-    w: usize,
-) -> Picked
-    requires { Proper z × ((length s.now ≡ z.length) × ((1 ≤ w) × ((w ≤ a) × (Fenced firsts.now lasts.now 0 a × Readables z s.now lower.now)))) }
-    ensures { (above : Level) → fences_of firsts.now lasts.now a ≡ map fence_of above → Chosen w above (map (block_at z s.now) lower.now) result }
+fn pick(s: &[u32], lower: &[u32], z: Layout, above: &[Fence], w: usize) -> Picked
+    requires { Proper z × ((length s.now ≡ z.length) × ((1 ≤ w) × ((w ≤ length above.now) × (Ordered 0 above.now × Readables z s.now lower.now)))) }
+    ensures { (l : Level) → above.now ≡ map fence_of l → Chosen w l (map (block_at z s.now) lower.now) result }
 {
-    let mut starts = [0u32; FENCES];
-    let mut ends = [0u32; FENCES];
-    let n = lower.len();
-    fences::fence_blocks(s, z, lower, n, &mut starts, &mut ends);
-    let run = choice::choose_run(firsts, lasts, a, &starts, &ends, n, w);
+    let mut under = [Fence::default(); FENCES];
+    fences::fence_blocks(s, z, lower, &mut under);
+    let run = choice::choose_run(above, &under[..lower.len()], w);
     Picked {
         first: run.first,
         overlap: run.overlap,
@@ -121,11 +112,9 @@ fn choose_listed(s: &[u32], upper: &[u32], lower: &[u32], z: Layout, w: usize) -
     requires { Proper z × ((length s.now ≡ z.length) × ((1 ≤ w) × ((w ≤ length upper.now) × (Readables z s.now upper.now × Readables z s.now lower.now)))) }
     ensures { Chosen w (map (block_at z s.now) upper.now) (map (block_at z s.now) lower.now) result }
 {
-    let mut firsts = [0u32; FENCES];
-    let mut lasts = [0u32; FENCES];
-    let a = upper.len();
-    fences::fence_blocks(s, z, upper, a, &mut firsts, &mut lasts);
-    pick(s, lower, z, &firsts, &lasts, a, w)
+    let mut above = [Fence::default(); FENCES];
+    fences::fence_blocks(s, z, upper, &mut above);
+    pick(s, lower, z, &above[..upper.len()], w)
 }
 
 // Step 1 out of level 0, all of whose pages are full.
@@ -133,10 +122,9 @@ fn choose_pages(s: &[u32], lower: &[u32], z: Layout, a: usize, w: usize) -> Pick
     requires { Proper z × ((length s.now ≡ z.length) × ((1 ≤ w) × ((w ≤ a) × (Paged z s.now a × Readables z s.now lower.now)))) }
     ensures { Chosen w (pages z.geo.b (top_recs z s.now)) (map (block_at z s.now) lower.now) result }
 {
-    let mut firsts = [0u32; PAGES];
-    let mut lasts = [0u32; PAGES];
-    fences::fence_pages(s, z, a, &mut firsts, &mut lasts);
-    pick(s, lower, z, &firsts, &lasts, a, w)
+    let mut above = [Fence::default(); PAGES];
+    fences::fence_pages(s, z, &mut above[..a]);
+    pick(s, lower, z, &above[..a], w)
 }
 
 // Steps 3 and 4 with the new list put in the place of the old one, which its blocks are read from till the end. Where X is pages of

@@ -1,7 +1,8 @@
 use Prim.Native.Nat.{◌≤◌, ◌+◌, ◌-◌}
 use mathlib.Core.Path.{◌≡◌}
-use Rattle.choice.specs.Fences.{fences_from, fences_of, stretch_of}
-use Rattle.choice.proofs.Once.{pass_at}
+use lib.ListN.{length}
+use Rattle.choice.specs.Fences.{stretch_of}
+use Rattle.choice.proofs.Once.{run_at, pass_at}
 use Rattle.choice.proofs.Choose.{choice_among}
 use Rattle.choice.proofs.choose_run.Given as goal
 
@@ -9,13 +10,8 @@ use Rattle.choice.proofs.choose_run.Given as goal
 -- run's first key, and the number of those whose first key is not above its last (`stretch_of`).
 abbrev pub invariant-loop-i : goal.invariant-loop-i
 invariant-loop-i l =
-    let above = fences_of l.firsts l.lasts l.a in
-    let under = fences_of l.starts l.ends l.n in
     (1 ≤ l.i)
-    × ((l.i ≤ l.a - l.w + 1)
-    × ((l.at ≡ pass_at l.w above under (l.i - 1))
-    × ((l.at ≡ stretch_of (fences_from l.firsts l.lasts (l.i - 1) l.w) under)
-    × (l.best ≡ choice_among l.w above under l.i))))
-
-abbrev pub decreases-loop-i : goal.decreases-loop-i
-decreases-loop-i l = l.i-end - l.i
+    × ((l.i ≤ length l.above - l.w + 1)
+    × ((l.at ≡ pass_at l.w l.above l.under (l.i - 1))
+    × ((l.at ≡ stretch_of (run_at l.w (l.i - 1) l.above) l.under)
+    × (l.best ≡ choice_among l.w l.above l.under l.i))))

@@ -1,9 +1,9 @@
 use Prim.Native.Nat.{◌≤◌, ◌+◌, ◌*◌}
-use mathlib.Core.Path.{◌≡◌, refl, sym, ◌∙◌}
+use mathlib.Core.Path.{◌≡◌, sym}
 use native.Mathlib.Omega.{arith}
-use lib.ListN.{length, length-set}
+use lib.ListN.{length}
 use Rattle.fences.proofs.Lists.{fill_none, fill_step}
-use Rattle.fences.proofs.Words.{page_room, pages_firsts, pages_lasts}
+use Rattle.fences.proofs.Words.{page_room, page_read}
 use Rattle.fences.proofs.fence_pages.Goals as goal
 use Rattle.fences.proofs.fence_pages.Goals.{In-loop-i}
 
@@ -11,12 +11,10 @@ use Rattle.fences.proofs.fence_pages.Goals.{In-loop-i}
 room : (c : In-loop-i)
     → (1 ≤ c.block_records-b.result)
     × (c.args.z.keys + c.loop-i.i * c.block_records-b.result + c.block_records-b.result ≤ length c.args.s.now)
-room c =
-    let p = c.requires in
-    page_room c.args.z c.args.s.now c.args.n _ _ _ refl c.block_records-b.ensures p.0 p.1.0 p.1.1.0 c.loop-i-test.true
+room c = let p = c.requires in page_room _ _ _ _ _ c.block_records-b.ensures p.0 p.1.0 p.1.1 c.loop-i-test.true
 
 pub loop-i-init : goal.loop-i-init
-loop-i-init c = (omega arith, (refl, (refl, (sym (fill_none _ _), sym (fill_none _ _)))))
+loop-i-init c = sym (fill_none _ _)
 
 pub overflow_mul-at : goal.overflow_mul-at
 overflow_mul-at c = omega (arith, room (goal.at.overflow_mul-at c).In-loop-i)
@@ -30,12 +28,6 @@ offset_bounds-s-at c = omega (arith, room (goal.at.offset_bounds-s-at c).In-loop
 pub bounds-s-at : goal.bounds-s-at
 bounds-s-at c = omega (arith, room (goal.at.bounds-s-at c).In-loop-i)
 
-pub overflow_add-lasts : goal.overflow_add-lasts
-overflow_add-lasts c = omega (arith, room (goal.at.overflow_add-lasts c).In-loop-i)
-
-pub overflow_sub-lasts : goal.overflow_sub-lasts
-overflow_sub-lasts c = omega (arith, room (goal.at.overflow_sub-lasts c).In-loop-i)
-
 pub offset_bounds-s-at-in-loop-i : goal.offset_bounds-s-at-in-loop-i
 offset_bounds-s-at-in-loop-i c = omega (arith, room (goal.at.offset_bounds-s-at-in-loop-i c).In-loop-i)
 
@@ -45,14 +37,11 @@ bounds-s-at-in-loop-i c = omega (arith, room (goal.at.bounds-s-at-in-loop-i c).I
 pub loop-i-preserved : goal.loop-i-preserved
 loop-i-preserved c =
     let l = c.loop-i in
-    (omega arith, (simp length-set l.invariant.1.0, (simp length-set l.invariant.1.1.0, (fill_step _ _ _ _ _ (omega arith) l.invariant.1.1.1.0 refl, fill_step _ _ _ _ _ (omega arith) l.invariant.1.1.1.1 refl))))
+    let p = c.requires in
+    fill_step _ _ _ _ _ (omega (arith, c.loop-i-test.true)) l.invariant (sym (page_read _ _ _ _ _ c.block_records-b.ensures p.0 p.1.0 p.1.1 c.loop-i-test.true))
 
 pub returns : goal.returns
 returns c =
     let l = c.loop-i in
-    let a = c.args in
-    let p = c.requires in
-    let e : l.i ≡ a.n = omega arith in (
-      rw e at l.invariant.1.1.1.0 ∙ pages_firsts a.z a.s.now _ a.n _ _ refl c.block_records-b.ensures p.0.proper p.1.0 p.1.1.0,
-      rw e at l.invariant.1.1.1.1 ∙ pages_lasts a.z a.s.now _ a.n _ _ refl c.block_records-b.ensures p.0.proper p.1.0 p.1.1.0,
-    )
+    let e : l.i ≡ length c.args.fences.now = omega (arith, l.auto.i-end, c.loop-i-test.false) in
+    rw e at l.invariant
