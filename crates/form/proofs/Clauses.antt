@@ -1,7 +1,7 @@
 -- The form check as the code goes over the words is document 01's form check, clause by clause.
 use Prim.Native.Nat.{ℕ, zero, suc, ◌+◌, ◌-◌, ◌≤◌, ◌<◌}
 use mathlib.Core.Path.{◌≡◌, sym, ap, ◌∙◌, refl}
-use mathlib.Core.Bool.{Bool, true, not, ◌&&◌, and-true, and-eq-true_iff}
+use mathlib.Core.Bool.{Bool, true, false, not, ◌&&◌, and-true, and-eq-true_iff}
 use mathlib.Core.List.{List, [], ◌∷◌, ◌++◌, map}
 use native.Mathlib.Omega.{arith}
 use borrow.Author.Tests.{eq-eqb, ne_eqb}
@@ -20,9 +20,12 @@ use Rattle.words.proofs.Form.{clauses_formed, formed_clauses}
 use Rattle.words.specs.Stores.{live_at, top_recs, record_count, level_at, store_at}
 use Rattle.words.specs.Form.{live_exact, blocks_filled, keys_rise, bottom_unmarked, blocks_unused_zero, tombstones_clean, pairs_kept, levels_kept, formed}
 use Rattle.layout.specs.Layouts.{Fitted}
-use Rattle.directory.specs.Directory.{records_of, level_formed}
+use Rattle.std.specs.Prelude.{All}
+use Rattle.std.specs.List.{list_all}
+use Rattle.directory.specs.declared.Directory.{Directory}
+use Rattle.directory.specs.Directory.{Formed, records_of, level_formed}
 use Rattle.directory.proofs.Laws.{formed_all}
-use Rattle.walk.specs.Walk.{four, layered, AllFormed}
+use Rattle.walk.specs.Walk.{layered, AllFormed}
 use Rattle.form.specs.Form.{top_of, level_of, levels_of, header_ok, lists_ok, spare_ok, passed, Headed}
 use Rattle.form.proofs.Tests.{test_same, range, all_and, all_same, all_at, all_true, all_three}
 use Rattle.form.proofs.Parts.{listed_each}
@@ -74,9 +77,6 @@ view_empties [] zero = refl
 view_empties [] (suc n) = view_empties [] n
 view_empties (l ∷ ls) n = rw (view_empties ls n)
 
-view_four : (a b c d : List Rec) → view (a ∷ b ∷ c ∷ d ∷ []) ≡ four a b c d
-unfolding view
-view_four a b c d = rw (overlay_nil d)
 
 decides_empties : (k : ℕ) (ls : List (List Rec)) (n : ℕ) → decides k (ls ++ replicate n []) ≡ decides k ls
 unfolding decides find
@@ -134,7 +134,7 @@ module _ (z : Layout) (ws : List ℕ) (y : Headed z ws) where
 
   -- what the walk goes over is the view of the store
   pub layered_is : blocks_filled z ws ≡ true → layered ws (levels_of z ws) ≡ view (rows (store_at z ws))
-  layered_is f = sym (sym (view_empties (rows (store_at z ws)) (3 - z.geo.h)) ∙ ap view (rows_four f) ∙ view_four (records_of ws (top_of z ws)) (records_of ws (level_of z ws 1)) (records_of ws (level_of z ws 2)) (records_of ws (level_of z ws 3)))
+  layered_is f = sym (sym (view_empties (rows (store_at z ws)) (3 - z.geo.h)) ∙ ap view (rows_four f))
 
   -- "the first level from 0 down that has k decides"
   pub decides_is : blocks_filled z ws ≡ true → (k : ℕ)
@@ -226,15 +226,34 @@ passed_filled z ws s e =
     let k = simp and-eq-true_iff at (sym (kept_each z ws f.headed) ∙ f.levels) in
     (f.headed, k.0)
 
+-- what holds of each of the four levels
+pub of_four : (z : Layout) (ws : List ℕ) (P : Directory → Type 0) → P (top_of z ws) → P (level_of z ws 1) → P (level_of z ws 2) → P (level_of z ws 3) → All P (levels_of z ws)
+of_four z ws P a b c d zero x h = a
+of_four z ws P a b c d (suc zero) x h = b
+of_four z ws P a b c d (suc (suc zero)) x h = c
+of_four z ws P a b c d (suc (suc (suc zero))) x h = d
+of_four z ws P a b c d (suc (suc (suc (suc i)))) x h = absurd (omega arith)
+
+-- the tests of the four levels, all at once
+pub each_test : (z : Layout) (ws : List ℕ) (t x : Bool) → t ≡ list_all (λ (d : Directory). level_formed ws d) (levels_of z ws)
+    → (level_formed ws (top_of z ws) && (level_formed ws (level_of z ws 1) && (level_formed ws (level_of z ws 2) && (level_formed ws (level_of z ws 3) && x)))) ≡ (t && x)
+each_test z ws t x e = rw e (ands (level_formed ws (top_of z ws)) (level_formed ws (level_of z ws 1)) (level_formed ws (level_of z ws 2)) (level_formed ws (level_of z ws 3)))
+  where
+    ands : (a b c d : Bool) → (a && (b && (c && (d && x)))) ≡ ((a && (b && (c && (d && true)))) && x)
+    ands false b c d = refl
+    ands true false c d = refl
+    ands true true false d = refl
+    ands true true true false = refl
+    ands true true true true = refl
+
 -- a store that passes has four levels that the walk and the search can read
 pub formed_levels : (z : Layout) (ws : List ℕ) → Fitted z ws → passed z ws ≡ true → AllFormed ws (levels_of z ws)
 formed_levels z ws s e =
     let f = passed_found z ws s e in
     let y = f.headed in
     let l = simp and-eq-true_iff at (levels_is z ws y ∙ f.levels) in
-    record {
-      formed0 = formed_all ws (top_of z ws) (within_top z ws y) f.top;
-      formed1 = formed_all ws (level_of z ws 1) (within_level z ws y f.lists 1 (omega arith) (omega arith)) l.0;
-      formed2 = formed_all ws (level_of z ws 2) (within_level z ws y f.lists 2 (omega arith) (omega arith)) l.1.0;
-      formed3 = formed_all ws (level_of z ws 3) (within_level z ws y f.lists 3 (omega arith) (omega arith)) l.1.1;
-    }
+    of_four z ws (λ (d : Directory). Formed d ws)
+    (formed_all ws (top_of z ws) (within_top z ws y) f.top)
+    (formed_all ws (level_of z ws 1) (within_level z ws y f.lists 1 (omega arith) (omega arith)) l.0)
+    (formed_all ws (level_of z ws 2) (within_level z ws y f.lists 2 (omega arith) (omega arith)) l.1.0)
+    (formed_all ws (level_of z ws 3) (within_level z ws y f.lists 3 (omega arith) (omega arith)) l.1.1)

@@ -1,6 +1,6 @@
 -- The form check as the code goes over the words: the sizes, the place lists with their marks, the spare words of level 0,
 -- one pass over each level, and a walk over all of them. The law `formed_is` says that this is document 01's form check, clause by clause.
-use Rattle.std.specs.Prelude.{ℕ, zero, suc, ◌+◌, ◌-◌, ◌*◌, Bool, true, false, not, ◌&&◌, List, ◌≡◌, ltb, eqb, length, get_or, set, replicate}
+use Rattle.std.specs.Prelude.{ℕ, zero, suc, ◌+◌, ◌-◌, ◌*◌, Bool, true, false, not, ◌&&◌, List, [], ◌∷◌, ◌≡◌, ltb, eqb, length, get_or, set, replicate}
 use Rattle.geometry.specs.Geometry.{capacity_of}
 use Rattle.levels.specs.Basics.{ceil_div}
 use Rattle.levels.specs.Map.{unmarked}
@@ -10,7 +10,6 @@ use Rattle.layout.specs.Layouts.{Fitted, list_start}
 use Rattle.chunks.specs.Chunks.{zeros_at}
 use Rattle.directory.specs.declared.Directory.{Directory}
 use Rattle.directory.specs.Directory.{level_formed}
-use Rattle.walk.specs.declared.Levels.{Levels}
 use Rattle.walk.specs.Walk.{layered}
 use Rattle.layout.specs.declared.Layout.{Layout}
 
@@ -41,8 +40,8 @@ level_of z ws i = record {
 }
 
 -- the four levels
-abbrev pub levels_of : Layout → List ℕ → Levels
-levels_of z ws = record { d0 = top_of z ws; d1 = level_of z ws 1; d2 = level_of z ws 2; d3 = level_of z ws 3 }
+abbrev pub levels_of : Layout → List ℕ → List Directory
+levels_of z ws = top_of z ws ∷ level_of z ws 1 ∷ level_of z ws 2 ∷ level_of z ws 3 ∷ []
 
 -- the size words are within their limits
 unfoldable pub header_ok : Layout → List ℕ → Bool

@@ -2,7 +2,9 @@
 // layout of a store that passes, or the reason that it is turned down for.
 #![tactic(auto)]
 
-ghost use Rattle.std.specs.Prelude.{◌≡◌, true, ◌+◌, ◌-◌, ◌*◌, ◌≤◌, ◌<◌, length};
+ghost use Rattle.std.specs.Prelude.{◌≡◌, true, ◌+◌, ◌-◌, ◌*◌, ◌≤◌, ◌<◌, length, All};
+ghost use Rattle.std.specs.List.{list_all};
+ghost use Rattle.directory.specs.Directory.{Within, level_formed};
 ghost use Rattle.geometry.specs.Geometry.{Ranged};
 ghost use Rattle.geometry.specs.Room.{places_most};
 ghost use Rattle.words.specs.Form.{room_of};
@@ -78,16 +80,7 @@ pub fn levels_of(s: &[u32], z: Layout) -> Levels
     requires { Fitted z s.now }
     ensures { result ≡ levels_of z s.now }
 {
-    let d0 = top_of(s, z);
-    let d1 = level_of(s, z, 1);
-    let d2 = level_of(s, z, 2);
-    let d3 = level_of(s, z, 3);
-    Levels {
-        d0: d0,
-        d1: d1,
-        d2: d2,
-        d3: d3,
-    }
+    [top_of(s, z), level_of(s, z, 1), level_of(s, z, 2), level_of(s, z, 3)]
 }
 
 // The most blocks that a level may list: none below the bottom.
@@ -199,6 +192,14 @@ pub fn spare_ok(s: &[u32], z: Layout) -> bool
     chunks::zeros(s, pays + past, left * width)
 }
 
+// Whether each level keeps its rules.
+fn each_formed(s: &[u32], levels: &Levels) -> bool
+    requires { All (λ (level : Directory). Within level s.now) levels.now }
+    ensures { result ≡ list_all (λ (level : Directory). level_formed s.now level) levels.now }
+{
+    levels.iter().all(|level| directory::level_formed(s, *level))
+}
+
 // The form check of a store of this layout. It reads no word of a place that no list names.
 pub fn passes(s: &[u32], z: Layout) -> bool
     requires { Fitted z s.now }
@@ -213,28 +214,9 @@ pub fn passes(s: &[u32], z: Layout) -> bool
     if !spare_ok(s, z) {
         return false;
     }
-    let d0 = top_of(s, z);
-    if !directory::level_formed(s, d0) {
+    let levels = levels_of(s, z);
+    if !each_formed(s, &levels) {
         return false;
     }
-    let d1 = level_of(s, z, 1);
-    if !directory::level_formed(s, d1) {
-        return false;
-    }
-    let d2 = level_of(s, z, 2);
-    if !directory::level_formed(s, d2) {
-        return false;
-    }
-    let d3 = level_of(s, z, 3);
-    if !directory::level_formed(s, d3) {
-        return false;
-    }
-    let live = slices::word(s, z.live);
-    let levels = Levels {
-        d0: d0,
-        d1: d1,
-        d2: d2,
-        d3: d3,
-    };
-    live == shares::live(s, levels)
+    slices::word(s, z.live) == shares::live(s, levels)
 }
