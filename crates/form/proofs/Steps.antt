@@ -1,6 +1,6 @@
 -- The steps of the code of the form check: one entry of a list, one list, the words behind the pages.
 use Prim.Native.Nat.{ℕ, suc, ◌+◌, ◌-◌, ◌*◌, ◌≤◌, ◌<◌}
-use mathlib.Core.Path.{◌≡◌}
+use mathlib.Core.Path.{◌≡◌, ◌∙◌}
 use mathlib.Core.Bool.{Bool, true, false, ◌&&◌, and-true}
 use mathlib.Core.List.{List}
 use native.Mathlib.Omega.{arith}
@@ -8,11 +8,13 @@ use native.Mathlib.Nat.{mul-le-mul}
 use borrow.Author.Tests.{lt-ltb, le-ltb}
 use lib.Dec.{ltb, leb}
 use lib.ListN.{get_or, length, set}
+use Rattle.std.specs.List.{slice_range}
 use Rattle.geometry.specs.Geometry.{capacity_of, key_limit_of, top_capacity_of}
 use Rattle.geometry.proofs.Bounds.{capacity_zero_high}
 use Rattle.words.specs.Stores.{word, count_at, cursor_at, live_at, top_count_at}
 use Rattle.words.specs.Form.{live_fits, cursor_inside, top_fits, room_of, counts_fit}
 use Rattle.chunks.specs.Chunks.{zeros_at}
+use Rattle.chunks.proofs.Slots.{part_word}
 use Rattle.directory.specs.declared.Directory.{Directory}
 use Rattle.form.specs.Form.{Headed, header_ok, top_of, level_of, fresh_of, mark_of, lists_from, spare_ok}
 use Rattle.form.proofs.Sizes.{top_paged, lists_in}
@@ -28,7 +30,10 @@ header_is z ws = go (leb (live_at z ws) (key_limit_of z.geo)) (ltb (cursor_at z 
     go a b c d e f = rw (and-true f)
 
 -- One entry of a list.
-module _ (ws : List ℕ) (p start n i : ℕ) (used : List Bool) (h : i < n) (q : ℕ) (e : q ≡ word ws (start + i)) where
+module _ (ws : List ℕ) (p start n i : ℕ) (used : List Bool) (h : i < n) (q : ℕ) (b : q ≡ get_or (slice_range ws start (start + n)) i 0) where
+  e : q ≡ word ws (start + i)
+  e = b ∙ part_word ws start n i h
+
   pub fresh_high : p ≤ q → fresh_of ws p (start + i) (n - i) used ≡ false
   unfolding fresh_of
   fresh_high l = let r : n - i ≡ suc (n - (i + 1)) = omega arith in rw (r, ← e, le-ltb _ _ l)
@@ -101,32 +106,33 @@ pub spare_is : (z : Layout) (ws : List ℕ) (d : Directory) → d ≡ top_of z w
 unfolding spare_ok top_of
 spare_is z ws d e k q = rw (e, q)
 
--- a list lies in the store, and has room for its count
-pub list_room_lem : (z : Layout) (ws : List ℕ) → Headed z ws → (i : ℕ) → i < z.geo.h → (d : Directory) → d ≡ level_of z ws (i + 1) → (k : ℕ) → k ≡ capacity_of z.geo (i + 1) → (d.list + k ≤ length ws) × (d.chunks ≤ k)
-unfolding level_of
-list_room_lem z ws y i h d e k q = let l = lists_in z ws y (i + 1) (omega arith) (omega arith) in rw (e, q) (l.inside, l.fits)
-
 -- One list.
-module _ (z : Layout) (ws : List ℕ) (i n : ℕ) (used : List Bool) (h : i < n) (d : Directory) (e : d ≡ level_of z ws (i + 1)) where
-  pub lists_unfresh : fresh_of ws z.geo.p d.list d.chunks used ≡ false → lists_from z ws (i + 1) (n - i) used ≡ false
-  unfolding lists_from level_of
-  lists_unfresh f = let r : n - i ≡ suc (n - (i + 1)) = omega arith in rw (r, rw e at f)
+module _ (z : Layout) (ws : List ℕ) (i : ℕ) (l : 1 ≤ i) (d : Directory) (e : d ≡ level_of z ws i) where
+  -- it lies in the store, and has room for its count
+  pub list_room_lem : Headed z ws → i ≤ z.geo.h → (k : ℕ) → k ≡ capacity_of z.geo i → (d.list + k ≤ length ws) × (d.chunks ≤ k)
+  unfolding level_of
+  list_room_lem y h k q = let o = lists_in z ws y i l h in rw (e, q) (o.inside, o.fits)
 
-  pub lists_unzero : (k : ℕ) → k ≡ capacity_of z.geo (i + 1) → fresh_of ws z.geo.p d.list d.chunks used ≡ true → zeros_at ws (d.list + d.chunks) (k - d.chunks) ≡ false → lists_from z ws (i + 1) (n - i) used ≡ false
-  unfolding lists_from level_of
-  lists_unzero k q f u = let r : n - i ≡ suc (n - (i + 1)) = omega arith in rw (r, rw e at f, rw (e, q) at u)
+  module _ (n : ℕ) (used : List Bool) (h : i ≤ n) where
+    pub lists_unfresh : fresh_of ws z.geo.p d.list d.chunks used ≡ false → lists_from z ws i (n + 1 - i) used ≡ false
+    unfolding lists_from level_of
+    lists_unfresh f = let r : n + 1 - i ≡ suc (n + 1 - (i + 1)) = omega arith in rw (r, rw e at f)
 
-  pub lists_next : (k : ℕ) → k ≡ capacity_of z.geo (i + 1) → fresh_of ws z.geo.p d.list d.chunks used ≡ true → zeros_at ws (d.list + d.chunks) (k - d.chunks) ≡ true
-      → lists_from z ws (i + 1) (n - i) used ≡ lists_from z ws (i + 1 + 1) (n - (i + 1)) (mark_of ws d.list d.chunks used)
-  unfolding lists_from level_of
-  lists_next k q f u =
-      let r : n - i ≡ suc (n - (i + 1)) = omega arith in
-      let t : i + 1 + 1 ≡ suc (i + 1) = omega arith in
-      rw (r, rw e at f, rw (e, q) at u, e, t)
+    module _ (k : ℕ) (q : k ≡ capacity_of z.geo i) (f : fresh_of ws z.geo.p d.list d.chunks used ≡ true) where
+      pub lists_unzero : zeros_at ws (d.list + d.chunks) (k - d.chunks) ≡ false → lists_from z ws i (n + 1 - i) used ≡ false
+      unfolding lists_from level_of
+      lists_unzero u = let r : n + 1 - i ≡ suc (n + 1 - (i + 1)) = omega arith in rw (r, rw e at f, rw (e, q) at u)
 
-pub lists_start : (z : Layout) (ws : List ℕ) (n : ℕ) (used : List Bool) → lists_from z ws (0 + 1) (n - 0) used ≡ lists_from z ws 1 n used
-lists_start z ws n used = let r : n - 0 ≡ n = omega arith in rw r
+      pub lists_next : zeros_at ws (d.list + d.chunks) (k - d.chunks) ≡ true → lists_from z ws i (n + 1 - i) used ≡ lists_from z ws (i + 1) (n + 1 - (i + 1)) (mark_of ws d.list d.chunks used)
+      unfolding lists_from level_of
+      lists_next u =
+          let r : n + 1 - i ≡ suc (n + 1 - (i + 1)) = omega arith in
+          let t : i + 1 ≡ suc i = omega arith in
+          rw (r, rw e at f, rw (e, q) at u, e, t)
 
-pub lists_end : (z : Layout) (ws : List ℕ) (i n : ℕ) (used : List Bool) → n ≤ i → lists_from z ws (i + 1) (n - i) used ≡ true
+pub lists_start : (z : Layout) (ws : List ℕ) (n : ℕ) (used : List Bool) → lists_from z ws 1 (n + 1 - 1) used ≡ lists_from z ws 1 n used
+lists_start z ws n used = let r : n + 1 - 1 ≡ n = omega arith in rw r
+
+pub lists_end : (z : Layout) (ws : List ℕ) (i n : ℕ) (used : List Bool) → n < i → lists_from z ws i (n + 1 - i) used ≡ true
 unfolding lists_from
-lists_end z ws i n used h = let r : n - i ≡ 0 = omega arith in rw r
+lists_end z ws i n used h = let r : n + 1 - i ≡ 0 = omega arith in rw r

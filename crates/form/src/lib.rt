@@ -13,24 +13,19 @@ ghost use Rattle.form.specs.Form.{Headed, top_of, level_of, levels_of, header_ok
 ghost use Rattle.form.specs.Checked.{checked_of};
 
 use directory::Directory;
-use geometry::Geometry;
-use layout::{Layout, Opened};
+use geometry::{Geometry, Refusal};
+use layout::Layout;
 use walk::Levels;
 
 // What every call begins with: the layout of a store that passes, or the reason that it is turned down for.
-pub fn check(s: &[u32]) -> Opened
+pub fn check(s: &[u32]) -> Result<Layout, Refusal>
     ensures { result ≡ checked_of s.now }
 {
-    match layout::open(s) {
-        Opened::Refused(n) => Opened::Refused(n),
-        Opened::Ready(z) => {
-            if passes(s, z) {
-                Opened::Ready(z)
-            } else {
-                Opened::Refused(4)
-            }
-        }
+    let z = layout::open(s)?;
+    if passes(s, z) {
+        return Ok(z);
     }
+    Err(Refusal::Damaged)
 }
 
 // Level 0 of a store.
@@ -130,12 +125,9 @@ pub fn list_fresh(
     ensures { (result ≡ fresh_of s.now p start n used.old)
         × (result ≡ true → used.new ≡ mark_of s.now start n used.old) }
 {
-    for i in 0..n {
-        let q = slices::word(s, start + i);
-        if p <= q {
-            return false;
-        }
-        if used[q] {
+    for &place in &s[start..start + n] {
+        let q = place as usize;
+        if p <= q || used[q] {
             return false;
         }
         used[q] = true;
@@ -153,9 +145,9 @@ pub fn lists_ok(s: &[u32], z: Layout) -> bool
     let h = g.levels();
     let p = g.places();
     let mut used = [false; Geometry::MAX_P];
-    for i in 0..h {
-        let room = g.capacity(i + 1);
-        let level = level_of(s, z, i + 1);
+    for i in 1..=h {
+        let room = g.capacity(i);
+        let level = level_of(s, z, i);
         let start = level.list;
         let n = level.chunks;
         if !list_fresh(s, &mut used, start, n, p) {
@@ -183,13 +175,9 @@ pub fn spare_ok(s: &[u32], z: Layout) -> bool
     let pays = top.pays;
     let left = room - n;
     let past = n * width;
-    if !chunks::zeros(s, marks + n, left) {
-        return false;
-    }
-    if !chunks::zeros(s, keys + past, left * width) {
-        return false;
-    }
-    chunks::zeros(s, pays + past, left * width)
+    chunks::zeros(s, marks + n, left)
+        && chunks::zeros(s, keys + past, left * width)
+        && chunks::zeros(s, pays + past, left * width)
 }
 
 // Whether each level keeps its rules.
