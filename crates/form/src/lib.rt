@@ -13,24 +13,19 @@ ghost use Rattle.form.specs.Form.{Headed, top_of, level_of, levels_of, header_ok
 ghost use Rattle.form.specs.Checked.{checked_of};
 
 use directory::Directory;
-use geometry::Geometry;
-use layout::{Layout, Opened};
+use geometry::{Geometry, Refusal};
+use layout::Layout;
 use walk::Levels;
 
 // What every call begins with: the layout of a store that passes, or the reason that it is turned down for.
-pub fn check(s: &[u32]) -> Opened
+pub fn check(s: &[u32]) -> Result<Layout, Refusal>
     ensures { result ≡ checked_of s.now }
 {
-    match layout::open(s) {
-        Opened::Refused(n) => Opened::Refused(n),
-        Opened::Ready(z) => {
-            if passes(s, z) {
-                Opened::Ready(z)
-            } else {
-                Opened::Refused(4)
-            }
-        }
+    let z = layout::open(s)?;
+    if passes(s, z) {
+        return Ok(z);
     }
+    Err(Refusal::Damaged)
 }
 
 // Level 0 of a store.
