@@ -39,7 +39,7 @@ each_formed : (z : Layout) (ws : List ℕ) → Headed z ws → lists_ok z ws ≡
 each_formed z ws y l e =
     let k = simp and-eq-true_iff at e in
     of_four z ws (λ (d : Directory). Formed d ws) (formed_all _ _ (within_top z ws y) k.0) (formed_all _ _ (within_level z ws y l 1 (omega arith) (omega arith)) k.1.0)
-    (formed_all _ _ (within_level z ws y l 2 (omega arith) (omega arith)) k.1.1.0) (formed_all _ _ (within_level z ws y l 3 (omega arith) (omega arith)) k.1.1.1)
+    (formed_all _ _ (within_level z ws y l 2 (omega arith) (omega arith)) k.1.1.0) (formed_all _ _ (within_level z ws y l 3 (omega arith) (omega arith)) k.1.1.1.0)
 
 pub returns-then-not-header_ok : goal.returns-then-not-header_ok
 unfolding passed
