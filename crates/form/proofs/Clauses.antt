@@ -13,7 +13,6 @@ use Rattle.levels.specs.Record.{Rec, records, rising, has_tombstone, clean_tombs
 use Rattle.levels.specs.Map.{find, overlay, view, unmarked, map_of, live_count, decides}
 use Rattle.levels.specs.Store.{rows}
 use Rattle.levels.proofs.Basics.{or_none}
-use Rattle.levels.proofs.Overlay.{overlay_nil}
 use Rattle.levels.proofs.Every.{all_joined}
 use Rattle.levels.proofs.Each.{each_add, map_each, all_each}
 use Rattle.words.proofs.Form.{clauses_formed, formed_clauses}
@@ -76,7 +75,6 @@ unfolding view overlay
 view_empties [] zero = refl
 view_empties [] (suc n) = view_empties [] n
 view_empties (l ∷ ls) n = rw (view_empties ls n)
-
 
 decides_empties : (k : ℕ) (ls : List (List Rec)) (n : ℕ) → decides k (ls ++ replicate n []) ≡ decides k ls
 unfolding decides find

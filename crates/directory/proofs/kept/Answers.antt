@@ -7,8 +7,8 @@ pub returns-then-n-lt1 : goal.returns-then-n-lt1
 unfolding kept_of
 returns-then-n-lt1 c =
     elim c.then-n-lt1.branch [
-      then-n-lt1-via-then-n-lt1 w ↦ rw (lt-leb 1 _ w.if-n-lt1.true)
-    | then-n-lt1-via-else-n-lt1+then-width-n w ↦ rw (le-leb 1 _ w.if-n-lt1.false, lt-leb _ _ w.if-width-n.true)
+      | then-n-lt1-via-then-n-lt1 w ↦ rw (lt-leb 1 _ w.if-n-lt1.true)
+      | then-n-lt1-via-else-n-lt1+then-width-n w ↦ rw (le-leb 1 _ w.if-n-lt1.false, lt-leb _ _ w.if-width-n.true)
     ]
 
 pub returns-then-dir-before : goal.returns-then-dir-before
