@@ -160,6 +160,7 @@ lower_leaves z st j ws ws' used' out lists lists' v k n w above under p c a writ
       first = c.first;
       overlap = c.overlap;
     }
+
 -- what is made of a value, or of another where there is none
 pub made_or : {A B : Type 0} (f : A → B) (o : Option A) (d : A) → f (unwrap_or o d) ≡ unwrap_or (option_map f o) (f d)
 made_or f None d = refl
