@@ -1,9 +1,11 @@
 -- Lists that a loop fills from their start on.
 use Prim.Native.Nat.{ℕ, suc, ◌+◌, ◌<◌}
 use mathlib.Core.Path.{◌≡◌, refl, sym, ap, ◌∙◌}
-use mathlib.Core.List.{List, ◌++◌}
+use mathlib.Core.List.{List, ◌++◌, append-nil}
 use native.Mathlib.Numerals.{add-one}
+use native.Mathlib.Omega.{arith}
 use lib.ListN.{length, get_or, take, drop, set}
+use Rattle.std.proofs.lemmas.List.{drop_all}
 use lib.Seq.{set_at, drop-cons, append_snoc, take-append_seam}
 use Rattle.levels.specs.Basics.{each}
 use Rattle.levels.proofs.Each.{length_each, each_more}
@@ -28,3 +30,7 @@ fill_none f xs = refl
 pub take_fill : {A : Type 0} (f : ℕ → A) (n : ℕ) (xs : List A) → take n (fill f n xs) ≡ each f 0 n
 unfolding fill
 take_fill f n xs = rw length_each at (take-append_seam (each f 0 n) (drop n xs))
+
+pub fill_all : {A : Type 0} (f : ℕ → A) (n : ℕ) (xs : List A) → length xs ≡ n → fill f (length xs) xs ≡ each f 0 n
+unfolding fill
+fill_all f n xs e = rw (drop_all (length xs) xs (omega arith), append-nil, e)

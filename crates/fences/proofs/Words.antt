@@ -17,7 +17,7 @@ use Rattle.levels.proofs.Lists.{map_take, map_drop}
 use Rattle.levels.proofs.Compaction.{pages_at, pages_full}
 use Rattle.levels.proofs.Each.{length_each, each_add, each_take, each_drop, get_d_each, each_get_d, map_each}
 use Rattle.words.proofs.Top.{top_length}
-use Rattle.fences.proofs.Lists.{take_fill}
+use Rattle.fences.proofs.Lists.{take_fill, fill_all}
 use Rattle.layout.proofs.Laws.{place_word_inside, keys_before, places_before}
 use Rattle.layout.specs.Layouts.{Proper, place_start, Fitted}
 use Rattle.layout.specs.declared.Layout.{Layout}
@@ -130,12 +130,12 @@ listed_fences z ws list xs fences e =
     ∙ sym (ap (map fence_of) (ap (map (block_at z ws)) (sym (take_all n list (omega arith)) ∙ sym (each_get_d 0 list n (omega arith))) ∙ map_each (block_at z ws) (word list) 0 n) ∙ map_each fence_of (λ (i : ℕ). block_at z ws (word list i)) 0 n)
 
 -- the pages of a level 0 of n full pages
-pub page_fences : (z : Layout) (ws : List ℕ) (n : ℕ) (xs fences : List Fence) → fences ≡ fill (page_fence z ws) n xs
+pub page_fences : (z : Layout) (ws : List ℕ) (n : ℕ) (xs fences : List Fence) → length xs ≡ n → fences ≡ fill (page_fence z ws) (length xs) xs
     → 1 ≤ z.geo.b → top_count_at z ws ≡ n * z.geo.b → top_count_at z ws ≤ top_capacity_of z.geo
-    → take n fences ≡ map fence_of (pages z.geo.b (top_recs z ws))
+    → fences ≡ map fence_of (pages z.geo.b (top_recs z ws))
 unfolding page_fence
-page_fences z ws n xs fences a p e l =
+page_fences z ws n xs fences q a p e l =
     let ps = pages z.geo.b (top_recs z ws) in
     let m : length ps ≡ n = pages_full z.geo.b n (top_recs z ws) p (top_length z ws l ∙ e) in
-    ap (take n) a ∙ take_fill (page_fence z ws) n xs
+    a ∙ fill_all (page_fence z ws) n xs q
     ∙ sym (ap (map fence_of) (sym (each_get_d (new []) ps n (omega arith) ∙ take_all n ps (omega arith))) ∙ map_each fence_of (λ (i : ℕ). get_or ps i (new [])) 0 n)

@@ -4,6 +4,7 @@ use mathlib.Core.Path.{◌≡◌, sym, ap, ◌∙◌}
 use mathlib.Core.List.{List, map}
 use native.Mathlib.Omega.{arith}
 use lib.ListN.{length, take, drop, length-map}
+use lib.Seq.{length-take-le}
 use Rattle.levels.specs.Record.{Level}
 use Rattle.levels.specs.Choose.{Least, choose, cut_at}
 use Rattle.levels.proofs.Cut.{cut_lengths}
@@ -11,7 +12,7 @@ use Rattle.words.specs.Stores.{block_at}
 use Rattle.choice.specs.declared.Choice.{Choice}
 use Rattle.choice.specs.declared.Stretch.{Stretch}
 use Rattle.choice.specs.declared.Fence.{Fence}
-use Rattle.choice.specs.Fences.{Ordered, fence_of, choose_fences, choice_of, stretch_of}
+use Rattle.choice.specs.Fences.{Ordered, fence_of, choose_fences, choice_of, with_stretch, stretch_of}
 use Rattle.fences.specs.Reading.{fill, listed_fence}
 use Rattle.choice.proofs.Levels.{choose_fences_lem, choice_fences}
 use Rattle.choice.proofs.Choose.{chosen_inside, chosen_overlap}
@@ -22,10 +23,10 @@ use Rattle.pair.specs.Contract.{Chosen, Readables}
 use Rattle.layout.specs.declared.Layout.{Layout}
 
 -- what is found by fences is the choice by blocks
-pub picked : (w : ℕ) (c : Choice) (above under : Level) → c ≡ choice_of (choose_fences w (map fence_of above) (map fence_of under))
+pub picked : (w : ℕ) (c : Choice) (fs gs : List Fence) → c ≡ choice_of (choose_fences w fs gs) → (above under : Level) → fs ≡ map fence_of above → gs ≡ map fence_of under
     → Chosen w above under (record { first = c.first; overlap = c.overlap; start = c.below.start; end = c.below.end })
-picked w c above under e =
-    let d = e ∙ choice_fences w above under in
+picked w c fs gs e above under ea eu =
+    let d : c ≡ choice_of (with_stretch w (map fence_of above) (map fence_of under) (choose w above under)) = e ∙ rw (ea, eu) (choice_fences w above under) in
     let first : c.first ≡ (choose w above under).at = ap (λ (x : Choice). x.first) d in
     record {
       first = first;
@@ -37,6 +38,9 @@ picked w c above under e =
 module _ (z : Layout) (ws list : List ℕ) (k : Readables z ws list) (xs fences : List Fence) (e : fences ≡ fill (listed_fence z ws list) (length list) xs) where
   pub listed_are : take (length list) fences ≡ map fence_of (map (block_at z ws) list)
   listed_are = listed_fences z ws list xs fences e
+
+  pub listed_high : (w : ℕ) → w ≤ length list → length list ≤ length fences → w ≤ length (take (length list) fences)
+  listed_high w l h = omega (arith, length-take-le (length list) fences h)
 
   pub listed_ordered : Ordered 0 (take (length list) fences)
   listed_ordered = rw listed_are k.ordered

@@ -7,7 +7,7 @@ use native.Mathlib.Nat.{zero-add}
 use native.Mathlib.Omega.{arith}
 use lib.Dec.{eqb}
 use lib.ListN.{length, get_or, take, drop, length-append}
-use lib.Seq.{take_all, take_at, drop_at}
+use lib.Seq.{take_all, take_at, drop_at, length-take-le}
 use Rattle.geometry.specs.Geometry.{window_of, capacity_of, top_capacity_of}
 use Rattle.geometry.specs.Room.{list_room}
 use Rattle.geometry.proofs.Bounds.{capacity_zero_high}
@@ -30,7 +30,6 @@ use Rattle.lists.proofs.Flat.{part_inside}
 use Rattle.choice.specs.declared.Fence.{Fence}
 use Rattle.choice.specs.Fences.{Ordered, fence_of}
 use Rattle.fences.specs.Reading.{fill, page_fence}
-use Rattle.choice.proofs.Keys.{level_fenced}
 use Rattle.levels.proofs.Levels.{Filled}
 use Rattle.choice.proofs.Levels.{level_ordered}
 use Rattle.levels.proofs.Each.{length_each, get_d_each, each_take, each_drop}
@@ -76,13 +75,23 @@ top_full z ws e =
     let l : length (page_slots z ws 0 (capacity_of z.geo 0)) ≡ top_capacity_of z.geo = top_slots_length z ws in
     take_all (top_count_at z ws) (page_slots z ws 0 (capacity_of z.geo 0)) (omega arith)
 
--- a list filled with the fences of the pages of level 0
-module _ (z : Layout) (ws : List ℕ) (a : ℕ) (b : 1 ≤ z.geo.b) (k : Paged z ws a) (xs fences : List Fence) (e : fences ≡ fill (page_fence z ws) a xs) where
-  pub paged_are : take a fences ≡ map fence_of (pages z.geo.b (top_recs z ws))
-  paged_are = page_fences z ws a xs fences e b k.count k.fits
+-- the part of a list that is filled with the fences of the pages of level 0
+module _ (z : Layout) (ws : List ℕ) (a w : ℕ) (b : 1 ≤ z.geo.b) (k : Paged z ws a) (xs : List Fence) (h : a ≤ length xs) where
+  part_long : length (take a xs) ≡ a
+  part_long = length-take-le a xs h
 
-  pub paged_ordered : Ordered 0 (take a fences)
-  paged_ordered = rw paged_are k.ordered
+  pub paged_asks : length (take a xs) * z.geo.b ≤ top_count_at z ws
+  paged_asks = rw part_long (omega (arith, k.count))
+
+  module _ (fences : List Fence) (e : fences ≡ fill (page_fence z ws) (length (take a xs)) (take a xs)) where
+    pub paged_are : fences ≡ map fence_of (pages z.geo.b (top_recs z ws))
+    paged_are = page_fences z ws a (take a xs) fences part_long e b k.count k.fits
+
+    pub paged_ordered : Ordered 0 fences
+    paged_ordered = rw paged_are k.ordered
+
+    pub paged_high : w ≤ a → length fences ≡ length (take a xs) → w ≤ length fences
+    paged_high l q = omega (arith, part_long)
 
 module _ (z : Layout) (ws : List ℕ) (used : List Bool) (lists : List ℕ) (n cursor : ℕ) (k : PagesReady z ws used lists n cursor) where
   abbrev w : ℕ

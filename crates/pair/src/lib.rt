@@ -123,8 +123,9 @@ fn choose_pages(s: &[u32], lower: &[u32], z: Layout, a: usize, w: usize) -> Pick
     ensures { Chosen w (pages z.geo.b (top_recs z s.now)) (map (block_at z s.now) lower.now) result }
 {
     let mut above = [Fence::default(); PAGES];
-    fences::fence_pages(s, z, &mut above[..a]);
-    pick(s, lower, z, &above[..a], w)
+    let pages = &mut above[..a];
+    fences::fence_pages(s, z, pages);
+    pick(s, lower, z, pages, w)
 }
 
 // Steps 3 and 4 with the new list put in the place of the old one, which its blocks are read from till the end. Where X is pages of
