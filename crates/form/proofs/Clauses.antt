@@ -77,7 +77,6 @@ view_empties [] zero = refl
 view_empties [] (suc n) = view_empties [] n
 view_empties (l ∷ ls) n = rw (view_empties ls n)
 
-
 decides_empties : (k : ℕ) (ls : List (List Rec)) (n : ℕ) → decides k (ls ++ replicate n []) ≡ decides k ls
 unfolding decides find
 decides_empties k [] zero = refl

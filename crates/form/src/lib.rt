@@ -75,7 +75,12 @@ pub fn levels_of(s: &[u32], z: Layout) -> Levels
     requires { Fitted z s.now }
     ensures { result ≡ levels_of z s.now }
 {
-    [top_of(s, z), level_of(s, z, 1), level_of(s, z, 2), level_of(s, z, 3)]
+    [
+        top_of(s, z),
+        level_of(s, z, 1),
+        level_of(s, z, 2),
+        level_of(s, z, 3),
+    ]
 }
 
 // The most blocks that a level may list: none below the bottom.
@@ -192,7 +197,9 @@ fn each_formed(s: &[u32], levels: &Levels) -> bool
     requires { All (λ (level : Directory). Within level s.now) levels.now }
     ensures { result ≡ list_all (λ (level : Directory). level_formed s.now level) levels.now }
 {
-    levels.iter().all(|level| directory::level_formed(s, *level))
+    levels
+        .iter()
+        .all(|level| directory::level_formed(s, *level))
 }
 
 // The form check of a store of this layout. It reads no word of a place that no list names.
