@@ -275,7 +275,7 @@ impl Desk {
         requires { Flushable z s.old self.old.used self.old.st × Runnable z s.old self.old.st run }
         ensures { memory s.new self.new ≡ gathered_run z bottom (memory s.old self.old) run }
     {
-        let mut buf = self.st.buf;
+        let buf = &mut self.st.buf;
         let next = run.next;
         let head = next.head;
         let from = run.from;
@@ -292,7 +292,6 @@ impl Desk {
             }
         }
         let n = buf.n;
-        self.st.buf = buf;
         if z.b <= n {
             self.flush(s, z);
         }
