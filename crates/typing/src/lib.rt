@@ -26,12 +26,8 @@ fn retry<F: FnMut() -> io::Result<usize>>(call: &mut F) -> io::Result<usize>
 {
     for _ in 0..u64::MAX {
         match call() {
-            Ok(n) => return Ok(n),
-            Err(e) => {
-                if e.kind() != ErrorKind::Interrupted {
-                    return Err(e);
-                }
-            }
+            Err(e) if e.kind() == ErrorKind::Interrupted => {}
+            done => return done,
         }
     }
     call()
@@ -51,21 +47,19 @@ fn write_some<W: Write>(writer: &mut W, bytes: &[u8]) -> io::Result<usize>
     retry(&mut || writer.write(bytes))
 }
 
-// Writes all bytes, or says why it cannot.
+// Writes all bytes, or says why it cannot: std's `write_all` does not say that what it has written at an `Err` is their beginning
+// (clause `begun`).
 fn write_out<W: Write>(writer: &mut W, bytes: &[u8]) -> io::Result<()>
     ensures all { OnOk result (Appends (W.contents writer.old) (W.contents writer.new) bytes.now) }
     ensures begun { Begins bytes.now (W.contents writer.old) (W.contents writer.new) }
 {
-    let mut from = 0;
-    for _ in 0..bytes.len() {
-        if from >= bytes.len() {
-            return Ok(());
-        }
-        let put = write_some(writer, &bytes[from..])?;
+    let mut rest = bytes;
+    while !rest.is_empty() {
+        let put = write_some(writer, rest)?;
         if put == 0 {
             return Err(io::Error::from(ErrorKind::WriteZero));
         }
-        from += put;
+        rest = &rest[put..];
     }
     Ok(())
 }
