@@ -89,12 +89,10 @@ pub fn run<R: Read, W: Write>(
         let n = read_in(reader, input)?;
         if n == 0 {
             let last = dialogue::finish(words, state, out);
-            let end = last.bytes;
-            return write_out(writer, &out[..end]);
+            return write_out(writer, &out[..last.bytes]);
         }
         let fed = dialogue::feed(words, state, &input[..n], out);
-        let end = fed.bytes;
-        write_out(writer, &out[..end])?;
+        write_out(writer, &out[..fed.bytes])?;
         state = fed.state;
     }
     Ok(())
