@@ -29,24 +29,12 @@ pub fn page_at(marks: u32, dir: Directory, i: usize) -> Chunk
     requires { (dir.base + i * dir.width ≤ 400000) × ((dir.pays + i * dir.width ≤ 400000) × (i * dir.width ≤ dir.records)) }
     ensures { result ≡ page_of marks dir i }
 {
-    let width = dir.width;
-    let past = i * width;
-    let left = dir.records - past;
-    let keys = dir.base + past;
-    let pays = dir.pays + past;
-    if left < width {
-        return Chunk {
-            marks: marks,
-            keys: keys,
-            pays: pays,
-            count: left,
-        };
-    }
+    let past = i * dir.width;
     Chunk {
-        marks: marks,
-        keys: keys,
-        pays: pays,
-        count: width,
+        marks,
+        keys: dir.base + past,
+        pays: dir.pays + past,
+        count: (dir.records - past).min(dir.width),
     }
 }
 
@@ -68,14 +56,12 @@ pub fn chunk_at(s: &[u32], dir: Directory, i: usize) -> Chunk
     requires { Within dir s.now × (i < dir.chunks) }
     ensures { result ≡ chunk_at s.now dir i }
 {
-    let list = dir.list;
-    let width = dir.width;
-    let x = s[list + i];
+    let x = s[dir.list + i];
     if dir.top {
         return page_at(x, dir, i);
     }
-    let start = dir.base + (x as usize) * (2 + 2 * width);
-    block_at(s, width, start)
+    let start = dir.base + (x as usize) * (2 + 2 * dir.width);
+    block_at(s, dir.width, start)
 }
 
 // A chunk has 1 to `width` records, its unused slots are 0, one of the bottom level has no tombstones,

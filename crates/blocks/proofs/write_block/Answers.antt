@@ -51,10 +51,6 @@ copy-requires-2 c =
     let k = simp length-set at c.copy.auto.out in
     (search rules, omega arith)
 
-pub shape_of-s : goal.shape_of-s
-shape_of-s c =
-    c.copy-2.auto.out ∙ (c.copy.auto.out ∙ simp length-set)
-
 pub returns : goal.returns
 returns c =
     let z = c.args.z in

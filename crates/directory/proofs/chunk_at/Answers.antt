@@ -1,5 +1,4 @@
 use native.Mathlib.Omega.{arith}
-use Prim.Native.Nat.{◌+◌}
 use Rattle.directory.specs.Directory.{chunk_at}
 use Rattle.directory.proofs.Laws.{page_in}
 use Rattle.directory.proofs.chunk_at.Goals as goal
@@ -7,11 +6,11 @@ use Rattle.directory.proofs.chunk_at.Goals as goal
 pub overflow_add-x : goal.overflow_add-x
 overflow_add-x c = omega (arith, c.requires.0.list _ c.requires.1)
 
-pub offset_bounds-s-list : goal.offset_bounds-s-list
-offset_bounds-s-list c = omega (arith, c.requires.0.list _ c.requires.1)
+pub offset_bounds-s-dir : goal.offset_bounds-s-dir
+offset_bounds-s-dir c = omega (arith, c.requires.0.list _ c.requires.1)
 
-pub bounds-s-list : goal.bounds-s-list
-bounds-s-list c = c.requires.0.list _ c.requires.1
+pub bounds-s-dir : goal.bounds-s-dir
+bounds-s-dir c = c.requires.0.list _ c.requires.1
 
 pub page_at-requires : goal.page_at-requires
 page_at-requires c = page_in _ _ c.requires.0 _ c.requires.1 c.if-dir.true
@@ -19,9 +18,6 @@ page_at-requires c = page_in _ _ c.requires.0 _ c.requires.1 c.if-dir.true
 pub returns-then-dir : goal.returns-then-dir
 unfolding chunk_at
 returns-then-dir c = rw c.if-dir.true c.page_at.ensures
-
-pub overflow_cast-start : goal.overflow_cast-start
-overflow_cast-start c = omega (arith, c.shared_slice_known-2-1.given (c.args.dir.list + c.args.i))
 
 pub overflow_mul-start-2 : goal.overflow_mul-start-2
 overflow_mul-start-2 c = omega (arith, c.requires.0.blocks c.if-dir.false _ c.requires.1)

@@ -16,6 +16,3 @@ overflow_add-result-3 c = rw c.place_start-at.ensures (omega (arith, ends c.args
 
 pub overflow_add-result-4 : goal.overflow_add-result-4
 overflow_add-result-4 c = rw c.place_start-at.ensures (omega (arith, ends c.args.z c.args.s.now c.requires.0 c.args.q c.requires.1))
-
-pub returns : goal.returns
-returns c = rw (c.word-n.ensures.0, c.place_start-at.ensures)

@@ -10,9 +10,6 @@ pub returns-then-m-eq0 : goal.returns-then-m-eq0
 unfolding last_size
 returns-then-m-eq0 c = rw (eq-eqb _ _ c.if-m-eq0.true)
 
-pub place_start-at-requires : goal.place_start-at-requires
-place_start-at-requires c = omega (arith, c.requires.0, c.requires.2 (c.args.m - 1) (omega arith))
-
 pub word-requires : goal.word-requires
 word-requires c =
     let h : get_or c.args.out.now (c.args.m - 1) 0 < c.args.z.p = c.requires.2 _ (omega arith) in

@@ -8,9 +8,6 @@ pub returns-then-end-i : goal.returns-then-end-i
 unfolding head_of
 returns-then-end-i c = rw (le-leb _ _ c.if-end-i.true)
 
-pub chunk_at-chunk-requires : goal.chunk_at-chunk-requires
-chunk_at-chunk-requires c = readable_chunked _ _ _ _ _ c.args.j c.args.end c.requires c.if-end-i.false
-
 pub head_at-requires : goal.head_at-requires
 head_at-requires c =
     let k = c.requires in

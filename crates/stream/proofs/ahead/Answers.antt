@@ -1,9 +1,6 @@
 use native.Mathlib.Omega.{arith}
-use Rattle.stream.proofs.Taking.{ahead_all, ahead_row, ahead_some}
+use Rattle.stream.proofs.Taking.{ahead_row, ahead_some}
 use Rattle.stream.proofs.ahead.Goals as goal
-
-pub returns-in_default : goal.returns-in_default
-returns-in_default c = ahead_all _ _ _ _ _ _ c.requires.0 (omega arith) (omega arith) c.in_default.is
 
 pub count_below-requires : goal.count_below-requires
 count_below-requires c =

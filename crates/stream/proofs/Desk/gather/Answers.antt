@@ -1,5 +1,4 @@
 use borrow.Author.Tests.{le-leb, lt-leb}
-use native.Mathlib.Omega.{arith}
 use mathlib.Core.Path.{◌∙◌}
 use Rattle.stream.specs.Machine.{gathered}
 use Rattle.stream.proofs.Desk.gather.Goals as goal
@@ -7,11 +6,6 @@ use Rattle.stream.proofs.Desk.gather.Goals as goal
 pub returns-then-bottom-head : goal.returns-then-bottom-head
 unfolding gathered
 returns-then-bottom-head c = rw c.if-bottom-head.true
-
-pub flush-requires : goal.flush-requires
-flush-requires c =
-    let p = c.push-more.ensures in
-    record { sized = c.requires.0.sized; cursor = c.requires.0.cursor; full = rw p (omega (arith, c.requires.1, c.requires.0.sized)); room = c.requires.0.room; count = c.requires.0.count; free = c.requires.0.free }
 
 pub returns-then-z-more : goal.returns-then-z-more
 unfolding gathered
