@@ -39,12 +39,12 @@ pub fn top_of(s: &[u32], z: Layout) -> Directory
     Directory {
         top: true,
         bottom: false,
-        width: width,
+        width,
         chunks: (records + (width - 1)) / width,
         list: z.marks,
         base: z.keys,
         pays: z.pays,
-        records: records,
+        records,
     }
 }
 
@@ -61,9 +61,9 @@ pub fn level_of(s: &[u32], z: Layout, i: usize) -> Directory
     Directory {
         top: false,
         bottom: i == h,
-        width: width,
+        width,
         chunks: n,
-        list: list,
+        list,
         base: z.places,
         pays: 0,
         records: 0,

@@ -7,7 +7,7 @@ use native.Mathlib.Numerals.{add-one}
 use native.Mathlib.Nat.{pow-suc, mul-le-mul_right}
 use native.Mathlib.Omega.{arith}
 use lib.ListN.{get_or, set, length, take, drop, length-drop}
-use lib.Seq.{length-take-le, take-suc, get_or-drop}
+use lib.Seq.{length-take-le, take-suc, get_or-drop, get_or-take}
 use Rattle.slices.specs.Slices.{put_at}
 use Rattle.slices.proofs.Put.{put_none, put_more}
 use Rattle.blocks.specs.declared.Offsets.{Offsets}
@@ -55,6 +55,29 @@ module _ (a : Buffer) (keys pays : List ℕ) (marks : ℕ) (c : Clean a) where
   pub joined_more : (j : ℕ) → pushed (joined a keys pays marks j) (get_or keys j 0) (marks / 2 ^ j % 2) (get_or pays j 0) ≡ joined a keys pays marks (j + 1)
   unfolding joined
   joined_more j = rw (add-one j)
+
+-- what is joined hangs on the records that are read
+pub joined_same : (a : Buffer) (keys pays keys' pays' : List ℕ) (m n : ℕ) → ((j : ℕ) → j < n → (get_or keys j 0 ≡ get_or keys' j 0) × (get_or pays j 0 ≡ get_or pays' j 0))
+    → joined a keys pays m n ≡ joined a keys' pays' m n
+unfolding joined
+joined_same a keys pays keys' pays' m zero h = refl
+joined_same a keys pays keys' pays' m (suc n) h =
+    let p = h n (omega arith) in
+    rw (joined_same a keys pays keys' pays' m n (λ j l. h j (omega arith)), p.0, p.1)
+
+-- the n first of them, as a part of their array
+pub joined_firsts : (a : Buffer) (keys pays : List ℕ) (m n : ℕ) → joined a (take n keys) (take n pays) m n ≡ joined a keys pays m n
+joined_firsts a keys pays m n = joined_same a (take n keys) (take n pays) keys pays m n (λ j l. (get_or-take n keys j 0 l, get_or-take n pays j 0 l))
+
+-- the records of a block are its keys and payloads joined
+pub joined_block : (b : ℕ) (xs : List ℕ) (at : ℕ) (a : Buffer) (n : ℕ)
+    → joined a (take n (drop (at + 2) xs)) (take n (drop (at + 2 + b) xs)) (get_or xs (at + 1) 0) n ≡ appended b xs at a n
+unfolding joined appended
+joined_block b xs at a n = joined_firsts a (drop (at + 2) xs) (drop (at + 2 + b) xs) (get_or xs (at + 1) 0) n ∙ go n
+  where
+    go : (m : ℕ) → joined a (drop (at + 2) xs) (drop (at + 2 + b) xs) (get_or xs (at + 1) 0) m ≡ appended b xs at a m
+    go zero = refl
+    go (suc m) = rw (go m, get_or-drop (at + 2) xs m 0, get_or-drop (at + 2 + b) xs m 0)
 
 pub empty_clean : Clean empty_buffer
 empty_clean = record { bits = omega arith }

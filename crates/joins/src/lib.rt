@@ -11,20 +11,26 @@ ghost use Rattle.joins.specs.Joins.{Clean, Loadable, appended, joined, Pullable,
 use blocks::{Buffer, Offsets};
 use stream::{Desk, Point};
 
+// Records after those of a buffer: their keys, payloads and mark word.
+fn append(a: Buffer, keys: &[u32], pays: &[u32], marks: u32) -> Buffer
+    requires { Clean a × (length pays.now ≡ length keys.now) × (a.n + length keys.now ≤ 16) }
+    ensures { result ≡ joined a keys.now pays.now marks (length keys.now) }
+{
+    let mut r = a;
+    for (j, &k) in keys.iter().enumerate() {
+        r = r.push(k, (marks >> j) % 2, pays[j]);
+    }
+    r
+}
+
 // The first n records of the block whose words start at `at`, after those of the buffer.
 fn append_words(s: &[u32], z: Offsets, at: usize, n: usize, buf: Buffer) -> Buffer
     requires { (at + (2 + 2 * z.b) ≤ length s.now) × (n ≤ z.b) × (z.b ≤ 16) × (buf.n + n ≤ 16) × Clean buf }
     ensures { result ≡ appended z.b s.now at buf n }
 {
-    let b = z.b;
-    let m = s[at + 1];
-    let mut r = buf;
-    for j in 0..n {
-        let k = s[at + 2 + j];
-        let v = s[at + 2 + b + j];
-        r = r.push(k, (m >> j) % 2, v);
-    }
-    r
+    let keys = at + 2;
+    let pays = keys + z.b;
+    append(buf, &s[keys..keys + n], &s[pays..pays + n], s[at + 1])
 }
 
 // The records of the block at place q, after those of the buffer.
@@ -37,24 +43,6 @@ fn append_block(s: &[u32], z: Offsets, q: usize, buf: Buffer) -> Buffer
     append_words(s, z, at, n, buf)
 }
 
-// The records of two buffers.
-fn append_buffer(a: Buffer, more: Buffer) -> Buffer
-    requires { Clean a × (a.n + more.n ≤ 16) }
-    ensures { result ≡ joined a more.keys more.pays more.marks more.n }
-{
-    let keys = more.keys;
-    let pays = more.pays;
-    let m = more.marks;
-    let n = more.n;
-    let mut r = a;
-    for j in 0..n {
-        let k = keys[j];
-        let v = pays[j];
-        r = r.push(k, (m >> j) % 2, v);
-    }
-    r
-}
-
 // The last block listed is taken back: its records stand before those of the buffer.
 fn pull_last(s: &[u32], desk: &mut Desk, z: Offsets)
     requires { Pullable z s.now desk.old.out desk.old.st }
@@ -64,7 +52,9 @@ fn pull_last(s: &[u32], desk: &mut Desk, z: Offsets)
     let q = desk.out[m] as usize;
     let last = append_block(s, z, q, Buffer::default());
     desk.st.m = m;
-    desk.st.buf = append_buffer(last, desk.st.buf);
+    let buf = desk.st.buf;
+    let n = buf.n;
+    desk.st.buf = append(last, &buf.keys[..n], &buf.pays[..n], buf.marks);
 }
 
 // A leftover that with the last block holds B or fewer joins it.

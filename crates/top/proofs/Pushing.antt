@@ -1,14 +1,14 @@
 -- A record goes in between others: the slots after n turns, and at the end.
 use Prim.Native.Nat.{ℕ, suc, ◌+◌, ◌-◌, ◌/◌, ◌≤◌, ◌<◌}
-use mathlib.Core.Path.{◌≡◌, sym, ap, ◌∙◌, subst}
+use mathlib.Core.Path.{◌≡◌, refl, sym, ap, ◌∙◌}
 use mathlib.Core.Bool.{Bool, true, false}
 use mathlib.Core.List.{List, ◌∷◌, ◌++◌, append_assoc}
 use native.Mathlib.Numerals.{add-one}
 use native.Mathlib.Omega.{arith}
 use lib.ListN.{length, take, drop, get_or, set, replicate, take-append-drop, length-set}
 use lib.Seq.{take_at, take-append-le, drop-append-le, drop-append-add, set-append_left}
-use Rattle.slices.specs.declared.Rank.{Rank}
-use Rattle.slices.specs.Ranks.{rank_of}
+use Rattle.std.specs.Prelude.{Result, Ok, Err, is_ok}
+use Rattle.slices.specs.Ranks.{among, ranked, rank_of}
 use Rattle.geometry.specs.Geometry.{top_capacity_of}
 use Rattle.layout.specs.declared.Layout.{Layout}
 use Rattle.layout.specs.Layouts.{Proper}
@@ -18,9 +18,10 @@ use Rattle.levels.proofs.Rising.{test_rising}
 use Rattle.pieces.specs.Pieces.{word}
 use Rattle.words.specs.Stores.{top_count_at, top_slots, top_recs, keys_of}
 use Rattle.words.proofs.Slots.{pad_recs, blank_rec}
+use Rattle.words.proofs.Ranks.{rank_in}
 use Rattle.words.proofs.Top.{top_slots_length}
 use Rattle.top.specs.declared.Slot.{Slot}
-use Rattle.top.specs.Top.{TopReady, Room, rec_of, slot_at, with_slot, with_slots, with_top, pushed}
+use Rattle.top.specs.Top.{TopReady, rec_of, slot_at, with_slot, with_slots, with_top, pushed}
 use Rattle.top.proofs.Lists.{pushed_in, pushed_length, pushed_here, pushed_on, pushed_before, mixed_more, mixed_next, mixed_length}
 use Rattle.top.proofs.Words.{slot_low, slot_read, slot_set, slots_long, same_count, top_is, padded_is, ready_count, ready_slots, ready_is}
 use Rattle.top.proofs.Inserting.{Entered, entered}
@@ -77,16 +78,22 @@ module _ (z : Layout) (ws : List ℕ) (t : TopReady z ws) (i : ℕ) (r : Rec) (h
         slot_set z t.proper ws t.words slots slots_full n l slot
         ∙ rw (e, mixed_more (pushed_in i r S) S n blank_rec (omega (arith, front)) (omega (arith, long)), add-one n)
 
+-- what a rank says: whether the key is there, and the place
+abbrev place_of : Result ℕ ℕ → ℕ
+place_of (Ok i) = i
+place_of (Err i) = i
+
+ranked_says : (t : Bool) (n : ℕ) → (is_ok (ranked t n) ≡ t) × (place_of (ranked t n) ≡ n)
+ranked_says true n = (refl, refl)
+ranked_says false n = (refl, refl)
+
 -- A slot where its key stands.
-module _ (z : Layout) (ws : List ℕ) (t : TopReady z ws) (slot : Slot) (at : Rank) (s : at ≡ rank_of slot.key (keys_of (top_recs z ws))) where
+module _ (z : Layout) (ws : List ℕ) (t : TopReady z ws) (slot : Slot) (i : ℕ) where
   abbrev rs : List Rec
   rs = top_recs z ws
 
   abbrev r : Rec
   r = rec_of slot
-
-  abbrev i : ℕ
-  i = at.below
 
   abbrev room : ℕ
   room = top_capacity_of z.geo
@@ -97,14 +104,17 @@ module _ (z : Layout) (ws : List ℕ) (t : TopReady z ws) (slot : Slot) (at : Ra
   count_low : length rs ≤ room
   count_low = rw (ready_count z ws t) t.fits
 
-  entered_at : (x : Bool) → at.found ≡ x → Entered r rs x i
-  entered_at x e =
-      subst (λ (b : Bool). Entered r rs b i) e
-      (subst (λ (k : Rank). Entered r rs k.found k.below) (sym s) (entered 0 r rs (test_rising 0 rs t.rises)))
+  entered_at : (x : Result ℕ ℕ) → x ≡ rank_of r.key (keys_of rs) → Entered r rs (is_ok x) (place_of x)
+  entered_at x s =
+      let q = ranked_says (among r.key (keys_of rs)) (rank_in r.key rs) in
+      rw (s, q.0, q.1) (entered 0 r rs (test_rising 0 rs t.rises))
 
-  module _ (e : at.found ≡ true) where
+  module _ (s : Ok i ≡ rank_of slot.key (keys_of rs)) where
+    found : Entered r rs true i
+    found = entered_at (Ok i) s
+
     found_inside : i < length rs
-    found_inside = (entered_at true e).0
+    found_inside = found.0
 
     found_room : i < room
     found_room = omega (arith, found_inside, count_low)
@@ -123,15 +133,18 @@ module _ (z : Layout) (ws : List ℕ) (t : TopReady z ws) (slot : Slot) (at : Ra
         ap (λ (us : List ℕ). with_slot z us i slot) (sym (ready_is z ws t))
         ∙ slot_set z t.proper ws t.words (top_slots z ws) (top_slots_length z ws) i found_room slot
         ∙ ap (with_slots z ws) found_slots ∙ padded_is z t.proper ws (set rs i r) (rw l t.fits)
-        ∙ sym (same_count z ws (set rs i r) l) ∙ ap (with_top z ws) (sym (entered_at true e).1)
+        ∙ sym (same_count z ws (set rs i r) l) ∙ ap (with_top z ws) (sym found.1)
 
-  module _ (e : at.found ≡ false) (h : Room z ws at) where
+  module _ (s : Err i ≡ rank_of slot.key (keys_of rs)) (h : suc (top_count_at z ws) ≤ room) where
+    missed : Entered r rs false i
+    missed = entered_at (Err i) s
+
     gap_inside : i ≤ length rs
-    gap_inside = (entered_at false e).0
+    gap_inside = missed.0
 
     -- there is a slot for it
     pub gap_ready : (i ≤ top_count_at z ws) × (suc (top_count_at z ws) ≤ room)
-    gap_ready = (omega (arith, gap_inside, ready_count z ws t), h e)
+    gap_ready = (omega (arith, gap_inside, ready_count z ws t), h)
 
     gap_long : length (pushed_in i r rs) ≡ top_count_at z ws + 1
     gap_long = pushed_length i r rs gap_inside ∙ rw (ready_count z ws t, add-one (top_count_at z ws))
@@ -141,7 +154,7 @@ module _ (z : Layout) (ws : List ℕ) (t : TopReady z ws) (slot : Slot) (at : Ra
     unfolding pushed
     gap_slots =
         let c = length rs in
-        let l : suc c ≤ room = rw (ready_count z ws t) (h e) in
+        let l : suc c ≤ room = rw (ready_count z ws t) h in
         let n : length (pushed_in i r rs) ≡ suc c = pushed_length i r rs gap_inside in
         let x : room - c ≡ suc (room - suc c) = omega arith in
         let d : drop (suc c) (rs ++ blanks) ≡ replicate (room - suc c) blank_rec = ap (λ (x : ℕ). drop x (rs ++ blanks)) (sym (add-one c)) ∙ drop-append-add rs blanks 1 ∙ ap (λ (x : ℕ). drop 1 (replicate x blank_rec)) x in
@@ -149,5 +162,5 @@ module _ (z : Layout) (ws : List ℕ) (t : TopReady z ws) (slot : Slot) (at : Ra
 
     pub gap_entered : set (with_slots z ws (pushed i (top_count_at z ws) r (top_slots z ws))) z.count (top_count_at z ws + 1) ≡ with_top z ws (insert r rs)
     gap_entered =
-        let l : length (pushed_in i r rs) ≤ room = rw gap_long (omega (arith, h e)) in
-        rw (gap_slots, padded_is z t.proper ws (pushed_in i r rs) l, ← gap_long, (entered_at false e).1) (top_is z t.proper ws (pushed_in i r rs) l)
+        let l : length (pushed_in i r rs) ≤ room = rw gap_long (omega (arith, h)) in
+        rw (gap_slots, padded_is z t.proper ws (pushed_in i r rs) l, ← gap_long, missed.1) (top_is z t.proper ws (pushed_in i r rs) l)

@@ -1,6 +1,5 @@
 -- Level 0 in the words of a store: its slots, whether there is room for one more, and the words with other records in it.
-use Rattle.std.specs.Prelude.{ℕ, zero, suc, ◌+◌, ◌*◌, ◌/◌, ◌%◌, ◌^◌, ◌≤◌, ◌≡◌, Bool, true, false, List, [], ◌∷◌, ◌++◌, eqb, length, take, drop, set, replicate}
-use Rattle.slices.specs.declared.Rank.{Rank}
+use Rattle.std.specs.Prelude.{ℕ, zero, suc, ◌+◌, ◌*◌, ◌/◌, ◌%◌, ◌^◌, ◌≤◌, ◌≡◌, Bool, true, List, [], ◌∷◌, ◌++◌, eqb, length, take, drop, set, replicate, Result, Ok, Err}
 use Rattle.geometry.specs.Geometry.{top_capacity_of}
 use Rattle.layout.specs.declared.Layout.{Layout}
 use Rattle.layout.specs.Layouts.{Proper}
@@ -27,8 +26,9 @@ pub record TopReady (z : Layout) (ws : List ℕ) : Type 0 where
   pub rises : rising 0 (top_recs z ws) ≡ true
 
 -- there is room for the record: one is overwritten, or level 0 is not full
-abbrev pub Room : Layout → List ℕ → Rank → Type 0
-Room z ws at = at.found ≡ false → suc (top_count_at z ws) ≤ top_capacity_of z.geo
+abbrev pub Room : Layout → List ℕ → Result ℕ ℕ → Type 0
+Room z ws (Ok i) = Unit {0}
+Room z ws (Err i) = suc (top_count_at z ws) ≤ top_capacity_of z.geo
 
 -- the record of a slot
 abbrev pub rec_of : Slot → Rec

@@ -12,7 +12,6 @@ ghost use Rattle.words.specs.Stores.{top_count_at, top_slots, top_recs, keys_of}
 ghost use Rattle.top.specs.Top.{TopReady, Room, rec_of, slot_at, set_bit, with_slot, with_slots, with_top, pushed, closed};
 
 use layout::Layout;
-use slices::Rank;
 
 // What a slot of level 0 holds: mark is true for a tombstone.
 #[derive(Clone, Copy)]
@@ -22,13 +21,12 @@ pub struct Slot {
     pub pay: u32,
 }
 
-// Where k stands in level 0.
-pub fn locate(s: &[u32], z: Layout, k: u32) -> Rank
+// Where k stands in level 0: `Ok` with its slot, or `Err` with the slot that a record for it goes into.
+pub fn locate(s: &[u32], z: Layout, k: u32) -> Result<usize, usize>
     requires { TopReady z s.now }
     ensures { result ≡ rank_of k (keys_of (top_recs z s.now)) }
 {
-    let count = z.count;
-    slices::rank_of(s, z.keys, s[count] as usize, k as usize)
+    slices::rank_of(s, z.keys, s[z.count] as usize, k as usize)
 }
 
 // m with `on` for bit j, all other bits kept. A mark word has a bit for each record of a page, which has 16 at most.
@@ -55,16 +53,13 @@ pub fn read_slot(s: &[u32], z: Layout, j: usize) -> Slot
     requires { Proper z × ((length s.now ≡ z.length) × (j < top_capacity_of z.geo)) }
     ensures { result ≡ slot_at z s.now j }
 {
-    let g = z.geo;
-    let b = g.block_records();
+    let b = z.geo.block_records();
     let m = s[z.marks + j / b];
     let shift = (j % b) as u32;
-    let key = s[z.keys + j];
-    let pay = s[z.pays + j];
     Slot {
-        key: key,
+        key: s[z.keys + j],
         mark: (m >> shift) % 2 == 1,
-        pay: pay,
+        pay: s[z.pays + j],
     }
 }
 
@@ -73,8 +68,7 @@ pub fn write_slot(s: &mut [u32], z: Layout, j: usize, slot: Slot)
     requires { Proper z × ((length s.old ≡ z.length) × ((j < top_capacity_of z.geo) × (word s.old (z.marks + j / z.geo.b) < 65536))) }
     ensures { s.new ≡ with_slot z s.old j slot }
 {
-    let g = z.geo;
-    let b = g.block_records();
+    let b = z.geo.block_records();
     let page = z.marks + j / b;
     let shift = (j % b) as u32;
     let m = with_bit(s[page], shift, slot.mark);
@@ -99,22 +93,22 @@ fn push_in(s: &mut [u32], z: Layout, i: usize, c: usize, slot: Slot)
 }
 
 // A record into level 0: over the one that has its key, or between its neighbours.
-pub fn enter(s: &mut [u32], z: Layout, at: Rank, k: u32, mark: bool, v: u32)
+pub fn enter(s: &mut [u32], z: Layout, at: Result<usize, usize>, k: u32, mark: bool, v: u32)
     requires { TopReady z s.old × ((at ≡ rank_of k (keys_of (top_recs z s.old))) × Room z s.old at) }
     ensures { s.new ≡ with_top z s.old (insert (record { key = k; tombstone = mark; pay = v }) (top_recs z s.old)) }
 {
     let slot = Slot {
         key: k,
-        mark: mark,
+        mark,
         pay: v,
     };
-    if at.found {
-        write_slot(s, z, at.below, slot);
-    } else {
-        let count = z.count;
-        let c = s[count];
-        push_in(s, z, at.below, c as usize, slot);
-        s[count] = c + 1;
+    match at {
+        Ok(i) => write_slot(s, z, i, slot),
+        Err(i) => {
+            let c = s[z.count];
+            push_in(s, z, i, c as usize, slot);
+            s[z.count] = c + 1;
+        }
     }
 }
 

@@ -1,10 +1,10 @@
 -- What a run has written where the bytes are known: the dialogue's answers to what it has read.
-use Rattle.std.proofs.Common.{◌≡◌, ℕ, ◌+◌, ◌-◌, ◌^◌, ◌<◌, ◌≤◌, List, [], ◌++◌, None, Some, length, take, drop, sym, ap, ◌∙◌, subst, append_assoc, append-nil, length-append, arith}
+use Rattle.std.proofs.Common.{rules, Result, Ok, Err, ◌≡◌, ℕ, ◌+◌, ◌-◌, ◌^◌, ◌<◌, ◌≤◌, List, [], ◌++◌, None, Some, length, take, drop, sym, ap, ◌∙◌, subst, append_assoc, append-nil, length-append, arith}
 use Rattle.std.specs.Prelude.{Option}
-use Rattle.std.proofs.lemmas.List.{take_rest}
-use Rattle.std.proofs.Math.Seq.{take-add}
+use Rattle.std.proofs.lemmas.List.{take_rest, take-append-drop}
 use Rattle.std.specs.Io.{StartsWith}
-use Rattle.std.specs.Io.KnownBytes.{Appends, Consumes, IsAtEnd}
+use Rattle.std.specs.Io.KnownBytes.{Keeps, Appends, Consumes, IsAtEnd, ReadConsumes, WriteAppends}
+use Rattle.std.specs.declared.io.Error.{Error}
 use Rattle.std.proofs.KnownBytes.{Consumes-nil, Appends-nil, Appends-trans, Consumes-trans, Consumes-whole, starts_with_rest}
 use Rattle.std.proofs.Transfers.{starts_with_of_append}
 use Rattle.dialogue.specs.declared.State.{State}
@@ -16,11 +16,23 @@ use Rattle.dialogue.proofs.Laws.{going_none, heard_append, heard_answers}
 use Rattle.dialogue.proofs.Runs.{printed_front}
 use Rattle.typing.specs.Typed.{Answers, Begins, AnswersBegin}
 
--- n bytes more after the first i
-pub more_written : (a b c : Option (List ℕ)) (xs : List ℕ) (i n : ℕ) → Appends a b (take i xs) → Appends b c (take n (take (length xs - i) (drop i xs))) → Appends a c (take (i + n) xs)
-more_written a b c xs i n p q =
-    let e : take i xs ++ take n (take (length xs - i) (drop i xs)) ≡ take (i + n) xs = ap (λ (ys : List ℕ). take i xs ++ take n ys) (take_rest xs i) ∙ sym (take-add i n xs) in
-    subst (Appends a c) e (Appends-trans a b c _ _ p q)
+-- what a call does that fails did nothing before it
+pub read_after : (a b d : Option (List ℕ)) (r : Result ℕ Error) (xs : List ℕ) → Keeps a b → ReadConsumes b d r xs → ReadConsumes a d r xs
+read_after None b d (Ok n) xs p q = search rules
+read_after None b d (Err e) xs p q = search rules
+read_after (Some x) None d r xs p q = absurd p
+read_after (Some x) (Some y) d r xs p q = subst (λ (z : List ℕ). ReadConsumes (Some z) d r xs) p q
+
+pub written_after : (a b d : Option (List ℕ)) (r : Result ℕ Error) (xs : List ℕ) → Keeps a b → WriteAppends b d r xs → WriteAppends a d r xs
+written_after None b d (Ok n) xs p q = search rules
+written_after None b d (Err e) xs p q = search rules
+written_after (Some x) None d r xs p q = absurd p
+written_after (Some x) (Some y) d r xs p q = subst (λ (z : List ℕ). WriteAppends (Some z) d r xs) p q
+
+-- the first n bytes of the rest belong to what is done
+pub more_done : (bs done rest : List ℕ) (n : ℕ) → bs ≡ done ++ rest → bs ≡ (done ++ take n rest) ++ take (length rest - n) (drop n rest)
+more_done bs done rest n e =
+    e ∙ ap (λ (zs : List ℕ). done ++ zs) (sym (take-append-drop n rest) ∙ ap (λ (zs : List ℕ). take n rest ++ zs) (sym (take_rest rest n))) ∙ sym (append_assoc done (take n rest) (take (length rest - n) (drop n rest)))
 
 -- The program for at most m tickets, that has read the bytes `part`.
 module _ (m : ℕ) (part : List ℕ) where

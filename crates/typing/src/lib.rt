@@ -2,7 +2,9 @@
 // the dialogue's; here bytes are only read, fed and written.
 #![tactic(auto)]
 
-ghost use Rattle.std.specs.Prelude.{◌≡◌, ◌*◌, ◌≤◌, length, OnOk};
+ghost use Rattle.std.specs.Prelude.{◌≡◌, ◌*◌, ◌≤◌, List, length, OnOk, Ok, Err};
+ghost use Rattle.std.specs.List.{FoldsTo};
+ghost use Rattle.std.specs.declared.io.Error.{Error};
 ghost use Rattle.std.specs.Io.{ReadsAtMost, WritesAtMost};
 ghost use Rattle.std.specs.Io.KnownBytes.{Appends, ReadConsumes, WriteAppends};
 ghost use Rattle.dialogue.specs.Said.{tickets_most, longest_answer};
@@ -17,57 +19,47 @@ pub const LONGEST_LINE: usize = dialogue::LONGEST_LINE;
 
 pub const TICKETS_MOST: usize = dialogue::TICKETS_MOST;
 
-// One read. One that a signal interrupts before it moves a byte is made again.
+// A call that a signal interrupts before it moves a byte is made again.
+fn retry<F: FnMut() -> io::Result<usize>>(call: &mut F) -> io::Result<usize>
+    requires { F.IsAlwaysCallable call.old }
+    ensures { (failed : List Error) × (last : F) × FoldsTo (λ f e g. F.step f (Err e) g) call.old failed last × F.step last result call.new }
+{
+    for _ in 0..u64::MAX {
+        match call() {
+            Err(e) if e.kind() == ErrorKind::Interrupted => {}
+            done => return done,
+        }
+    }
+    call()
+}
+
 fn read_in<R: Read>(reader: &mut R, input: &mut [u8]) -> io::Result<usize>
     ensures bound { ReadsAtMost result input.new }
     ensures bytes { ReadConsumes (R.remaining reader.old) (R.remaining reader.new) result input.new }
 {
-    for _ in 0..u64::MAX {
-        match reader.read(input) {
-            Ok(n) => return Ok(n),
-            Err(e) => {
-                if e.kind() != ErrorKind::Interrupted {
-                    return Err(e);
-                }
-            }
-        }
-    }
-    reader.read(input)
+    retry(&mut || reader.read(input))
 }
 
-// One write, likewise.
 fn write_some<W: Write>(writer: &mut W, bytes: &[u8]) -> io::Result<usize>
     ensures bound { WritesAtMost result bytes.now }
     ensures bytes { WriteAppends (W.contents writer.old) (W.contents writer.new) result bytes.now }
 {
-    for _ in 0..u64::MAX {
-        match writer.write(bytes) {
-            Ok(n) => return Ok(n),
-            Err(e) => {
-                if e.kind() != ErrorKind::Interrupted {
-                    return Err(e);
-                }
-            }
-        }
-    }
-    writer.write(bytes)
+    retry(&mut || writer.write(bytes))
 }
 
-// Writes all bytes, or says why it cannot.
+// Writes all bytes, or says why it cannot: std's `write_all` does not say that what it has written at an `Err` is their beginning
+// (clause `begun`).
 fn write_out<W: Write>(writer: &mut W, bytes: &[u8]) -> io::Result<()>
     ensures all { OnOk result (Appends (W.contents writer.old) (W.contents writer.new) bytes.now) }
     ensures begun { Begins bytes.now (W.contents writer.old) (W.contents writer.new) }
 {
-    let mut from = 0;
-    for _ in 0..bytes.len() {
-        if from >= bytes.len() {
-            return Ok(());
-        }
-        let put = write_some(writer, &bytes[from..])?;
+    let mut rest = bytes;
+    while !rest.is_empty() {
+        let put = write_some(writer, rest)?;
         if put == 0 {
             return Err(io::Error::from(ErrorKind::WriteZero));
         }
-        from += put;
+        rest = &rest[put..];
     }
     Ok(())
 }
@@ -97,12 +89,10 @@ pub fn run<R: Read, W: Write>(
         let n = read_in(reader, input)?;
         if n == 0 {
             let last = dialogue::finish(words, state, out);
-            let end = last.bytes;
-            return write_out(writer, &out[..end]);
+            return write_out(writer, &out[..last.bytes]);
         }
         let fed = dialogue::feed(words, state, &input[..n], out);
-        let end = fed.bytes;
-        write_out(writer, &out[..end])?;
+        write_out(writer, &out[..fed.bytes])?;
         state = fed.state;
     }
     Ok(())

@@ -27,7 +27,7 @@ pub bounds-s-at-in-loop-i : goal.bounds-s-at-in-loop-i
 bounds-s-at-in-loop-i c = (room (goal.at.bounds-s-at-in-loop-i c).After-place_start-at).0
 
 pub bounds-s-at-in-loop-i-2 : goal.bounds-s-at-in-loop-i-2
-bounds-s-at-in-loop-i-2 c = (room (goal.at.bounds-s-at-in-loop-i-2 c).After-place_start-at).1
+bounds-s-at-in-loop-i-2 c = omega (arith, room (goal.at.bounds-s-at-in-loop-i-2 c).After-place_start-at)
 
 pub loop-i-preserved : goal.loop-i-preserved
 loop-i-preserved c =

@@ -1,24 +1,24 @@
-use borrow.Author.Rules.{rules}
 use native.Mathlib.Omega.{arith}
-use mathlib.Core.Path.{◌≡◌, refl, ◌∙◌}
-use Rattle.joins.specs.Joins.{appended}
-use Rattle.joins.proofs.Laws.{appended_n, appended_clean, appended_more}
+use Prim.Native.Nat.{◌+◌, ◌-◌}
+use mathlib.Core.Path.{◌≡◌, ◌∙◌, sym}
+use lib.ListN.{length, take, drop, length-drop}
+use lib.Seq.{length-take-le}
+use Rattle.joins.proofs.Laws.{joined_block}
 use Rattle.joins.proofs.append_words.Goals as goal
 
-pub loop-j-init : goal.loop-j-init
-unfolding appended
-loop-j-init c = (search rules, refl)
-
-pub push-r-requires : goal.push-r-requires
-push-r-requires c =
-    let e = c.loop-j.invariant.1 in
-    let n = appended_n c.args.z.b c.args.s.now c.args.at c.args.buf c.requires.4 c.loop-j.j in
-    rw e (omega arith, omega arith, (appended_clean c.args.z.b c.args.s.now c.args.at c.args.buf c.requires.4 c.loop-j.j).bits)
-
-pub loop-j-preserved : goal.loop-j-preserved
-loop-j-preserved c = (omega arith, c.push-r.ensures ∙ rw c.loop-j.invariant.1 (appended_more c.args.z.b c.args.s.now c.args.at c.args.buf c.requires.4 c.loop-j.j))
+pub append-requires : goal.append-requires
+append-requires c =
+    let a = c.args in
+    let k : a.at + 2 + a.n - (a.at + 2) ≡ a.n = omega arith in
+    let v : a.at + 2 + a.z.b + a.n - (a.at + 2 + a.z.b) ≡ a.n = omega arith in
+    let lk : length (take a.n (drop (a.at + 2) a.s.now)) ≡ a.n = length-take-le a.n (drop (a.at + 2) a.s.now) (rw length-drop (omega arith)) in
+    let lv : length (take a.n (drop (a.at + 2 + a.z.b) a.s.now)) ≡ a.n = length-take-le a.n (drop (a.at + 2 + a.z.b) a.s.now) (rw length-drop (omega arith)) in
+    rw (k, v) (c.requires.4, lv ∙ sym lk, rw lk c.requires.3)
 
 pub returns : goal.returns
 returns c =
-    let e : c.loop-j.j ≡ c.args.n = omega arith in
-    rw e at c.loop-j.invariant.1
+    let a = c.args in
+    let k : a.at + 2 + a.n - (a.at + 2) ≡ a.n = omega arith in
+    let v : a.at + 2 + a.z.b + a.n - (a.at + 2 + a.z.b) ≡ a.n = omega arith in
+    let lk : length (take a.n (drop (a.at + 2) a.s.now)) ≡ a.n = length-take-le a.n (drop (a.at + 2) a.s.now) (rw length-drop (omega arith)) in
+    rw (k, v, lk) at c.append.ensures ∙ joined_block a.z.b a.s.now a.at a.buf a.n

@@ -1,5 +1,5 @@
 use Prim.Native.Nat.{◌-◌}
-use mathlib.Core.Path.{ap, sym, ◌∙◌}
+use mathlib.Core.Path.{refl, ap, sym, ◌∙◌}
 use native.Mathlib.Omega.{arith}
 use Rattle.steps.proofs.Standing.{markable}
 use Rattle.steps.proofs.Compacting.{entries_ask, due_asks, kept_level, list_asks, out_long, list_few, copy_asks, compacted}

@@ -1,13 +1,12 @@
-use Rattle.std.proofs.Common.{arith}
-use Rattle.typing.proofs.Parts.{within}
-use Rattle.typing.proofs.Known.{more_written}
+use Rattle.std.proofs.Common.{refl, ◌++◌, [], take}
+use Rattle.std.proofs.KnownBytes.{Appends-nil, Appends-trans}
+use Rattle.typing.proofs.Known.{more_done}
 use Rattle.typing.proofs.write_out.Goals as goal
 
-pub loop-preserved : goal.loop-preserved
-loop-preserved g c =
-    let w = within c.args.bytes.now c.loop.from c.in_ok-put.put c.in_ok-put.ensures.bound c.loop.invariant.inside in
-    record {
-      inside = w;
-      turns = omega arith;
-      written = more_written _ _ _ c.args.bytes.now c.loop.from c.in_ok-put.put c.loop.invariant.written c.in_ok-put.ensures.bytes;
-    }
+pub loop-rest-init : goal.loop-rest-init
+loop-rest-init g c = ([], refl, Appends-nil _)
+
+pub loop-rest-preserved : goal.loop-rest-preserved
+loop-rest-preserved g c =
+    let (done, e, p) = c.loop-rest.invariant in
+    (done ++ take c.in_ok-put.put c.loop-rest.rest.now, more_done c.args.bytes.now done c.loop-rest.rest.now c.in_ok-put.put e, Appends-trans _ _ _ _ _ p c.in_ok-put.ensures.bytes)

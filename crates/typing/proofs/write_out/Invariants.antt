@@ -1,8 +1,11 @@
--- What stands before `from` is written, and each turn has written a byte at least.
-use Rattle.std.proofs.Common.{◌≤◌, length, take}
+-- What stands before the rest is written.
+use Rattle.std.proofs.Common.{◌≡◌, ℕ, List, ◌++◌, length}
 use Rattle.std.specs.Io.KnownBytes.{Appends}
 use Rattle.typing.proofs.write_out.Given as goal
 
-abbrev pub invariant-loop : goal.invariant-loop
-invariant-loop g l =
-    record { inside : l.from ≤ length l.bytes; turns : l.counter ≤ l.from; written : Appends (g.W.Write.contents l.initial.writer) (g.W.Write.contents l.writer) (take l.from l.bytes) }
+abbrev pub invariant-loop-rest : goal.invariant-loop-rest
+invariant-loop-rest g l =
+    (done : List ℕ) × (l.bytes ≡ done ++ l.rest) × Appends (g.W.Write.contents l.initial.writer) (g.W.Write.contents l.writer) done
+
+abbrev pub decreases-loop-rest : goal.decreases-loop-rest
+decreases-loop-rest g l = length l.rest

@@ -1,6 +1,0 @@
--- A failed write appends nothing.
-use Rattle.std.specs.Io.KnownBytes.{Keeps}
-use Rattle.typing.proofs.write_some.Given as goal
-
-abbrev pub invariant-loop : goal.invariant-loop
-invariant-loop g l = Keeps (g.W.Write.contents l.initial.writer) (g.W.Write.contents l.writer)
