@@ -108,18 +108,20 @@ fn place_after(p: usize, cursor: usize, k: usize) -> usize
     }
 }
 
-// The first free place after the cursor, going round.
+// The first free place after the cursor, going round. A loop that breaks with the place: the form that is asked for here
+// (docs/DECISIONS.md, "Forms that document 01 names by place").
 pub fn first_free(used: &[bool; Geometry::MAX_P], p: usize, cursor: usize) -> usize
     requires { (p ≤ places_most) × (cursor < p) × SomeFree used.now p }
     ensures { result ≡ next_mark p used.now cursor }
 {
-    for k in 1..=p {
+    let mut k = 1;
+    loop {
         let q = place_after(p, cursor, k);
         if !used[q] {
-            return q;
+            break q;
         }
+        k += 1;
     }
-    unreachable!()
 }
 
 // The places of a list, or of a lent part of one, are marked as in use.
