@@ -108,7 +108,8 @@ fn place_after(p: usize, cursor: usize, k: usize) -> usize
     }
 }
 
-// The first free place after the cursor, going round. A loop that yields it by break: document 01 names this form for this place.
+// The first free place after the cursor, going round. A loop that breaks with the place: the form that is asked for here
+// (docs/DECISIONS.md, "Forms that document 01 names by place").
 pub fn first_free(used: &[bool; Geometry::MAX_P], p: usize, cursor: usize) -> usize
     requires { (p ≤ places_most) × (cursor < p) × SomeFree used.now p }
     ensures { result ≡ next_mark p used.now cursor }
