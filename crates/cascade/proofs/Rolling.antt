@@ -30,7 +30,7 @@ use Rattle.words.proofs.Rows.{laid_from_none, laid_from_next}
 use Rattle.lists.proofs.Arrays.{count_is}
 use Rattle.lists.proofs.Laws.{part_over}
 use Rattle.steps.specs.declared.Run.{Run}
-use Rattle.steps.specs.Running.{store_of, Stands, numbers_of, plus, Leaving, StepReady, step_counts}
+use Rattle.steps.specs.Running.{counts_in, store_of, Stands, numbers_of, plus, Leaving, StepReady, step_counts}
 use Rattle.cascade.specs.Cascade.{deepest_for, Rolling, list_counts}
 use Rattle.steps.proofs.Chaining.{grown_small, small_more, plus_assoc}
 use Rattle.steps.proofs.Compacting.{same_counts}
@@ -65,9 +65,8 @@ step_low z e m v f j = pick (eqb (suc m.level) j)
 pub record Rest (z : Layout) (t0 : Store) (ms0 : List Merge) (ws0 : List ℕ) (r0 : Run) (t : Store) (ms : List Merge) (ws : List ℕ) (r : Run) : Type 0 where
   pub store : after_merges t ms ≡ after_merges t0 ms0
   pub words : (u : Store) → length u.top ≤ top_capacity_of z.geo → lay_all (top_part z u) (with_blocks z (written_blocks ms) ws) ≡ lay_all (top_part z u) (with_blocks z (written_blocks ms0) ws0)
-  pub one : plus (numbers_of r.tally.one) (counts_of 1 ms) ≡ plus (numbers_of r0.tally.one) (counts_of 1 ms0)
-  pub two : plus (numbers_of r.tally.two) (counts_of 2 ms) ≡ plus (numbers_of r0.tally.two) (counts_of 2 ms0)
-  pub three : plus (numbers_of r.tally.three) (counts_of 3 ms) ≡ plus (numbers_of r0.tally.three) (counts_of 3 ms0)
+  pub long : length r.tally ≡ length r0.tally
+  pub counts : (j : ℕ) → j < 3 → plus (numbers_of (counts_in r.tally j)) (counts_of (suc j) ms) ≡ plus (numbers_of (counts_in r0.tally j)) (counts_of (suc j) ms0)
 
 pub record Goes (n : ℕ) (z : Layout) (ws0 lists0 : List ℕ) (r0 : Run) (ws lists : List ℕ) (r : Run) : Type 0 where
   pub steps : ℕ
@@ -86,7 +85,7 @@ pub record Turn (n : ℕ) (z : Layout) (ws0 lists0 : List ℕ) (r0 : Run) (rows0
   pub files : Files n z (store_of z ws0 lists0 r0) rows0 goes.steps (store_of z ws lists r) rows filed
 
 goes_first : (n : ℕ) (z : Layout) (ws lists : List ℕ) (r : Run) → Rolling n z ws lists r → Goes n z ws lists r ws lists r
-goes_first n z ws lists r k = record { steps = n; rolling = k; rest = record { store = refl; words = λ u h. refl; one = refl; two = refl; three = refl } }
+goes_first n z ws lists r k = record { steps = n; rolling = k; rest = record { store = refl; words = λ u h. refl; long = refl; counts = λ j l. refl } }
 
 pub turn_first : (n : ℕ) (z : Layout) (ws lists : List ℕ) (r : Run) (rows : List (List ℕ)) → Rolling n z ws lists r → Turn n z ws lists r rows ws lists r rows 1
 unfolding goes_first
@@ -110,7 +109,7 @@ module _ (n : ℕ) (z : Layout) (ws0 lists0 : List ℕ) (r0 : Run) (ws lists : L
       (record {
         stands = subst (λ (y : Store). Stands z y ws lists r) f.store k.rolling.stands;
         words = held_words z t [] ws ws k.rolling.stands.held (sym (blocks_none z ws)) ∙ f.words t (top_fits_lem z t ws lists r k.rolling.stands) ∙ ap (λ (y : Store). lay_all (top_part z y) (with_blocks z (written_blocks (merges_below n z.geo (store_of z ws0 lists0 r0))) ws0)) f.store;
-        counts = record { one = none (numbers_of r.tally.one) ∙ f.one; two = none (numbers_of r.tally.two) ∙ f.two; three = none (numbers_of r.tally.three) ∙ f.three };
+        counts = (f.long, λ j l. none (numbers_of (counts_in r.tally j)) ∙ f.counts j l);
       })
     where
       none : (c : levels.Counts) → c ≡ plus c (record { merges = 0; written = 0; compacted = 0 })
@@ -177,9 +176,8 @@ module _ (n : ℕ) (z : Layout) (ws0 lists0 : List ℕ) (r0 : Run) (ws lists : L
                 ∙ part_over z (after_merge m) u (written_blocks ms) (with_blocks z bs ws) k.rolling.proper (blocks_length z bs ws ∙ k.rolling.stands.held.long) (top_fits_lem z (after_merge m) ws' lists' r' left.stands) h
                 ∙ ap (lay_all (top_part z u)) (sym (blocks_append z bs (written_blocks ms) ws) ∙ ap (λ (cs : List Block). with_blocks z cs ws) (append_assoc m.written (compacted_blocks m.compactions) (written_blocks ms)))
                 ∙ e.words u h;
-            one = count 1 _ _ left.counts.one ∙ e.one;
-            two = count 2 _ _ left.counts.two ∙ e.two;
-            three = count 3 _ _ left.counts.three ∙ e.three;
+            long = left.counts.0 ∙ e.long;
+            counts = λ j l. count (suc j) _ _ (left.counts.1 j l) ∙ e.counts j l;
           } in
           record {
             steps = st - 1;

@@ -1,10 +1,11 @@
 -- All merges of a call whose level 0 is full.
 use Prim.Native.Nat.{ℕ, suc, ◌+◌, ◌-◌, ◌≤◌, ◌<◌}
-use mathlib.Core.Path.{◌≡◌, sym, ap, ◌∙◌, subst}
+use mathlib.Core.Path.{◌≡◌, refl, sym, ap, ◌∙◌, subst}
 use mathlib.Core.List.{List, ◌∷◌, ◌++◌, append_assoc}
 use native.Mathlib.Decide.{ℕ_discrete}
 use native.Mathlib.Omega.{arith}
-use lib.ListN.{length, set}
+use lib.ListN.{length, set, replicate}
+use Rattle.std.proofs.lemmas.List.{get_or-replicate}
 use Rattle.geometry.specs.Geometry.{capacity_of, top_capacity_of}
 use Rattle.levels.specs.Store.{Store, rows, blocks_of}
 use Rattle.levels.specs.Call.{Merge, merge_level, after_merge, after_merges, merges_below, merges_from, enough_steps}
@@ -35,9 +36,8 @@ use Rattle.words.proofs.Reason.{passed_held}
 use Rattle.lists.specs.Lists.{Listed, places_at, Fitting, with_lists}
 use Rattle.lists.proofs.Laws.{but_held, lists_back, store_over}
 use Rattle.lists.proofs.Arrays.{listed_same, count_is, places_listed}
-use Rattle.steps.specs.declared.Tally.{Tally}
 use Rattle.steps.specs.declared.Run.{Run}
-use Rattle.steps.specs.Running.{store_of, Stands, numbers_of, plus, Few, Small, Leaving, StepReady, step_counts}
+use Rattle.steps.specs.Running.{Tally, no_counts, counts_in, store_of, Stands, numbers_of, plus, Few, Small, Leaving, StepReady, step_counts}
 use Rattle.cascade.specs.Cascade.{Rolling, list_counts, FullStore, Loaded, MergedAll}
 use Rattle.steps.proofs.Standing.{stand, top_fits_lem}
 use Rattle.steps.proofs.Chaining.{grown_small, leaving_chain}
@@ -79,12 +79,8 @@ module _ (z : Layout) (ws : List ℕ) (k : FullStore z ws) where
   inside : Inside z.geo s0 s0
   inside = entry_inside z.geo s0 k.passed.proper.valid k.passed.fits k.passed.sound
 
-  -- the cursor is small
-  pub cursor_small : cursor_at z ws ≤ 8192
-  cursor_small = omega (arith, cursor_held z ws s0 k.passed.proper k.passed.fits k.passed.long held, k.passed.sound.cursor_inside, k.passed.proper.valid.places_high)
-
   pub loaded : (lists : List ℕ) (r : Run) → Listed z.geo.h z.geo.h lists r.ns (λ j. listed_at z ws (suc j)) → r.cursor ≡ cursor_at z ws
-      → r.tally ≡ record { one = record { merges = 0; written = 0; compacted = 0 }; two = record { merges = 0; written = 0; compacted = 0 }; three = record { merges = 0; written = 0; compacted = 0 } }
+      → r.tally ≡ replicate 3 no_counts
       → Loaded z ws lists r
   loaded lists r l d q =
       let v = k.passed.proper in
@@ -105,7 +101,7 @@ module _ (z : Layout) (ws : List ℕ) (k : FullStore z ws) where
     is = l.stands.store
 
     none_few : (n : ℕ) → Small n r.tally
-    none_few n = let few : Few n (record { merges = 0; written = 0; compacted = 0 }) = record { merges = omega arith; written = omega arith; compacted = omega arith } in rw l.none (record { one = few; two = few; three = few })
+    none_few n = let few : Few n (record { merges = 0; written = 0; compacted = 0 }) = record { merges = omega arith; written = omega arith; compacted = omega arith } in rw l.none (record { three = refl; few = λ j i. rw (get_or-replicate 3 j no_counts no_counts i) few })
 
     -- what the first merge asks
     pub first_ready : StepReady 1900000000 z ws lists 0 r
@@ -208,9 +204,9 @@ module _ (z : Layout) (ws : List ℕ) (k : FullStore z ws) where
               words =
                   e ∙ ap (λ (x : ℕ). with_lists z ws2 x r2.ns lists2) s.cursor ∙ lists_back z ws2 end v end_fits s.held lists2 r2.ns s.listed
                   ∙ ap (with_store z end) laid_out ∙ store_over z end us v end_fits (blocks_length z (written_blocks all) ws ∙ k.passed.long);
-              one = counts 1 _ (c.counts.one ∙ ap (λ (q : Tally). plus (numbers_of q.one) (plus (step_counts m0 1) (counts_of 1 later))) l.none);
-              two = counts 2 _ (c.counts.two ∙ ap (λ (q : Tally). plus (numbers_of q.two) (plus (step_counts m0 2) (counts_of 2 later))) l.none);
-              three = counts 3 _ (c.counts.three ∙ ap (λ (q : Tally). plus (numbers_of q.three) (plus (step_counts m0 3) (counts_of 3 later))) l.none);
+              one = counts 1 _ (c.counts.1 0 (omega arith) ∙ ap (λ (q : Tally). plus (numbers_of (counts_in q 0)) (plus (step_counts m0 1) (counts_of 1 later))) l.none);
+              two = counts 2 _ (c.counts.1 1 (omega arith) ∙ ap (λ (q : Tally). plus (numbers_of (counts_in q 1)) (plus (step_counts m0 2) (counts_of 2 later))) l.none);
+              three = counts 3 _ (c.counts.1 2 (omega arith) ∙ ap (λ (q : Tally). plus (numbers_of (counts_in q 2)) (plus (step_counts m0 3) (counts_of 3 later))) l.none);
             }
           where
             zero_plus : (c : levels.Counts) → plus (record { merges = 0; written = 0; compacted = 0 }) c ≡ c

@@ -1,5 +1,5 @@
 -- All merges of a call, one after the other: what they ask, and what they leave.
-use Rattle.std.specs.Prelude.{ℕ, zero, suc, ◌+◌, ◌*◌, ◌≤◌, ◌≡◌, true, false, List, ltb, get_or}
+use Rattle.std.specs.Prelude.{ℕ, zero, suc, ◌+◌, ◌*◌, ◌≤◌, ◌≡◌, true, false, List, ltb, get_or, replicate}
 use Rattle.geometry.specs.declared.Geometry.{Geometry}
 use Rattle.geometry.specs.Geometry.{capacity_of, top_capacity_of}
 use Rattle.levels.specs.Store.{Store, rows}
@@ -9,9 +9,8 @@ use Rattle.levels.specs.Inside.{load, Inside, Entry, Ruled}
 use Rattle.words.specs.Calls.{left_words}
 use Rattle.words.specs.Passed.{Passed}
 use Rattle.words.specs.Stores.{top_count_at, store_at}
-use Rattle.steps.specs.declared.Tally.{Tally}
 use Rattle.steps.specs.declared.Run.{Run}
-use Rattle.steps.specs.Running.{store_of, Stands, numbers_of, counts_before, Small}
+use Rattle.steps.specs.Running.{Tally, no_counts, counts_in, store_of, Stands, numbers_of, counts_before, Small}
 use Rattle.layout.specs.Layouts.{Proper}
 use Rattle.layout.specs.declared.Layout.{Layout}
 
@@ -50,11 +49,11 @@ pub record FullStore (z : Layout) (ws : List ℕ) : Type 0 where
 -- the lists taken out of such words
 pub record Loaded (z : Layout) (ws lists : List ℕ) (r : Run) : Type 0 where
   pub stands : Stands z (store_at z ws) ws lists r
-  pub none : r.tally ≡ record { one = record { merges = 0; written = 0; compacted = 0 }; two = record { merges = 0; written = 0; compacted = 0 }; three = record { merges = 0; written = 0; compacted = 0 } }
+  pub none : r.tally ≡ replicate 3 no_counts
 
 -- all merges of a call made: the words afterwards, and the counts
 pub record MergedAll (z : Layout) (ws ws' : List ℕ) (r : Tally) : Type 0 where
   pub words : ws' ≡ left_words z ws (merges_from z.geo (store_at z ws)) (after_merges (store_at z ws) (merges_from z.geo (store_at z ws)))
-  pub one : numbers_of r.one ≡ levels.counts_of 1 (merges_from z.geo (store_at z ws))
-  pub two : numbers_of r.two ≡ levels.counts_of 2 (merges_from z.geo (store_at z ws))
-  pub three : numbers_of r.three ≡ levels.counts_of 3 (merges_from z.geo (store_at z ws))
+  pub one : numbers_of (counts_in r 0) ≡ levels.counts_of 1 (merges_from z.geo (store_at z ws))
+  pub two : numbers_of (counts_in r 1) ≡ levels.counts_of 2 (merges_from z.geo (store_at z ws))
+  pub three : numbers_of (counts_in r 2) ≡ levels.counts_of 3 (merges_from z.geo (store_at z ws))

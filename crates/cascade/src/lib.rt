@@ -1,7 +1,7 @@
 // The merges of a call, from a full level 0 on: the place lists are taken out of the words, and written back after the last merge.
 #![tactic(auto)]
 
-ghost use Rattle.std.specs.Prelude.{◌≡◌, ◌-◌, length, set};
+ghost use Rattle.std.specs.Prelude.{◌≡◌, ◌-◌, length};
 ghost use Rattle.geometry.specs.Room.{list_room};
 ghost use Rattle.geometry.specs.Geometry.{Ranged};
 ghost use Rattle.levels.specs.Store.{Store};
@@ -9,13 +9,12 @@ ghost use Rattle.levels.specs.Call.{after_merges, merges_below, merges_from};
 ghost use Rattle.levels.specs.Tickets.{tickets_of, laid};
 ghost use Rattle.words.specs.Stores.{store_at};
 ghost use Rattle.words.specs.Calls.{written_blocks};
-ghost use Rattle.words.specs.Rows.{row_of, rows_of, laid_from};
+ghost use Rattle.words.specs.Rows.{rows_of, laid_from};
 ghost use Rattle.steps.specs.Running.{store_of, Leaving};
 ghost use Rattle.cascade.specs.Cascade.{deepest_for, Rolling, list_counts, FullStore, Loaded, MergedAll, load_most};
 
 use geometry::Geometry;
 use layout::Layout;
-use levels::Ticket;
 use steps::{Counts, Run, Tally};
 
 // The deepest of the levels 1 to h - 1 that holds more blocks than its capacity; 0 if there is none.
@@ -23,25 +22,12 @@ fn deepest(g: Geometry, ns: [usize; 3]) -> usize
     requires { Ranged g }
     ensures { result ≡ deepest_for g ns (g.h - 1) }
 {
-    let h = g.levels();
-    let mut level = h - 1;
-    while 0 < level {
-        let room = g.capacity(level);
-        if room < ns[level - 1] {
+    for level in (1..g.levels()).rev() {
+        if g.capacity(level) < ns[level - 1] {
             return level;
         }
-        level = level - 1;
     }
     0
-}
-
-// The ticket of merge i of a call, from 0, as four words, if there is a row for it.
-fn file_row(rows: &mut [[u32; 4]], i: usize, x: Ticket)
-    ensures { rows.new ≡ set rows.old i (row_of x) }
-{
-    if i < rows.len() {
-        rows[i] = [x.level, x.first, x.overlap, x.written];
-    }
 }
 
 // Step 6: while a level holds more blocks than its capacity, the deepest such merges next. Each merge lowers the store's
@@ -61,15 +47,13 @@ fn merge_below(
     let mut v = r;
     let mut filed: usize = 1;
     loop {
-        let ns = v.ns;
-        let level = deepest(z.geo, ns);
+        let level = deepest(z.geo, v.ns);
         if level == 0 {
             break v;
         }
         let merged = steps::merge_step(s, lists, z, level, v);
-        let ticket = merged.ticket;
-        file_row(rows, filed, ticket);
-        filed = filed + 1;
+        slices::file(rows, filed, merged.ticket.into());
+        filed += 1;
         v = merged.run;
     }
 }
@@ -79,23 +63,10 @@ fn load_run(s: &[u32], z: Layout, lists: &mut [u32; Geometry::LIST_ROOM]) -> Run
     requires { FullStore z s.now × (length lists.old ≡ list_room) }
     ensures { Loaded z s.now lists.new result }
 {
-    let ns = lists::load(s, z, lists);
-    let hand = z.hand;
-    let cursor = s[hand] as usize;
-    let none = Counts {
-        merges: 0,
-        written: 0,
-        compacted: 0,
-    };
-    let tally = Tally {
-        one: none,
-        two: none,
-        three: none,
-    };
     Run {
-        ns: ns,
-        cursor: cursor,
-        tally: tally,
+        ns: lists::load(s, z, lists),
+        cursor: s[z.hand] as usize,
+        tally: [Counts::default(); 3],
     }
 }
 
@@ -108,12 +79,8 @@ pub fn merge_all(s: &mut [u32], z: Layout, rows: &mut [[u32; 4]]) -> Tally
     let mut lists = [0u32; Geometry::LIST_ROOM];
     let r = load_run(s, z, &mut lists);
     let merged = steps::merge_step(s, &mut lists, z, 0, r);
-    let ticket = merged.ticket;
-    file_row(rows, 0, ticket);
-    let a = merged.run;
-    let v = merge_below(s, &mut lists, z, a, rows);
-    let counts = v.ns;
-    lists::store_back(s, z, &lists, counts, v.cursor);
-    let tally = v.tally;
-    tally
+    slices::file(rows, 0, merged.ticket.into());
+    let v = merge_below(s, &mut lists, z, merged.run, rows);
+    lists::store_back(s, z, &lists, v.ns, v.cursor);
+    v.tally
 }

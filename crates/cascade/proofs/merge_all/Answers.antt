@@ -25,4 +25,4 @@ returns c =
     let l = c.load_run-r.ensures in
     let m = c.merge_step-merged.ensures _ (sym l.stands.store) in
     let b = c.merge_below-v.ensures _ (sym m.0.stands.store) in
-    (merged_all _ _ k _ _ l _ _ _ m.0 _ _ _ b.0 _ c.store_back.ensures, merged_tickets _ _ k _ _ l _ _ _ m.0 _ _ _ _ m.1 c.file_row.ensures b.1)
+    (merged_all _ _ k _ _ l _ _ _ m.0 _ _ _ b.0 _ c.store_back.ensures, merged_tickets _ _ k _ _ l _ _ _ m.0 _ _ _ _ m.1 (rw c.into.ensures at c.file.ensures) b.1)

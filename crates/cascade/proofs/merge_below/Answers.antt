@@ -25,7 +25,7 @@ loop-z-preserved c =
     let m = c.merge_step-merged.ensures _ refl in
     record {
       goes = goes_on 98304 _ _ _ _ _ _ _ i.goes _ c.deepest-level.ensures (c.deepest-level.result - 1) (omega (arith, c.if-level-eq0.false)) _ _ _ m.0;
-      files = files_on 98304 _ _ _ _ _ _ _ i.goes _ c.deepest-level.ensures (c.deepest-level.result - 1) (omega (arith, c.if-level-eq0.false)) _ _ _ m.0 _ _ _ _ _ i.files m.1 c.file_row.ensures;
+      files = files_on 98304 _ _ _ _ _ _ _ i.goes _ c.deepest-level.ensures (c.deepest-level.result - 1) (omega (arith, c.if-level-eq0.false)) _ _ _ m.0 _ _ _ _ _ i.files m.1 (rw c.into.ensures at c.file.ensures);
     }
 
 pub shape_of-s : goal.shape_of-s
