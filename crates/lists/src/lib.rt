@@ -19,14 +19,11 @@ pub fn start_of(h: usize, level: usize) -> usize
     requires { (level ≤ h) × (h ≤ 3) }
     ensures { result ≡ part_start h level }
 {
-    let above = h - level;
-    if above == 0 {
-        return 0;
+    match h - level {
+        0 => 0,
+        1 => 2048,
+        _ => 3072,
     }
-    if above == 1 {
-        return 2048;
-    }
-    3072
 }
 
 // The list of a level that has n entries.
@@ -35,8 +32,7 @@ pub fn entries(lists: &[u32], h: usize, level: usize, n: usize) -> &[u32]
     ensures { result.now ≡ take n (part_of h lists.now level) }
 {
     let at = start_of(h, level);
-    let end = at + n;
-    &lists[at..end]
+    &lists[at..at + n]
 }
 
 // The listed places of every level, to its part of the work array, and how many they are; above h there are none.
@@ -44,15 +40,12 @@ pub fn load(s: &[u32], z: Layout, lists: &mut [u32; Geometry::LIST_ROOM]) -> [us
     requires { Fitted z s.now × ((length lists.old ≡ list_room) × ((i : ℕ) → i < z.geo.h → count_at z s.now (suc i) ≤ capacity_of z.geo (suc i))) }
     ensures { Listed z.geo.h z.geo.h lists.new result (λ j. listed_at z s.now (suc j)) }
 {
-    let g = z.geo;
-    let c = z.count;
-    let h = g.levels();
-    let mut ns = [0usize; 3];
+    let h = z.geo.levels();
+    let mut ns = [0; 3];
     for i in 0..h {
-        let n = slices::word(s, c + (i + 1));
-        let start = z.list_start(i + 1);
-        let to = start_of(h, i + 1);
-        slices::copy(s, start, n, lists, to);
+        let level = i + 1;
+        let n = slices::word(s, z.count + level);
+        slices::copy(s, z.list_start(level), n, lists, start_of(h, level));
         ns[i] = n;
     }
     ns
@@ -70,11 +63,8 @@ pub fn store_back(
     ensures { s.new ≡ with_lists z s.old cursor ns lists.now }
 {
     put_counts(s, z, ns, cursor);
-    let g = z.geo;
-    let h = g.levels();
-    for i in 0..h {
-        let n = ns[i];
-        put_list(s, z, i + 1, lists, n);
+    for i in 0..z.geo.levels() {
+        put_list(s, z, i + 1, lists, ns[i]);
     }
 }
 
@@ -83,9 +73,8 @@ fn put_counts(s: &mut [u32], z: Layout, ns: [usize; 3], cursor: usize)
     requires { Fitted z s.old × ((length ns ≡ 3) × (((j : ℕ) → get_or ns j 0 ≤ places_most) × (cursor ≤ places_most))) }
     ensures { s.new ≡ with_counts z cursor ns s.old }
 {
-    let hand = z.hand;
     let c = z.count;
-    s[hand] = cursor as u32;
+    s[z.hand] = cursor as u32;
     s[c + 1] = ns[0] as u32;
     s[c + 2] = ns[1] as u32;
     s[c + 3] = ns[2] as u32;
@@ -96,11 +85,9 @@ fn put_list(s: &mut [u32], z: Layout, level: usize, lists: &[u32; Geometry::LIST
     requires { Fitted z s.old × ((1 ≤ level) × ((level ≤ z.geo.h) × ((n ≤ capacity_of z.geo level) × (length lists.now ≡ list_room)))) }
     ensures { s.new ≡ lay (piece (list_start z level) (pad (capacity_of z.geo level) (take n (part_of z.geo.h lists.now level)))) s.old }
 {
-    let g = z.geo;
     let start = z.list_start(level);
-    let room = g.capacity(level);
-    let h = g.levels();
-    let from = start_of(h, level);
+    let room = z.geo.capacity(level);
+    let from = start_of(z.geo.levels(), level);
     slices::copy(lists, from, n, s, start);
     slices::clear(s, start + n, room - n);
 }

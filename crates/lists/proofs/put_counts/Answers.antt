@@ -4,11 +4,11 @@ use Rattle.layout.proofs.Laws.{fitted_spots}
 use Rattle.lists.proofs.Room.{counts_laid}
 use Rattle.lists.proofs.put_counts.Goals as goal
 
-pub offset_bounds-s-hand : goal.offset_bounds-s-hand
-offset_bounds-s-hand c = omega (arith, fitted_spots _ _ c.requires.0)
+pub offset_bounds-s-z : goal.offset_bounds-s-z
+offset_bounds-s-z c = omega (arith, fitted_spots _ _ c.requires.0)
 
-pub bounds-s-hand : goal.bounds-s-hand
-bounds-s-hand c = omega (arith, fitted_spots _ _ c.requires.0)
+pub bounds-s-z : goal.bounds-s-z
+bounds-s-z c = omega (arith, fitted_spots _ _ c.requires.0)
 
 pub overflow_cast-s-2 : goal.overflow_cast-s-2
 overflow_cast-s-2 c = omega (arith, c.requires.1.1.0 0)

@@ -1,14 +1,12 @@
+use native.Mathlib.Omega.{arith}
 use Rattle.lists.proofs.Flat.{start_bottom, start_next, start_last}
 use Rattle.lists.proofs.start_of.Goals as goal
 
--- src/lib.rt:24:9
-pub returns-then-above-eq0 : goal.returns-then-above-eq0
-returns-then-above-eq0 c = start_bottom _ _ c.if-above-eq0.true
+pub returns-in-0 : goal.returns-in-0
+returns-in-0 c = start_bottom _ _ c.in-0.is
 
--- src/lib.rt:27:9
-pub returns-then-above-eq1 : goal.returns-then-above-eq1
-returns-then-above-eq1 c = start_next _ _ c.if-above-eq1.true
+pub returns-in-1 : goal.returns-in-1
+returns-in-1 c = start_next _ _ c.in-1.is
 
--- src/lib.rt:18:1
-pub returns : goal.returns
-returns c = start_last _ _ c.if-above-eq0.false c.if-above-eq1.false
+pub returns-in_default : goal.returns-in_default
+returns-in_default c = start_last _ _ (λ e. omega arith) (λ e. omega arith)
