@@ -1,6 +1,6 @@
 -- The deepest level over its capacity, by the lengths of the lists.
 use Prim.Native.Nat.{ℕ, zero, suc, ◌≤◌, ◌<◌}
-use mathlib.Core.Path.{◌≡◌, refl, ap, ◌∙◌}
+use mathlib.Core.Path.{◌≡◌, refl, sym, ap, ◌∙◌}
 use mathlib.Core.Bool.{true, false}
 use mathlib.Core.List.{List, []}
 use native.Mathlib.Omega.{arith}
@@ -11,7 +11,9 @@ use Rattle.geometry.specs.declared.Geometry.{Geometry}
 use Rattle.geometry.specs.Geometry.{capacity_of}
 use Rattle.levels.specs.Store.{Store}
 use Rattle.levels.specs.Call.{deepest_over}
-use Rattle.cascade.specs.Cascade.{deepest_for}
+use Rattle.std.specs.Prelude.{Option, Some, None, is_some, unwrap_or}
+use Rattle.std.proofs.lemmas.Bool.{true≢false}
+use Rattle.cascade.specs.Cascade.{deepest_for, numbered}
 
 -- the lengths are those of the levels
 pub deepest_is : (g : Geometry) (t : Store) (ns : List ℕ) → ((j : ℕ) → get_or ns j 0 ≡ length (get_or t.levels j [])) → (i : ℕ) → deepest_for g ns i ≡ deepest_over g i t
@@ -35,3 +37,20 @@ module _ (g : Geometry) (ns : List ℕ) (j level k : ℕ) (el : level ≡ suc j)
   pub deepest_past : get_or ns j 0 ≤ k → deepest_for g ns level ≡ deepest_for g ns j
   unfolding deepest_for
   deepest_past h = rw (el, le-ltb (capacity_of g (suc j)) (get_or ns j 0) (omega (arith, room)), deepest_for)
+
+-- the level that a number stands for
+pub numbered_some : (d level : ℕ) → level ≡ d → 1 ≤ level → Some level ≡ numbered d
+numbered_some zero level e h = absurd (omega arith)
+numbered_some (suc d) level e h = ap Some e
+
+pub numbered_none : (d : ℕ) → 0 ≡ d → None ≡ numbered d
+numbered_none zero e = refl
+numbered_none (suc d) e = absurd (omega arith)
+
+pub some_numbered : (d level : ℕ) → Some level ≡ numbered d → (level ≡ d) × (1 ≤ level)
+some_numbered zero level e = absurd (true≢false (ap is_some e))
+some_numbered (suc d) level e = let q : level ≡ suc d = ap (λ (o : Option ℕ). unwrap_or o 0) e in (q, omega arith)
+
+pub none_numbered : (d : ℕ) → None ≡ numbered d → d ≡ 0
+none_numbered zero e = refl
+none_numbered (suc d) e = absurd (true≢false (sym (ap is_some e)))

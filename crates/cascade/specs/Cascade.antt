@@ -1,5 +1,5 @@
 -- All merges of a call, one after the other: what they ask, and what they leave.
-use Rattle.std.specs.Prelude.{ℕ, zero, suc, ◌+◌, ◌*◌, ◌≤◌, ◌≡◌, true, false, List, ltb, get_or, replicate}
+use Rattle.std.specs.Prelude.{ℕ, zero, suc, ◌+◌, ◌*◌, ◌≤◌, ◌≡◌, true, false, List, ltb, get_or, replicate, Option, Some, None}
 use Rattle.geometry.specs.declared.Geometry.{Geometry}
 use Rattle.geometry.specs.Geometry.{capacity_of, top_capacity_of}
 use Rattle.levels.specs.Store.{Store, rows}
@@ -18,6 +18,11 @@ use Rattle.layout.specs.declared.Layout.{Layout}
 unfoldable pub deepest_for : Geometry → List ℕ → ℕ → ℕ
 deepest_for g ns zero = 0
 deepest_for g ns (suc i) = elim (ltb (capacity_of g (suc i)) (get_or ns i 0)) [ true ↦ suc i | false ↦ deepest_for g ns i ]
+
+-- a level by its number, and none by 0
+abbrev pub numbered : ℕ → Option ℕ
+numbered zero = None
+numbered (suc i) = Some (suc i)
 
 -- The largest load that a store has: at most so many merges follow each other in a call.
 abbrev pub load_most : ℕ

@@ -11,23 +11,23 @@ ghost use Rattle.words.specs.Stores.{store_at};
 ghost use Rattle.words.specs.Calls.{written_blocks};
 ghost use Rattle.words.specs.Rows.{rows_of, laid_from};
 ghost use Rattle.steps.specs.Running.{store_of, Leaving};
-ghost use Rattle.cascade.specs.Cascade.{deepest_for, Rolling, list_counts, FullStore, Loaded, MergedAll, load_most};
+ghost use Rattle.cascade.specs.Cascade.{deepest_for, numbered, Rolling, list_counts, FullStore, Loaded, MergedAll, load_most};
 
 use geometry::Geometry;
 use layout::Layout;
 use steps::{Counts, Run, Tally};
 
-// The deepest of the levels 1 to h - 1 that holds more blocks than its capacity; 0 if there is none.
-fn deepest(g: Geometry, ns: [usize; 3]) -> usize
+// The deepest of the levels 1 to h - 1 that holds more blocks than its capacity, if there is one.
+fn deepest(g: Geometry, ns: [usize; 3]) -> Option<usize>
     requires { Ranged g }
-    ensures { result ≡ deepest_for g ns (g.h - 1) }
+    ensures { result ≡ numbered (deepest_for g ns (g.h - 1)) }
 {
     for level in (1..g.levels()).rev() {
         if g.capacity(level) < ns[level - 1] {
-            return level;
+            return Some(level);
         }
     }
-    0
+    None
 }
 
 // Step 6: while a level holds more blocks than its capacity, the deepest such merges next. Each merge lowers the store's
@@ -45,17 +45,14 @@ fn merge_below(
         × (rows.new ≡ laid_from 1 (rows_of (tickets_of z.geo (merges_below load_most z.geo t))) rows.old) }
 {
     let mut v = r;
-    let mut filed: usize = 1;
-    loop {
-        let level = deepest(z.geo, v.ns);
-        if level == 0 {
-            break v;
-        }
+    let mut filed = 1;
+    while let Some(level) = deepest(z.geo, v.ns) {
         let merged = steps::merge_step(s, lists, z, level, v);
         slices::file(rows, filed, merged.ticket.into());
         filed += 1;
         v = merged.run;
     }
+    v
 }
 
 // The lists taken out of the words, with no merge counted yet.

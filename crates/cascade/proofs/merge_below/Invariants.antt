@@ -4,8 +4,8 @@ use Rattle.steps.specs.Running.{store_of}
 use Rattle.cascade.proofs.Rolling.{Turn}
 use Rattle.cascade.proofs.merge_below.Given as goal
 
-abbrev pub invariant-loop-z : goal.invariant-loop-z
-invariant-loop-z l = Turn 98304 l.z l.initial.s l.initial.lists l.initial.v l.initial.rows l.s l.lists l.v l.rows l.filed
+abbrev pub invariant-loop-level : goal.invariant-loop-level
+invariant-loop-level l = Turn 98304 l.z l.initial.s l.initial.lists l.initial.v l.initial.rows l.s l.lists l.v l.rows l.filed
 
-abbrev pub decreases-loop-z : goal.decreases-loop-z
-decreases-loop-z l = load (rows (store_of l.z l.s l.lists l.v))
+abbrev pub decreases-loop-level : goal.decreases-loop-level
+decreases-loop-level l = load (rows (store_of l.z l.s l.lists l.v))
