@@ -251,18 +251,13 @@ fn hear(words: &mut [u32], state: State, byte: u8, out: &mut [u8], at: usize) ->
     ensures { (result.state.tickets ≡ state.tickets) × ((result.state.words ≤ bench_words) × ((result.bytes ≤ at + longest_answer state.tickets)
         × ((m : ℕ) (s : Session) → Holds m state words.old s → Feeds m (heard m s (byte ∷ [])) at result words.new out.old out.new))) }
 {
-    let tickets = state.tickets;
-    let n = state.words;
-    let reading = state.reading;
     if byte == b'\n' {
-        return answer(words, tickets, n, out, at, reading.line());
+        let line = state.reading.line();
+        return answer(words, state.tickets, state.words, out, at, line);
     }
+    let reading = state.reading.take(byte);
     Fed {
-        state: State {
-            tickets,
-            words: n,
-            reading: reading.take(byte),
-        },
+        state: State { reading, ..state },
         bytes: at,
     }
 }
@@ -288,8 +283,7 @@ pub fn finish(words: &mut [u32], state: State, out: &mut [u8]) -> Fed
     ensures { (result.bytes ≤ length out.old)
         × ((m : ℕ) (s : Session) → Holds m state words.old s → Feeds m (closed (ended m s)) 0 result words.new out.old out.new) }
 {
-    let reading = state.reading;
-    if reading.is_start() {
+    if state.reading.is_start() {
         return Fed { state, bytes: 0 };
     }
     hear(words, state, b'\n', out, 0)
