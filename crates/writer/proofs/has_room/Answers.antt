@@ -1,4 +1,4 @@
-use native.Mathlib.Omega.{arith}
+use Rattle.std.proofs.Common.{arith}
 use Rattle.top.proofs.Words.{ready_bounds}
 use Rattle.writer.specs.Change.{room_at}
 use Rattle.writer.proofs.has_room.Goals as goal
@@ -7,12 +7,12 @@ pub returns-then-at : goal.returns-then-at
 unfolding room_at
 returns-then-at c = rw c.if-at.true
 
-pub offset_bounds-s-c : goal.offset_bounds-s-c
-offset_bounds-s-c c = omega (arith, ready_bounds _ _ c.requires)
+pub offset_bounds-s-z : goal.offset_bounds-s-z
+offset_bounds-s-z c = omega (arith, ready_bounds _ _ c.requires)
 
-pub bounds-s-c : goal.bounds-s-c
-bounds-s-c c = (ready_bounds _ _ c.requires).1.1
+pub bounds-s-z : goal.bounds-s-z
+bounds-s-z c = (ready_bounds _ _ c.requires).1.1
 
-pub returns : goal.returns
+pub returns-else-at : goal.returns-else-at
 unfolding room_at
-returns c = rw (c.top_capacity-room.ensures, c.if-at.false)
+returns-else-at c = rw (c.top_capacity.ensures, c.if-at.false)
