@@ -4,7 +4,7 @@ use mathlib.Core.Path.{◌≡◌, refl, sym, ap, ◌∙◌, subst}
 use mathlib.Core.Bool.{Bool, true, false, not}
 use mathlib.Core.List.{List, []}
 use mathlib.Core.Option.{Option as Maybe, none, some}
-use Rattle.std.specs.Prelude.{Option, Result, Ok, Err, ◌∷◌, length, map, sum}
+use Rattle.std.specs.Prelude.{Option, Result, Ok, Err}
 use mathlib.Core.Logic.{◌≢◌}
 use native.Mathlib.Omega.{arith}
 use borrow.Author.Tests.{eq-eqb, ne_eqb}
@@ -23,7 +23,6 @@ use Rattle.words.specs.Calls.{Outcome, ChangeAnswer, change_outcome, merges_coun
 use Rattle.search.specs.declared.Held.{Held}
 use Rattle.search.specs.Search.{found_of}
 use Rattle.steps.specs.Running.{Tally, counts_in}
-use Rattle.steps.specs.declared.Counts as steps
 use Rattle.geometry.specs.declared.Refusal.{Refusal}
 use Rattle.geometry.specs.declared.Refusal.TheVariants.{Full}
 use Rattle.geometry.specs.Refusals.{number_of}
@@ -116,10 +115,6 @@ module _ (z : Layout) (ws : List ℕ) (k : ℕ) (rows0 : List (List ℕ)) where
         let q = delete_live z.geo (store_at z ws) k h in
         (enter_outcome z ws (delete_rec k) true (live_at z ws - 1) t out e.0 ∙ ap (change_outcome z ws) (sym q), enter_filed z (store_at z ws) (delete_rec k) true (live_at z ws - 1) _ rows0 rows1 q e.1)
 
--- what is summed over the counts of levels 1 to 3
-pub tally_sum : (f : steps.Counts → ℕ) (t : Tally) → length t ≡ 3 → sum (map f t) ≡ f (counts_in t 0) + f (counts_in t 1) + f (counts_in t 2)
-tally_sum f [] l = absurd (omega arith)
-tally_sum f (a ∷ []) l = absurd (omega arith)
-tally_sum f (a ∷ b ∷ []) l = absurd (omega arith)
-tally_sum f (a ∷ b ∷ c ∷ []) l = omega arith
-tally_sum f (a ∷ b ∷ c ∷ d ∷ ts) l = absurd (omega arith)
+-- the merges that an answer counts are few
+pub done_few : (c : Result writer.Change Refusal) (d : writer.Change) → c ≡ Ok d → merges_counted (changed_answer c) ≤ 512 → merges_counted (changed_answer (Ok d)) ≤ 512
+done_few c d e h = subst (λ (x : Result writer.Change Refusal). merges_counted (changed_answer x) ≤ 512) e h

@@ -145,7 +145,10 @@ pub fn merges(changed: Result<Change, Refusal>) -> usize
     ensures { result ≡ merges_counted (changed_answer changed) }
 {
     match changed {
-        Ok(change) => change.tally.iter().map(|counts| counts.merges).sum(),
+        Ok(change) => {
+            let [one, two, three] = change.tally;
+            one.merges + two.merges + three.merges
+        }
         Err(_) => 0,
     }
 }
