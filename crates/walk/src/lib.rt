@@ -48,7 +48,7 @@ struct Front {
 // How many records of a stretch were written, and whether more of it follow.
 #[derive(Clone, Copy)]
 pub struct Listed {
-    pub written: usize,
+    pub written: u32,
     pub more: bool,
 }
 
@@ -324,7 +324,7 @@ pub fn list_stretch(
     let from = enter(s, deepest_last(levels), first);
     let n = walk_on(s, from, last + 1, room, keys, pays);
     Listed {
-        written: n.min(room),
+        written: n.min(room) as u32,
         more: room < n,
     }
 }
