@@ -49,22 +49,35 @@ fn find_at(s: &[u32], z: Layout, level: usize, k: usize) -> Option<Held>
     search::find_in(s, form::level_of(s, z, level), k)
 }
 
-// The record that decides for a key: that of the first level from 0 down that has one.
+// The record that decides for a key: that of the first level from 0 down that has one. Each level's answer is taken apart by
+// `let .. else`, here and in `look_answer`: document 01 names this form for this place.
 pub fn find_key(s: &[u32], z: Layout, k: usize) -> Option<Held>
     requires { Passed z s.now × (k < 4294967296) }
     ensures { result ≡ found_of (decides k (rows (store_at z s.now))) }
 {
-    search::find_in(s, form::top_of(s, z), k)
-        .or_else(|| find_at(s, z, 1, k))
-        .or_else(|| find_at(s, z, 2, k))
-        .or_else(|| find_at(s, z, 3, k))
+    let Some(held) = search::find_in(s, form::top_of(s, z), k) else {
+        let Some(held) = find_at(s, z, 1, k) else {
+            let Some(held) = find_at(s, z, 2, k) else {
+                return find_at(s, z, 3, k);
+            };
+            return Some(held);
+        };
+        return Some(held);
+    };
+    Some(held)
 }
 
 // A tombstone or no record is absent.
 pub fn look_answer(held: Option<Held>) -> Option<u32>
     ensures { result ≡ looked_of held }
 {
-    held.filter(|h| !h.mark).map(|h| h.pay)
+    let Some(h) = held else {
+        return None;
+    };
+    if h.mark {
+        return None;
+    }
+    Some(h.pay)
 }
 
 // The smallest live key at or above k with its payload, of a store that passes.

@@ -1,4 +1,4 @@
-use Rattle.std.proofs.Common.{arith, rules}
+use Rattle.std.proofs.Common.{arith}
 use Rattle.form.specs.Form.{top_of}
 use Rattle.form.proofs.Ready.{ready_sized, ready_levels}
 use Rattle.reader.proofs.Answering.{found_levels}
@@ -10,5 +10,14 @@ top_of-requires c = ready_sized _ _ c.requires.0
 pub find_in-requires : goal.find_in-requires
 find_in-requires c = rw c.top_of.ensures (ready_levels _ _ c.requires.0 0 (top_of c.args.z c.args.s.now) (omega arith), omega (arith, c.requires.1))
 
+pub returns-in_default-find_at-2 : goal.returns-in_default-find_at-2
+returns-in_default-find_at-2 c = rw (found_levels c.args.s.now c.args.z c.requires.0 c.args.k, ← c.top_of.ensures, ← c.find_in.ensures, c.in_default.is, ← c.find_at.ensures, c.in_default-find_at.is, ← c.find_at-in_default-find_at.ensures, c.in_default-find_at-2.is) c.find_at-in_default-find_at-2.ensures
+
+pub returns-in_default-find_at : goal.returns-in_default-find_at
+returns-in_default-find_at c = rw (found_levels c.args.s.now c.args.z c.requires.0 c.args.k, ← c.top_of.ensures, ← c.find_in.ensures, c.in_default.is, ← c.find_at.ensures, c.in_default-find_at.is, ← c.find_at-in_default-find_at.ensures, c.in-Some-find_at-2.is)
+
+pub returns-in_default : goal.returns-in_default
+returns-in_default c = rw (found_levels c.args.s.now c.args.z c.requires.0 c.args.k, ← c.top_of.ensures, ← c.find_in.ensures, c.in_default.is, ← c.find_at.ensures, c.in-Some-find_at.is)
+
 pub returns : goal.returns
-returns c = rw (found_levels c.args.s.now c.args.z c.requires.0 c.args.k, ← c.top_of.ensures, ← c.find_in.ensures) (search rules)
+returns c = rw (found_levels c.args.s.now c.args.z c.requires.0 c.args.k, ← c.top_of.ensures, ← c.find_in.ensures, c.in-Some.is)

@@ -1,4 +1,4 @@
-use Rattle.std.proofs.Common.{arith, ◌∙◌, ap}
+use Rattle.std.proofs.Common.{arith}
 use Rattle.form.proofs.Ready.{ready_sized, ready_levels}
 use Rattle.reader.proofs.Answering.{next_levels, next_followed}
 use Rattle.reader.proofs.next_key.Goals as goal

@@ -1,4 +1,4 @@
-use Rattle.std.proofs.Common.{◌≡◌, ◌<◌, ◌≤◌, ◌∙◌, arith, rules}
+use Rattle.std.proofs.Common.{◌≡◌, ◌∙◌, arith, rules}
 use Rattle.form.proofs.Ready.{ready_sized}
 use Rattle.reader.specs.Show.{empty_part}
 use Rattle.reader.proofs.Answering.{ready_level, part_low, part_high, part_none, shown_in, shown_place, part_at}
