@@ -8,7 +8,10 @@ use native.Mathlib.Omega.{arith}
 use native.Mathlib.Nat.{le_trans, mul-le-mul}
 use borrow.Author.Tests.{eq-eqb, ne_eqb}
 use lib.Dec.{eqb}
-use lib.ListN.{length, get_or, length-append}
+use native.Mathlib.Numerals.{add-one}
+use lib.ListN.{length, get_or, drop, length-append}
+use lib.Seq.{drop-cons}
+use Rattle.std.proofs.lemmas.List.{drop_all}
 use Rattle.std.specs.Prelude.{cond, All, find, unwrap_or, option_map, Some}
 use Rattle.levels.specs.Record.{Rec}
 use Rattle.levels.specs.Map.{overlay, view}
@@ -72,11 +75,27 @@ module _ (k : ℕ) (u : Cursor) (us : List Cursor) (c : Cursor) where
   upper_case : (b : Bool) → eqb u.key k ≡ b → upper_of k (u ∷ us) c ≡ unwrap_or (option_map (λ (v : Cursor). v.chunk) (cond b (Some u) (find (λ (v : Cursor). eqb v.key k) us))) c.chunk
   upper_case b e = ap (λ (t : Bool). unwrap_or (option_map (λ (v : Cursor). v.chunk) (cond t (Some u) (find (λ (v : Cursor). eqb v.key k) us))) c.chunk) e
 
-  upper_here : u.key ≡ k → upper_of k (u ∷ us) c ≡ u.chunk
+  pub upper_here : u.key ≡ k → upper_of k (u ∷ us) c ≡ u.chunk
   upper_here e = upper_case true (eq-eqb _ _ e)
 
-  upper_other : (u.key ≡ k → ⊥) → upper_of k (u ∷ us) c ≡ upper_of k us c
+  pub upper_other : (u.key ≡ k → ⊥) → upper_of k (u ∷ us) c ≡ upper_of k us c
   upper_other n = upper_case false (ne_eqb _ _ n)
+
+-- none of the first i has it: it is one of the others, the next one if that has it
+module _ (k : ℕ) (us : List Cursor) (c : Cursor) (i : ℕ) (d : Cursor) (h : i < length us) where
+  upper_at : (e : Cursor) → get_or us i d ≡ e → upper_of k (drop i us) c ≡ upper_of k (e ∷ drop (i + 1) us) c
+  upper_at e q =
+      let s : drop i us ≡ e ∷ drop (i + 1) us = rw (add-one i, ← q) (drop-cons us i d h) in
+      ap (λ (vs : List Cursor). upper_of k vs c) s
+
+  pub upper_found : upper_of k (drop i us) c ≡ upper_of k us c → (get_or us i d).key ≡ k → (get_or us i d).chunk ≡ upper_of k us c
+  upper_found s e = sym (upper_here k (get_or us i d) (drop (i + 1) us) c e) ∙ sym (upper_at (get_or us i d) refl) ∙ s
+
+  pub upper_next : upper_of k (drop i us) c ≡ upper_of k us c → ((get_or us i d).key ≡ k → ⊥) → upper_of k (drop (i + 1) us) c ≡ upper_of k us c
+  upper_next s n = sym (upper_other k (get_or us i d) (drop (i + 1) us) c n) ∙ sym (upper_at (get_or us i d) refl) ∙ s
+
+pub upper_last : (k : ℕ) (us : List Cursor) (c : Cursor) (i : ℕ) → length us ≤ i → upper_of k (drop i us) c ≡ upper_of k us c → c.chunk ≡ upper_of k us c
+upper_last k us c i h s = sym (ap (λ (vs : List Cursor). upper_of k vs c) (drop_all i us h)) ∙ s
 
 -- the records that are left, with those that decide nothing
 abbrev pub load : List (List Rec) → ℕ

@@ -69,8 +69,8 @@ fn refill(s: &[u32], cur: &mut Cursor)
     cur.key = END;
 }
 
-// A level past its next record. Where it is called a cursor stays in registers only if this is inlined, and it is just too large
-// for the compiler to do that by itself.
+// A level past its next record. This and the other parts of a turn of the walk are inlined before the compiler looks at them one by
+// one: only then it takes four cursors for numbers, and not for places in memory.
 #[inline(always)]
 fn advance(s: &[u32], cur: &mut Cursor)
     requires { Good s.now cur.old × (cur.old.key < 4294967296) }
@@ -91,7 +91,7 @@ fn advance(s: &[u32], cur: &mut Cursor)
     cur.key = s[keys] as usize;
 }
 
-// Past the next record, where its key is k: inlined for the same reason.
+// Past the next record, where its key is k.
 #[inline(always)]
 fn step(s: &[u32], cur: &mut Cursor, k: usize)
     requires { Good s.now cur.old × (k < 4294967296) }
@@ -103,6 +103,7 @@ fn step(s: &[u32], cur: &mut Cursor, k: usize)
 }
 
 // The same of each level.
+#[inline(always)]
 fn step_each(s: &[u32], front: &mut Front, k: usize)
     requires { Abreast s.now front.old × (k < 4294967296) }
     ensures { Abreast s.now front.new × (rests_of s.now front.new ≡ map (past k) (rests_of s.now front.old)) }
@@ -114,6 +115,7 @@ fn step_each(s: &[u32], front: &mut Front, k: usize)
 }
 
 // The least of some next keys and `stop`.
+#[inline(always)]
 fn least(upper: &[Cursor; 3], stop: usize) -> usize
     ensures { result ≡ least_of stop upper.now }
 {
@@ -121,14 +123,16 @@ fn least(upper: &[Cursor; 3], stop: usize) -> usize
 }
 
 // The chunk of the uppermost level whose next key is k; the last has it if no other has.
+#[inline(always)]
 fn upper(front: &Front, k: usize) -> Chunk
     ensures { result ≡ upper_of k front.now.upper front.now.last }
 {
-    front
-        .upper
-        .iter()
-        .find(|cur| cur.key == k)
-        .map_or(front.last.chunk, |cur| cur.chunk)
+    for cur in &front.upper {
+        if cur.key == k {
+            return cur.chunk;
+        }
+    }
+    front.last.chunk
 }
 
 // 1 if the first record of a chunk with this mark word is no tombstone.
@@ -208,6 +212,7 @@ fn list_one(
 
 // Past the records of a level whose keys are below the bound, and lists them from number n on, until an array is full. Answers
 // how many are listed then.
+#[inline(always)]
 fn copy_below(
     s: &[u32],
     cur: &mut Cursor,
