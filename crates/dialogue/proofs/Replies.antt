@@ -10,7 +10,10 @@ use lib.ListN.{length, take, length-take}
 use lib.Seq.{take_at}
 use borrow.Author.Tests.{leb-true, le-leb, lt-leb}
 use Rattle.geometry.specs.declared.Geometry.{Geometry}
-use Rattle.geometry.specs.declared.Built.TheVariants.{Legal, Broken}
+use Rattle.std.specs.Prelude.{Option, Result, Ok, Err, sum, map}
+use Rattle.geometry.specs.declared.Refusal.{Refusal}
+use Rattle.geometry.specs.declared.Refusal.TheVariants.{BrokenLimit, WrongLength}
+use Rattle.geometry.specs.Refusals.{number_of}
 use Rattle.geometry.specs.Geometry.{Valid, is_legal, built_of, key_limit_of}
 use Rattle.layout.specs.Layouts.{old}
 use Rattle.geometry.proofs.Laws.{built_valid, built_broken, legal_valid, valid_legal}
@@ -22,61 +25,66 @@ use Rattle.lines.specs.Bytes.{Printed}
 use Rattle.lines.specs.Lines.{longest_line, format_line, unreadable_line}
 use Rattle.lines.specs.Machine.{run}
 use Rattle.writer.specs.declared.Change.{Change}
-use Rattle.writer.specs.declared.Changed.{Changed}
-use Rattle.writer.specs.declared.Changed.TheVariants.{Done}
-use Rattle.store.specs.declared.Formatted.{Formatted}
-use Rattle.reader.specs.declared.Looked.{Looked}
+use Rattle.steps.specs.Running.{counts_in}
+use Rattle.writer.proofs.Changing.{tally_sum}
 use Rattle.reader.specs.Answers.{looked_answer}
 use Rattle.writer.specs.Answers.{changed_answer}
 use Rattle.store.specs.Answers.{format_answer}
 use Rattle.store.specs.Change.{SumsFit}
 use Rattle.dialogue.specs.declared.Fed.{Fed}
-use Rattle.dialogue.specs.declared.Room.{Room}
-use Rattle.dialogue.specs.declared.Room.TheVariants.{Words, Refused}
 use Rattle.dialogue.specs.Bench.{bench_words, room_of}
-use Rattle.dialogue.specs.Said.{Said, formatted_line, looked_line, format_said, said_of, tickets_most, longest_answer}
+use Rattle.dialogue.specs.Said.{Said, formatted_line, looked_line, merged_sum, compacted_sum, format_said, said_of, tickets_most, longest_answer}
 use Rattle.dialogue.specs.State.{Feeds, closed, answered_as, Says}
 
--- the sums of what was done are words
-pub done_fit : (c : Changed) (d : Change) → c ≡ Done d → SumsFit (changed_answer c)
-    → (d.tally.one.written + d.tally.two.written + d.tally.three.written < 4294967296) × (d.tally.one.compacted + d.tally.two.compacted + d.tally.three.compacted < 4294967296)
-done_fit c d e h = let k : SumsFit (changed_answer (Done d)) = subst (λ (x : Changed). SumsFit (changed_answer x)) e h in (k.merged, k.compacted)
+-- The sums of what was done, over the levels: those of the answer, and words.
+module _ (c : Result Change Refusal) (d : Change) (e : c ≡ Ok d) (h : SumsFit (changed_answer c)) (l : length d.tally ≡ 3) where
+  sums : SumsFit (changed_answer (Ok d))
+  sums = subst (λ (x : Result Change Refusal). SumsFit (changed_answer x)) e h
+
+  pub written_sum : sum (map (λ n. n.written) d.tally) ≡ merged_sum (changed_answer (Ok d))
+  written_sum = tally_sum (λ n. n.written) d.tally l
+
+  pub compacted_is : sum (map (λ n. n.compacted) d.tally) ≡ compacted_sum (changed_answer (Ok d))
+  compacted_is = tally_sum (λ n. n.compacted) d.tally l
+
+  pub done_fit : (sum (map (λ n. n.written) d.tally) < 4294967296) × (sum (map (λ n. n.compacted) d.tally) < 4294967296)
+  done_fit = (omega (arith, written_sum, sums.merged), omega (arith, compacted_is, sums.compacted))
 
 -- The room that a format finds.
-pub room_broken : (g : Geometry) → built_of g ≡ Broken → Refused 2 ≡ room_of g
+pub room_broken : (g : Geometry) (r : Refusal) → Err r ≡ built_of g → Err r ≡ room_of g
 unfolding room_of
-room_broken g e = rw (built_broken g e, room_of)
+room_broken g r e = let b = built_broken g r (sym e) in rw (b.1, room_of, b.0)
 
-pub room_long : (g t : Geometry) → built_of g ≡ Legal t → bench_words < (old t).length → Refused 3 ≡ room_of g
+pub room_long : (g t : Geometry) → Ok t ≡ built_of g → bench_words < (old t).length → Err WrongLength ≡ room_of g
 unfolding room_of
 room_long g t e h =
-    let k = built_valid g t e in
+    let k = built_valid g t (sym e) in
     let u : is_legal g ≡ true = ap is_legal k.0 ∙ valid_legal t k.1 in
     let z : leb (old g).length bench_words ≡ false = ap (λ (x : Geometry). leb (old x).length bench_words) k.0 ∙ lt-leb (old t).length bench_words h in
     rw (u, room_of, z, room_of)
 
-pub room_words : (g t : Geometry) (m : ℕ) → built_of g ≡ Legal t → m ≡ (old t).length → m ≤ bench_words → Words m ≡ room_of g
+pub room_words : (g t : Geometry) (m : ℕ) → Ok t ≡ built_of g → m ≡ (old t).length → m ≤ bench_words → Ok m ≡ room_of g
 unfolding room_of
 room_words g t m e q h =
-    let k = built_valid g t e in
+    let k = built_valid g t (sym e) in
     let u : is_legal g ≡ true = ap is_legal k.0 ∙ valid_legal t k.1 in
     let s : (old g).length ≡ m = ap (λ (x : Geometry). (old x).length) k.0 ∙ sym q in
     let z : leb (old g).length bench_words ≡ true = le-leb (old g).length bench_words (omega arith) in
     rw (u, room_of, z, room_of, s)
 
-pub built_legal : (g t : Geometry) → built_of g ≡ Legal t → Valid t
-built_legal g t e = (built_valid g t e).1
+pub built_legal : (g t : Geometry) → Ok t ≡ built_of g → Valid t
+built_legal g t e = (built_valid g t (sym e)).1
 
 -- what is said of a format that finds this room, and what is known of it then
-abbrev room_said : List ℕ → Geometry → Room → Said
-room_said ws g (Refused k) = record { store = ws; bytes = format_line k 0 }
-room_said ws g (Words m) = record { store = format_words (old g); bytes = format_line 0 (key_limit_of g) }
+abbrev room_said : List ℕ → Geometry → Result ℕ Refusal → Said
+room_said ws g (Err r) = record { store = ws; bytes = format_line (number_of r) 0 }
+room_said ws g (Ok m) = record { store = format_words (old g); bytes = format_line 0 (key_limit_of g) }
 
-abbrev RoomFits : Geometry → Room → Type 0
-RoomFits g (Refused k) = Unit {0}
-RoomFits g (Words m) = Valid g × ((m ≡ (old g).length) × (m ≤ bench_words))
+abbrev RoomFits : Geometry → Result ℕ Refusal → Type 0
+RoomFits g (Err r) = Unit {0}
+RoomFits g (Ok m) = Valid g × ((m ≡ (old g).length) × (m ≤ bench_words))
 
-record Roomed (ws : List ℕ) (g : Geometry) (r : Room) : Type 0 where
+record Roomed (ws : List ℕ) (g : Geometry) (r : Result ℕ Refusal) : Type 0 where
   pub said : format_said ws g ≡ room_said ws g r
   pub fits : RoomFits g r
 
@@ -86,17 +94,17 @@ roomed ws g = go (is_legal g) refl (leb (old g).length bench_words) refl
   where
     go : (t : Bool) → is_legal g ≡ t → (u : Bool) → leb (old g).length bench_words ≡ u → Roomed ws g (room_of g)
     go false e u f =
-        let r : Refused 2 ≡ room_of g = rw (e, room_of) in
+        let r : Err BrokenLimit ≡ room_of g = rw (e, room_of) in
         subst (Roomed ws g) r (record { said = rw (e, format_said); fits = tt })
     go true e false f =
-        let r : Refused 3 ≡ room_of g = rw (e, room_of, f, room_of) in
+        let r : Err WrongLength ≡ room_of g = rw (e, room_of, f, room_of) in
         subst (Roomed ws g) r (record { said = rw (e, format_said, f, format_said); fits = tt })
     go true e true f =
-        let r : Words (old g).length ≡ room_of g = rw (e, room_of, f, room_of) in
+        let r : Ok (old g).length ≡ room_of g = rw (e, room_of, f, room_of) in
         subst (Roomed ws g) r (record { said = rw (e, format_said, f, format_said); fits = (legal_valid g e, (refl, leb-true _ _ f)) })
 
-pub room_fits : (g : Geometry) (r : Room) (m : ℕ) → r ≡ room_of g → r ≡ Words m → Valid g × ((m ≡ (old g).length) × (m ≤ bench_words))
-room_fits g r m e f = subst (RoomFits g) (sym e ∙ f) (roomed [] g).fits
+pub room_fits : (g : Geometry) (m : ℕ) → Ok m ≡ room_of g → Valid g × ((m ≡ (old g).length) × (m ≤ bench_words))
+room_fits g m e = subst (RoomFits g) (sym e) (roomed [] g).fits
 
 -- What has been printed for a line, in the words of the functions that print: no line is longer than the longest.
 abbrev LinePrinted : List ℕ → List ℕ → ℕ → ℕ → List ℕ → Type 0
@@ -151,7 +159,7 @@ module _ (at t n r : ℕ) (f : Fed) (before after : List ℕ) (few : t ≤ ticke
         (subst (λ (z : List ℕ). Says t (said_of t z o) at r ys before after) (part_is n ws) q) in
         replied (said_of t (take n ws) line) (ys ++ rest) (said_of t (take n ws) line).bytes (take_at ys rest n (l ∙ part_long n ws (omega arith)) ∙ s.store) refl s.ends s.output
 
-    pub get_replied : (k : ℕ) (a : Looked) → line ≡ Get k → looked_answer a ≡ look_up_of (take (n - 0) ws) k → LinePrinted before after at r (looked_line (looked_answer a)) → Answers t (said_of t (take n ws) line) at f ws before after
+    pub get_replied : (k : ℕ) (a : Result (Option ℕ) Refusal) → line ≡ Get k → looked_answer a ≡ look_up_of (take (n - 0) ws) k → LinePrinted before after at r (looked_line (looked_answer a)) → Answers t (said_of t (take n ws) line) at f ws before after
     get_replied k a e d p =
         subst (λ (y : Line). Answers t (said_of t (take n ws) y) at f ws before after) (sym e)
         (line_replied (said_of t (take n ws) (Get k)) ws (looked_line (looked_answer a)) refl (ap looked_line (d ∙ ap (λ (z : List ℕ). look_up_of z k) (part_is n ws))) p)
@@ -161,21 +169,21 @@ module _ (at t n r : ℕ) (f : Fed) (before after : List ℕ) (few : t ≤ ticke
         subst (λ (y : Line). Answers t (said_of t (take n ws) y) at f ws before after) (sym e)
         (line_replied (said_of t (take n ws) Unreadable) ws unreadable_line refl refl p)
 
-  module _ (b w d g h p : ℕ) (line : Line) (room : Room) (e : line ≡ Format b w d g h p) (q : room ≡ room_of (record { b = b; w = w; d = d; g = g; h = h; p = p })) where
-    pub refused_replied : (k : ℕ) (ws : List ℕ) → room ≡ Refused k → LinePrinted before after at r (format_line k 0) → Answers t (said_of t (take n ws) line) at f ws before after
+  module _ (b w d g h p : ℕ) (line : Line) (e : line ≡ Format b w d g h p) where
+    pub refused_replied : (k : Refusal) (ws : List ℕ) → Err k ≡ room_of (record { b = b; w = w; d = d; g = g; h = h; p = p }) → LinePrinted before after at r (formatted_line (format_answer (Err k))) → Answers t (said_of t (take n ws) line) at f ws before after
     refused_replied k ws u y =
         let z : Geometry = record { b = b; w = w; d = d; g = g; h = h; p = p } in
-        let s = (roomed (take n ws) z).said ∙ ap (room_said (take n ws) z) (sym q ∙ u) in
+        let s = (roomed (take n ws) z).said ∙ ap (room_said (take n ws) z) (sym u) in
         subst (λ (y : Line). Answers t (said_of t (take n ws) y) at f ws before after) (sym e)
-        (subst (λ (a : Said). Answers t a at f ws before after) (sym s) (line_replied (record { store = take n ws; bytes = format_line k 0 }) ws (format_line k 0) refl refl y))
+        (subst (λ (a : Said). Answers t a at f ws before after) (sym s) (line_replied (record { store = take n ws; bytes = format_line (number_of k) 0 }) ws (format_line (number_of k) 0) refl refl y))
 
-    pub format_replied : (o : ℕ) (a : Formatted) (ws ys rest : List ℕ) → room ≡ Words n → length ws ≡ bench_words
+    pub format_replied : (o : ℕ) (a : Result ℕ Refusal) (ws ys rest : List ℕ) → Ok n ≡ room_of (record { b = b; w = w; d = d; g = g; h = h; p = p }) → length ws ≡ bench_words
         → ◌≡◌ {A = Outcome FormatAnswer} (record { answer = format_answer a; words = ys }) (format_of (take (n - 0) ws) (record { b = b; w = w; d = d; g = g; h = h; p = p })) → length ys ≡ length (take (n - 0) ws)
         → LinePrinted before after at r (formatted_line (format_answer a)) → Answers t (said_of t (take o ws) line) at f (ys ++ rest) before after
     format_replied o a ws ys rest u m v l y =
         let z : Geometry = record { b = b; w = w; d = d; g = g; h = h; p = p } in
-        let s = (roomed (take o ws) z).said ∙ ap (room_said (take o ws) z) (sym q ∙ u) in
-        let k = room_fits z room n q u in
+        let s = (roomed (take o ws) z).said ∙ ap (room_said (take o ws) z) (sym u) in
+        let k = room_fits z n u in
         let j : length (take (n - 0) ws) ≡ n = part_long n ws (omega arith) in
         let i = v ∙ format_is z (take (n - 0) ws) k.0 (j ∙ k.1.0) in
         subst (λ (y : Line). Answers t (said_of t (take o ws) y) at f (ys ++ rest) before after) (sym e)

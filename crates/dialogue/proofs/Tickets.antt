@@ -11,14 +11,15 @@ use lib.ListN.{length, take, get_or, length-take}
 use lib.Seq.{take-suc, take_all}
 use Rattle.std.proofs.lemmas.List.{get_or-take, take_min}
 use Rattle.levels.specs.declared.Ticket.{Ticket}
-use Rattle.levels.specs.Tickets.{laid}
+use Rattle.levels.specs.Tickets.{ticket_from, laid}
 use Rattle.levels.proofs.Lists.{map_take}
 use Rattle.words.specs.Calls.{Outcome, ChangeAnswer, merges_counted}
 use Rattle.words.specs.Rows.{row_of, rows_of}
 use Rattle.levels.proofs.Laying.{laid_length, laid_short}
-use Rattle.writer.specs.declared.Changed.{Changed}
+use Rattle.std.specs.Prelude.{Result}
+use Rattle.geometry.specs.declared.Refusal.{Refusal}
+use Rattle.writer.specs.declared.Change.{Change}
 use Rattle.writer.specs.Answers.{changed_answer}
-use Rattle.tickets.specs.Gathering.{ticket_from}
 use Rattle.tickets.proofs.Gathering.{gathered_all}
 use Rattle.lines.specs.Bytes.{letter_t, Printed}
 use Rattle.lines.specs.Lines.{longest_line, printed_line, room}
@@ -107,7 +108,7 @@ rows_show ts rows₀ rows e =
     ∙ gathered_all us rows₀ rows (length us) refl (omega (arith, k, min-le_left (length rows₀) (length ts))) f
 
 -- What a put or delete has done and what is printed for it are what is said of it: c is what the code answers, o the definition's outcome.
-pub change_said_lem : (letter : ℕ) (c : Changed) (o : Outcome ChangeAnswer) (ts : List Ticket) (rows₀ rows : List (List ℕ)) (at r : ℕ) (ys before after : List ℕ)
+pub change_said_lem : (letter : ℕ) (c : Result Change Refusal) (o : Outcome ChangeAnswer) (ts : List Ticket) (rows₀ rows : List (List ℕ)) (at r : ℕ) (ys before after : List ℕ)
     → ◌≡◌ {A = Outcome ChangeAnswer} (record { answer = changed_answer c; words = ys }) o → merges_counted (changed_answer c) ≡ length ts → rows ≡ laid (rows_of ts) rows₀
     → (r ≤ at + longest_answer (length rows)) × Printed before after at r (changed_line letter (changed_answer c) ++ ticket_lines (map ticket_from (take (merges_counted (changed_answer c)) rows)))
     → Says (length rows₀) (change_said letter o (take (length rows₀) ts)) at r ys before after

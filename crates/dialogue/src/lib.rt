@@ -8,9 +8,8 @@ ghost use Rattle.lines.specs.declared.Line.TheVariants.{Put, Delete};
 ghost use Rattle.lines.specs.Bytes.{Printed};
 ghost use Rattle.lines.specs.Lines.{longest_line};
 ghost use Rattle.levels.specs.Inside.{merges_most};
-ghost use Rattle.words.specs.Stores.{bit};
+ghost use Rattle.levels.specs.Tickets.{ticket_from};
 ghost use Rattle.words.specs.Calls.{merges_counted};
-ghost use Rattle.tickets.specs.Gathering.{ticket_from};
 ghost use Rattle.reader.specs.Answers.{looked_answer};
 ghost use Rattle.writer.specs.Answers.{changed_answer};
 ghost use Rattle.store.specs.Answers.{format_answer};
@@ -20,12 +19,10 @@ ghost use Rattle.dialogue.specs.Said.{formatted_line, looked_line, changed_line,
 ghost use Rattle.dialogue.specs.Dialogue.{Session, opening, heard, ended};
 ghost use Rattle.dialogue.specs.State.{Holds, Feeds, closed, answered_as, Says};
 
-use geometry::{Built, Geometry};
+use geometry::{Geometry, Refusal};
 use layout::Layout;
 use lines::{Line, Reading};
-use reader::Looked;
-use store::Formatted;
-use writer::Changed;
+use writer::Change;
 
 // The words that the program works on.
 pub const BENCH_WORDS: usize = 16384;
@@ -53,13 +50,6 @@ pub struct Fed {
     pub bytes: usize,
 }
 
-// What a format takes of the bench's words, or the reason why it takes none.
-#[derive(Clone, Copy)]
-enum Room {
-    Words(usize),
-    Refused(u32),
-}
-
 impl State {
     // Before the first byte: no store, and no line has begun. At most so many tickets are printed for a call.
     pub fn start(tickets: usize) -> State
@@ -74,55 +64,42 @@ impl State {
     }
 }
 
-// 1 or 0, as the lines say it.
-fn flag(said: bool) -> u32
-    ensures { result ≡ bit said }
-{
-    if said {
-        return 1;
-    }
-    0
-}
-
 // The line for what a format answered, by document 01's number and values of each case.
-fn print_formatted(out: &mut [u8], at: usize, f: Formatted) -> usize
+fn print_formatted(out: &mut [u8], at: usize, f: Result<u32, Refusal>) -> usize
     requires { at + longest_line ≤ length out.old }
     ensures { (result ≤ at + longest_line) × Printed out.old out.new at result (formatted_line (format_answer f)) }
 {
     match f {
-        Formatted::Done(limit) => lines::print_line(out, at, b'f', &[0, limit]),
-        Formatted::Refused(n) => lines::print_line(out, at, b'f', &[n, 0]),
+        Ok(limit) => lines::print_line(out, at, b'f', &[0, limit]),
+        Err(r) => lines::print_line(out, at, b'f', &[u32::from(r), 0]),
     }
 }
 
 // The same for look up.
-fn print_looked(out: &mut [u8], at: usize, l: Looked) -> usize
+fn print_looked(out: &mut [u8], at: usize, l: Result<Option<u32>, Refusal>) -> usize
     requires { at + longest_line ≤ length out.old }
     ensures { (result ≤ at + longest_line) × Printed out.old out.new at result (looked_line (looked_answer l)) }
 {
     match l {
-        Looked::Found(v) => lines::print_line(out, at, b'g', &[0, 1, v]),
-        Looked::Absent => lines::print_line(out, at, b'g', &[0, 0, 0]),
-        Looked::Refused(n) => lines::print_line(out, at, b'g', &[n, 0, 0]),
+        Ok(Some(v)) => lines::print_line(out, at, b'g', &[0, 1, v]),
+        Ok(None) => lines::print_line(out, at, b'g', &[0, 0, 0]),
+        Err(r) => lines::print_line(out, at, b'g', &[u32::from(r), 0, 0]),
     }
 }
 
 // The same for put and delete: their sums over all levels are words (`SumsFit`), so nothing is cut off.
-fn print_changed(out: &mut [u8], at: usize, letter: u8, changed: Changed) -> usize
+fn print_changed(out: &mut [u8], at: usize, letter: u8, changed: Result<Change, Refusal>) -> usize
     requires { (at + longest_line ≤ length out.old) × SumsFit (changed_answer changed) }
     ensures { (result ≤ at + longest_line) × Printed out.old out.new at result (changed_line letter (changed_answer changed)) }
 {
     match changed {
-        Changed::Refused(n) => lines::print_line(out, at, letter, &[n, 0, 0, 0]),
-        Changed::Done(change) => {
-            let one = change.tally.one;
-            let two = change.tally.two;
-            let three = change.tally.three;
-            let merged = one.written + two.written + three.written;
-            let compacted = one.compacted + two.compacted + three.compacted;
-            let numbers = [0, flag(change.live), merged as u32, compacted as u32];
+        Ok(change) => {
+            let merged: usize = change.tally.iter().map(|counts| counts.written).sum();
+            let compacted: usize = change.tally.iter().map(|counts| counts.compacted).sum();
+            let numbers = [0, u32::from(change.live), merged as u32, compacted as u32];
             lines::print_line(out, at, letter, &numbers)
         }
+        Err(r) => lines::print_line(out, at, letter, &[u32::from(r), 0, 0, 0]),
     }
 }
 
@@ -141,7 +118,13 @@ fn print_tickets(out: &mut [u8], at: usize, rows: &[[u32; 4]], n: usize) -> usiz
 }
 
 // The line of a put or delete, and the lines of its first tickets, which stand in the rows.
-fn print_whole(out: &mut [u8], at: usize, letter: u8, changed: Changed, rows: &[[u32; 4]]) -> usize
+fn print_whole(
+    out: &mut [u8],
+    at: usize,
+    letter: u8,
+    changed: Result<Change, Refusal>,
+    rows: &[[u32; 4]],
+) -> usize
     requires { (at + longest_answer (length rows.now) ≤ length out.old)
         × (SumsFit (changed_answer changed) × (merges_counted (changed_answer changed) ≤ merges_most)) }
     ensures { (result ≤ at + longest_answer (length rows.now))
@@ -173,18 +156,15 @@ fn say_delete(s: &mut [u32], k: u32, rows: &mut [[u32; 4]], out: &mut [u8], at: 
 }
 
 // A format takes what its layout needs; it is refused where it breaks a limit or needs more words than there are.
-fn room_for(b: u32, w: u32, d: u32, g: u32, h: u32, p: u32) -> Room
+fn room_for(b: u32, w: u32, d: u32, g: u32, h: u32, p: u32) -> Result<usize, Refusal>
     ensures { result ≡ room_of (record { b = b; w = w; d = d; g = g; h = h; p = p }) }
 {
-    let Built::Legal(t) = Geometry::new(b, w, d, g, h, p) else {
-        return Room::Refused(2);
-    };
-    let z = Layout::old(t);
+    let z = Layout::old(Geometry::new(b, w, d, g, h, p)?);
     let need = z.length;
     if need > BENCH_WORDS {
-        return Room::Refused(3);
+        return Err(Refusal::WrongLength);
     }
-    Room::Words(need)
+    Ok(need)
 }
 
 // A line has been answered: n words are the store, and no other line has begun.
@@ -209,12 +189,8 @@ fn answer(words: &mut [u32], tickets: usize, n: usize, out: &mut [u8], at: usize
 {
     match line {
         Line::Format { b, w, d, g, h, p } => match room_for(b, w, d, g, h, p) {
-            Room::Refused(reason) => answered(
-                tickets,
-                n,
-                lines::print_line(out, at, b'f', &[reason, 0]),
-            ),
-            Room::Words(m) => {
+            Err(r) => answered(tickets, n, print_formatted(out, at, Err(r))),
+            Ok(m) => {
                 let f = store::format(&mut words[0..m], b, w, d, g, h, p);
                 answered(tickets, m, print_formatted(out, at, f))
             }
@@ -251,18 +227,13 @@ fn hear(words: &mut [u32], state: State, byte: u8, out: &mut [u8], at: usize) ->
     ensures { (result.state.tickets ≡ state.tickets) × ((result.state.words ≤ bench_words) × ((result.bytes ≤ at + longest_answer state.tickets)
         × ((m : ℕ) (s : Session) → Holds m state words.old s → Feeds m (heard m s (byte ∷ [])) at result words.new out.old out.new))) }
 {
-    let tickets = state.tickets;
-    let n = state.words;
-    let reading = state.reading;
     if byte == b'\n' {
-        return answer(words, tickets, n, out, at, reading.line());
+        let line = state.reading.line();
+        return answer(words, state.tickets, state.words, out, at, line);
     }
+    let reading = state.reading.take(byte);
     Fed {
-        state: State {
-            tickets,
-            words: n,
-            reading: reading.take(byte),
-        },
+        state: State { reading, ..state },
         bytes: at,
     }
 }
@@ -288,8 +259,7 @@ pub fn finish(words: &mut [u32], state: State, out: &mut [u8]) -> Fed
     ensures { (result.bytes ≤ length out.old)
         × ((m : ℕ) (s : Session) → Holds m state words.old s → Feeds m (closed (ended m s)) 0 result words.new out.old out.new) }
 {
-    let reading = state.reading;
-    if reading.is_start() {
+    if state.reading.is_start() {
         return Fed { state, bytes: 0 };
     }
     hear(words, state, b'\n', out, 0)

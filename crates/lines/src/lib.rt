@@ -244,7 +244,8 @@ pub fn print_number(out: &mut [u8], at: usize, n: u32) -> usize
 }
 
 // Writes a line from place `at` on and answers the place after it: a letter, the numbers, a space before each, and the line
-// end. A caller leaves room for ten digits of each number.
+// end. A caller leaves room for ten digits of each number. The buffer and the place in it stay two parameters: of a struct of
+// both each contract would have to say besides that it still lends the same buffer.
 pub fn print_line(out: &mut [u8], at: usize, letter: u8, numbers: &[u32]) -> usize
     requires { at + room (length numbers.now) ≤ length out.old }
     ensures { (result ≤ at + room (length numbers.now)) × Printed out.old out.new at result (printed_line letter numbers.now) }

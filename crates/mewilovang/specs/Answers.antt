@@ -1,12 +1,13 @@
 -- The exported structs: for each answer of document 01's calls (words, Calls) the numbers that a caller in C is given.
-use Rattle.std.specs.Prelude.{ℕ, ◌<◌, ◌≡◌, true, false, List}
+use Rattle.std.specs.Prelude.{ℕ, ◌<◌, ◌≡◌, true, false, List, Result}
 use Rattle.geometry.specs.declared.Geometry.{Geometry}
 use Rattle.geometry.specs.Geometry.{is_legal}
 use Rattle.layout.specs.Layouts.{old}
 use Rattle.levels.specs.Count as levels
 use Rattle.words.specs.Stores.{bit}
 use Rattle.words.specs.Calls.{Outcome, FormatAnswer, LookAnswer, NextAnswer, StretchAnswer, StretchOutcome, AboutAnswer, ChangeAnswer, ForecastAnswer, put_of, delete_of, will_put_merge_of, will_delete_merge_of}
-use Rattle.writer.specs.declared.Changed as changed
+use Rattle.geometry.specs.declared.Refusal.{Refusal}
+use Rattle.writer.specs.declared.Change.{Change}
 use Rattle.writer.specs.Answers.{changed_answer}
 use Rattle.reader.specs.declared.Part as part
 use Rattle.store.specs.Change.{PutDone, DeleteDone}
@@ -92,7 +93,7 @@ pub record PutReplied (ws : List ℕ) (k v : ℕ) (r : Changed) (out : List ℕ)
   -- card 5: reason and merges into level 1 are those that `mewilovang_will_put_merge` answers of the words at entry
   pub foretold : record { reason = r.reason; merges = r.level1.merges } ≡ forecast_reply (will_put_merge_of ws k)
   -- what the store's put answers, of which all that `PutDone` says holds; r is its numbers
-  pub change : changed.Changed
+  pub change : Result Change Refusal
   pub answer : r ≡ changed_reply (changed_answer change)
   pub done : PutDone ws k v change out
 
@@ -101,6 +102,6 @@ pub record DeleteReplied (ws : List ℕ) (k : ℕ) (r : Changed) (out : List ℕ
   pub reply : r ≡ changed_reply (delete_of ws k).answer
   pub words : out ≡ (delete_of ws k).words
   pub foretold : record { reason = r.reason; merges = r.level1.merges } ≡ forecast_reply (will_delete_merge_of ws k)
-  pub change : changed.Changed
+  pub change : Result Change Refusal
   pub answer : r ≡ changed_reply (changed_answer change)
   pub done : DeleteDone ws k change out

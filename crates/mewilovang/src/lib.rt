@@ -14,13 +14,16 @@ ghost use Rattle.mewilovang.specs.declared.Formatted.{Formatted};
 ghost use Rattle.mewilovang.specs.declared.Stretched.{Stretched};
 ghost use Rattle.mewilovang.specs.Answers.{words_of, formatted_reply, formatted_outcome, looked_reply, nexted_reply, stretched_reply, stretched_outcome, part_reply, told_reply, forecast_reply, CountsFit, counts_reply, changed_reply, PutReplied, DeleteReplied};
 
-use geometry::{Built, Geometry};
+use geometry::{Geometry, Refusal};
 use layout::Layout;
 use levels::Ticket;
+use reader::Facts;
+use walk::Listed;
+use writer::Change;
 
 // The reason that the call is turned down for, or 0, and N.
 #[repr(C)]
-#[derive(Clone, Copy)]
+#[derive(Clone, Copy, Default)]
 pub struct Formatted {
     pub reason: u32,
     pub limit: u32,
@@ -28,7 +31,7 @@ pub struct Formatted {
 
 // The reason or 0, 1 or 0 for a key that is in the map or not, and its payload.
 #[repr(C)]
-#[derive(Clone, Copy)]
+#[derive(Clone, Copy, Default)]
 pub struct Looked {
     pub reason: u32,
     pub found: u32,
@@ -37,7 +40,7 @@ pub struct Looked {
 
 // The reason or 0, 1 or 0 if there is such a key or not, the key and its payload.
 #[repr(C)]
-#[derive(Clone, Copy)]
+#[derive(Clone, Copy, Default)]
 pub struct Nexted {
     pub reason: u32,
     pub found: u32,
@@ -47,7 +50,7 @@ pub struct Nexted {
 
 // The reason or 0, how many records were written, and 1 or 0 if more follow or not.
 #[repr(C)]
-#[derive(Clone, Copy)]
+#[derive(Clone, Copy, Default)]
 pub struct Stretched {
     pub reason: u32,
     pub written: u32,
@@ -56,7 +59,7 @@ pub struct Stretched {
 
 // A part of the lent store, in words; both 0 for an empty part.
 #[repr(C)]
-#[derive(Clone, Copy)]
+#[derive(Clone, Copy, Default)]
 pub struct Part {
     pub start: usize,
     pub length: usize,
@@ -64,7 +67,7 @@ pub struct Part {
 
 // The reason or 0, the six numbers of the geometry, live, N, the records in level 0 and the blocks of levels 1 to 3.
 #[repr(C)]
-#[derive(Clone, Copy)]
+#[derive(Clone, Copy, Default)]
 pub struct AboutStore {
     pub reason: u32,
     pub b: u32,
@@ -83,7 +86,7 @@ pub struct AboutStore {
 
 // The reason that a put or delete would be turned down for, or 0, and its merges into level 1, 1 or 0.
 #[repr(C)]
-#[derive(Clone, Copy)]
+#[derive(Clone, Copy, Default)]
 pub struct Forecast {
     pub reason: u32,
     pub merges: u32,
@@ -91,7 +94,7 @@ pub struct Forecast {
 
 // Merges into a level, blocks written by them, blocks written compacting it.
 #[repr(C)]
-#[derive(Clone, Copy)]
+#[derive(Clone, Copy, Default)]
 pub struct Counts {
     pub merges: u32,
     pub written: u32,
@@ -100,7 +103,7 @@ pub struct Counts {
 
 // The reason or 0, 1 or 0 if the key was live before or not, and the counts of levels 1 to 3.
 #[repr(C)]
-#[derive(Clone, Copy)]
+#[derive(Clone, Copy, Default)]
 pub struct Changed {
     pub reason: u32,
     pub live: u32,
@@ -109,139 +112,133 @@ pub struct Changed {
     pub level3: Counts,
 }
 
-// Each answer of `store` as the struct that C is given: an enum cannot cross the border.
-fn format_reply(f: store::Formatted) -> Formatted
-    ensures { result ≡ formatted_reply (format_answer f) }
-{
-    match f {
-        store::Formatted::Done(n) => Formatted {
-            reason: 0,
-            limit: n,
-        },
-        store::Formatted::Refused(n) => Formatted {
-            reason: n,
-            limit: 0,
-        },
+// Each answer of `store` as the struct that C is given, the number of a refusal and zeros where it is turned down: an enum cannot
+// cross the border.
+impl From<Result<u32, Refusal>> for Formatted {
+    ghost from_gives = { λ answer reply. reply ≡ formatted_reply (format_answer answer) };
+
+    fn from(answer: Result<u32, Refusal>) -> Formatted {
+        match answer {
+            Ok(limit) => Formatted { reason: 0, limit },
+            Err(r) => Formatted {
+                reason: u32::from(r),
+                ..Formatted::default()
+            },
+        }
     }
 }
 
-fn look_reply(l: reader::Looked) -> Looked
-    ensures { result ≡ looked_reply (looked_answer l) }
-{
-    match l {
-        reader::Looked::Found(v) => Looked {
-            reason: 0,
-            found: 1,
-            payload: v,
-        },
-        reader::Looked::Absent => Looked {
-            reason: 0,
-            found: 0,
-            payload: 0,
-        },
-        reader::Looked::Refused(n) => Looked {
-            reason: n,
-            found: 0,
-            payload: 0,
-        },
+impl From<Result<Option<u32>, Refusal>> for Looked {
+    ghost from_gives = { λ answer reply. reply ≡ looked_reply (looked_answer answer) };
+
+    fn from(answer: Result<Option<u32>, Refusal>) -> Looked {
+        match answer {
+            Ok(Some(payload)) => Looked {
+                reason: 0,
+                found: 1,
+                payload,
+            },
+            Ok(None) => Looked::default(),
+            Err(r) => Looked {
+                reason: u32::from(r),
+                ..Looked::default()
+            },
+        }
     }
 }
 
-fn next_reply(n: reader::Nexted) -> Nexted
-    ensures { result ≡ nexted_reply (nexted_answer n) }
-{
-    match n {
-        reader::Nexted::At(k, v) => Nexted {
-            reason: 0,
-            found: 1,
-            key: k,
-            payload: v,
-        },
-        reader::Nexted::Nothing => Nexted {
-            reason: 0,
-            found: 0,
-            key: 0,
-            payload: 0,
-        },
-        reader::Nexted::Refused(n) => Nexted {
-            reason: n,
-            found: 0,
-            key: 0,
-            payload: 0,
-        },
+impl From<Result<Option<(u32, u32)>, Refusal>> for Nexted {
+    ghost from_gives = { λ answer reply. reply ≡ nexted_reply (nexted_answer answer) };
+
+    fn from(answer: Result<Option<(u32, u32)>, Refusal>) -> Nexted {
+        match answer {
+            Ok(Some((key, payload))) => Nexted {
+                reason: 0,
+                found: 1,
+                key: key,
+                payload: payload,
+            },
+            Ok(None) => Nexted::default(),
+            Err(r) => Nexted {
+                reason: u32::from(r),
+                ..Nexted::default()
+            },
+        }
     }
 }
 
-fn stretch_reply(t: reader::Stretched) -> Stretched
-    ensures { result ≡ stretched_reply (stretch_answer t) }
-{
-    match t {
-        reader::Stretched::Written(n, more) => Stretched {
-            reason: 0,
-            written: n,
-            more: more as u32,
-        },
-        reader::Stretched::Refused(n) => Stretched {
-            reason: n,
-            written: 0,
-            more: 0,
-        },
+impl From<Result<Listed, Refusal>> for Stretched {
+    ghost from_gives = { λ answer reply. reply ≡ stretched_reply (stretch_answer answer) };
+
+    fn from(answer: Result<Listed, Refusal>) -> Stretched {
+        match answer {
+            Ok(listed) => Stretched {
+                reason: 0,
+                written: listed.written,
+                more: u32::from(listed.more),
+            },
+            Err(r) => Stretched {
+                reason: u32::from(r),
+                ..Stretched::default()
+            },
+        }
     }
 }
 
-fn told_reply(t: reader::Told) -> AboutStore
-    ensures { result ≡ told_reply (told_answer t) }
-{
-    match t {
-        reader::Told::Known(f) => AboutStore {
-            reason: 0,
-            b: f.b,
-            w: f.w,
-            d: f.d,
-            g: f.g,
-            h: f.h,
-            p: f.p,
-            live: f.live,
-            limit: f.limit,
-            top: f.top,
-            blocks1: f.blocks1,
-            blocks2: f.blocks2,
-            blocks3: f.blocks3,
-        },
-        reader::Told::Refused(n) => AboutStore {
-            reason: n,
-            b: 0,
-            w: 0,
-            d: 0,
-            g: 0,
-            h: 0,
-            p: 0,
-            live: 0,
-            limit: 0,
-            top: 0,
-            blocks1: 0,
-            blocks2: 0,
-            blocks3: 0,
-        },
+impl From<reader::Part> for Part {
+    ghost from_gives = { λ part reply. reply ≡ part_reply part };
+
+    fn from(part: reader::Part) -> Part {
+        Part {
+            start: part.start,
+            length: part.length,
+        }
     }
 }
 
-fn forecast_reply(f: writer::Forecast) -> Forecast
-    ensures { result ≡ forecast_reply (forecast_answer f) }
-{
-    match f {
-        writer::Forecast::Merges(n) => Forecast {
-            reason: 0,
-            merges: n,
-        },
-        writer::Forecast::Refused(n) => Forecast {
-            reason: n,
-            merges: 0,
-        },
+impl From<Result<Facts, Refusal>> for AboutStore {
+    ghost from_gives = { λ answer reply. reply ≡ told_reply (told_answer answer) };
+
+    fn from(answer: Result<Facts, Refusal>) -> AboutStore {
+        match answer {
+            Ok(f) => AboutStore {
+                reason: 0,
+                b: f.b,
+                w: f.w,
+                d: f.d,
+                g: f.g,
+                h: f.h,
+                p: f.p,
+                live: f.live,
+                limit: f.limit,
+                top: f.top,
+                blocks1: f.blocks1,
+                blocks2: f.blocks2,
+                blocks3: f.blocks3,
+            },
+            Err(r) => AboutStore {
+                reason: u32::from(r),
+                ..AboutStore::default()
+            },
+        }
     }
 }
 
-// That counts fit 32 bits is a law, so nothing is cut off.
+impl From<Result<u32, Refusal>> for Forecast {
+    ghost from_gives = { λ answer reply. reply ≡ forecast_reply (forecast_answer answer) };
+
+    fn from(answer: Result<u32, Refusal>) -> Forecast {
+        match answer {
+            Ok(merges) => Forecast { reason: 0, merges },
+            Err(r) => Forecast {
+                reason: u32::from(r),
+                ..Forecast::default()
+            },
+        }
+    }
+}
+
+// That counts fit 32 bits is a law, so nothing is cut off. This one and the next are no `From`, which has no `requires`.
 fn counts_reply(counts: steps::Counts) -> Counts
     requires { CountsFit (numbers_of counts) }
     ensures { result ≡ counts_reply (numbers_of counts) }
@@ -253,37 +250,22 @@ fn counts_reply(counts: steps::Counts) -> Counts
     }
 }
 
-fn change_reply(changed: writer::Changed) -> Changed
-    requires { SumsFit (changed_answer changed) }
-    ensures { result ≡ changed_reply (changed_answer changed) }
+fn change_reply(answer: Result<Change, Refusal>) -> Changed
+    requires { SumsFit (changed_answer answer) }
+    ensures { result ≡ changed_reply (changed_answer answer) }
 {
-    match changed {
-        writer::Changed::Refused(n) => {
-            let none = Counts {
-                merges: 0,
-                written: 0,
-                compacted: 0,
-            };
-            Changed {
-                reason: n,
-                live: 0,
-                level1: none,
-                level2: none,
-                level3: none,
-            }
-        }
-        writer::Changed::Done(change) => {
-            let one = change.tally.one;
-            let two = change.tally.two;
-            let three = change.tally.three;
-            Changed {
-                reason: 0,
-                live: change.live as u32,
-                level1: counts_reply(one),
-                level2: counts_reply(two),
-                level3: counts_reply(three),
-            }
-        }
+    match answer {
+        Ok(change) => Changed {
+            reason: 0,
+            live: u32::from(change.live),
+            level1: counts_reply(change.tally[0]),
+            level2: counts_reply(change.tally[1]),
+            level3: counts_reply(change.tally[2]),
+        },
+        Err(r) => Changed {
+            reason: u32::from(r),
+            ..Changed::default()
+        },
     }
 }
 
@@ -292,14 +274,14 @@ fn change_reply(changed: writer::Changed) -> Changed
 pub extern "C" fn mewilovang_words(b: u32, w: u32, d: u32, g: u32, h: u32, p: u32) -> usize
     ensures { result ≡ words_of (record { b = b; w = w; d = d; g = g; h = h; p = p }) }
 {
-    let Built::Legal(t) = Geometry::new(b, w, d, g, h, p) else {
+    let Ok(t) = Geometry::new(b, w, d, g, h, p) else {
         return 0;
     };
-    let z = Layout::old(t);
-    z.length
+    Layout::old(t).length
 }
 
 #[unsafe(no_mangle)]
+#[tactic(auto, using(crate::proofs::Replying::format_replied))]
 pub extern "C" fn mewilovang_format(
     store: &mut [u32],
     b: u32,
@@ -312,31 +294,35 @@ pub extern "C" fn mewilovang_format(
     ensures { ◌≡◌ {A = Outcome Formatted} (record { answer = result; words = store.new })
         (formatted_outcome (format_of store.old (record { b = b; w = w; d = d; g = g; h = h; p = p }))) }
 {
-    format_reply(store::format(store, b, w, d, g, h, p))
+    Formatted::from(store::format(store, b, w, d, g, h, p))
 }
 
 #[unsafe(no_mangle)]
 pub extern "C" fn mewilovang_check(store: &[u32]) -> u32
     ensures { result ≡ check_of store.now }
 {
-    store::check(store)
+    match store::check(store) {
+        Ok(()) => 0,
+        Err(r) => u32::from(r),
+    }
 }
 
 #[unsafe(no_mangle)]
 pub extern "C" fn mewilovang_look_up(store: &[u32], key: u32) -> Looked
     ensures { result ≡ looked_reply (look_up_of store.now key) }
 {
-    look_reply(store::look_up(store, key))
+    Looked::from(store::look_up(store, key))
 }
 
 #[unsafe(no_mangle)]
 pub extern "C" fn mewilovang_next(store: &[u32], key: u32) -> Nexted
     ensures { result ≡ nexted_reply (next_of store.now key) }
 {
-    next_reply(store::next(store, key))
+    Nexted::from(store::next(store, key))
 }
 
 #[unsafe(no_mangle)]
+#[tactic(auto, using(crate::proofs::Replying::stretch_replied))]
 pub extern "C" fn mewilovang_stretch(
     store: &[u32],
     first: u32,
@@ -347,25 +333,21 @@ pub extern "C" fn mewilovang_stretch(
     ensures { ◌≡◌ {A = StretchOutcome Stretched} (record { answer = result; keys = keys.new; pays = payloads.new })
         (stretched_outcome (stretch_of store.now first last keys.old payloads.old)) }
 {
-    stretch_reply(store::stretch(store, first, last, keys, payloads))
+    Stretched::from(store::stretch(store, first, last, keys, payloads))
 }
 
 #[unsafe(no_mangle)]
 pub extern "C" fn mewilovang_show(store: &[u32], level: u32, key: u32) -> Part
     ensures { result ≡ part_reply (show_part store.now level key) }
 {
-    let part = store::show_at(store, level, key);
-    Part {
-        start: part.start,
-        length: part.length,
-    }
+    Part::from(store::show_at(store, level, key))
 }
 
 #[unsafe(no_mangle)]
 pub extern "C" fn mewilovang_about(store: &[u32]) -> AboutStore
     ensures { result ≡ told_reply (about_of store.now) }
 {
-    told_reply(store::about(store))
+    AboutStore::from(store::about(store))
 }
 
 // What a put, or a delete, of a key is going to do: if it merges, and the reason if it is turned down.
@@ -373,14 +355,14 @@ pub extern "C" fn mewilovang_about(store: &[u32]) -> AboutStore
 pub extern "C" fn mewilovang_will_put_merge(store: &[u32], key: u32) -> Forecast
     ensures { result ≡ forecast_reply (will_put_merge_of store.now key) }
 {
-    forecast_reply(store::will_put_merge(store, key))
+    Forecast::from(store::will_put_merge(store, key))
 }
 
 #[unsafe(no_mangle)]
 pub extern "C" fn mewilovang_will_delete_merge(store: &[u32], key: u32) -> Forecast
     ensures { result ≡ forecast_reply (will_delete_merge_of store.now key) }
 {
-    forecast_reply(store::will_delete_merge(store, key))
+    Forecast::from(store::will_delete_merge(store, key))
 }
 
 #[unsafe(no_mangle)]

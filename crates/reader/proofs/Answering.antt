@@ -3,11 +3,12 @@ use Prim.Native.Nat.{ℕ, suc, ◌+◌, ◌≤◌, ◌<◌}
 use mathlib.Core.Path.{◌≡◌, refl, sym, ap, ◌∙◌, subst}
 use mathlib.Core.Bool.{Bool, true, false}
 use mathlib.Core.List.{List, [], map}
-use mathlib.Core.Option.{Option, none, some}
+use mathlib.Core.Option.{Option as Maybe, none, some}
 use mathlib.Core.Logic.{dite}
 use native.Mathlib.Decide.{dec_lt}
 use native.Mathlib.Omega.{arith}
 use lib.ListN.{length, take, drop}
+use Rattle.std.specs.Prelude.{Option, Some, None, Ok}
 use borrow.Author.Tests.{le-leb, lt-leb}
 use Rattle.geometry.specs.declared.Geometry.{Geometry}
 use Rattle.geometry.specs.Geometry.{key_limit_of, block_width, within}
@@ -21,12 +22,8 @@ use Rattle.words.proofs.About.{answer_with, about_read}
 use Rattle.chunks.specs.Chunks.{chunk_recs}
 use Rattle.directory.specs.declared.Directory.{Directory}
 use Rattle.directory.specs.Directory.{Formed, chunk_at, records_of}
-use Rattle.walk.specs.declared.Following.TheVariants.{At, Nothing}
 use Rattle.walk.specs.Walk.{following_of, layered}
-use Rattle.search.specs.declared.Found.{Found}
-use Rattle.search.specs.declared.Found.TheVariants as found
-use Rattle.search.specs.declared.Enclosed.{Enclosed}
-use Rattle.search.specs.declared.Enclosed.TheVariants as enclosed
+use Rattle.search.specs.declared.Held.{Held}
 use Rattle.search.specs.Search.{found_of, encloses, enclosed_from, enclosed_of}
 use Rattle.form.specs.Form.{top_of, level_of, levels_of}
 use Rattle.form.proofs.Parts.{words_from, Listed}
@@ -37,40 +34,35 @@ use Rattle.form.proofs.Ready.{ready_sized, ready_headed, ready_filled, ready_lis
 use Rattle.reader.specs.Answers.{looked_answer, looked_of, nexted_answer, facts_answer}
 use Rattle.reader.specs.Show.{empty_part, block_part, show_part_in}
 use Rattle.reader.specs.declared.Part.{Part}
-use Rattle.reader.specs.declared.Nexted.TheVariants as nexted
-use Rattle.layout.proofs.Laws.{place_inside}
+use Rattle.layout.proofs.Laws.{place_inside, fitted_spots}
 use Rattle.layout.specs.Layouts.{list_start, place_start}
 use Rattle.layout.specs.declared.Layout.{Layout}
 use Rattle.words.specs.Passed.{Passed}
 
 -- the answer of the first of two searches that has one
-abbrev pub or_found : Found → Found → Found
-or_found found.Absent b = b
-or_found (found.Here m v) b = found.Here m v
+abbrev pub or_found : Option Held → Option Held → Option Held
+or_found None b = b
+or_found (Some h) b = Some h
 
-found_or : (a b c d : Option Rec) → found_of (or_else a (or_else b (or_else c d))) ≡ or_found (found_of a) (or_found (found_of b) (or_found (found_of c) (found_of d)))
+found_or : (a b c d : Maybe Rec) → found_of (or_else a (or_else b (or_else c d))) ≡ or_found (found_of a) (or_found (found_of b) (or_found (found_of c) (found_of d)))
 found_or (some r) b c d = refl
 found_or none (some r) c d = refl
 found_or none none (some r) d = refl
 found_or none none none d = refl
 
 -- "a mark or no record is absent"
-pub look_present : (o : Option Rec) → looked_answer (looked_of (found_of o)) ≡ look_answer (present o)
+pub look_present : (o : Maybe Rec) → looked_answer (Ok (looked_of (found_of o))) ≡ look_answer (present o)
 look_present none = refl
 look_present (some r) = go r.tombstone
   where
-    go : (t : Bool) → looked_answer (looked_of (found.Here t r.pay)) ≡ look_answer (if t then none otherwise some r)
+    go : (t : Bool) → looked_answer (Ok (if t then None otherwise Some r.pay)) ≡ look_answer (if t then none otherwise some r)
     go true = refl
     go false = refl
 
 -- the walk's answer in document 01's numbers
-pub next_at : (o : Option Rec) (k v : ℕ) → At k v ≡ following_of o → nexted_answer (nexted.At k v) ≡ next_answer o
-next_at none k v e = absurd (let z : ◌≡◌ {A = ℕ} 0 1 = cc in omega arith)
-next_at (some r) k v e = let a : k ≡ r.key = cc in let b : v ≡ r.pay = cc in rw (a, b)
-
-pub next_nothing : (o : Option Rec) → Nothing ≡ following_of o → nexted_answer nexted.Nothing ≡ next_answer o
-next_nothing none e = refl
-next_nothing (some r) e = absurd (let z : ◌≡◌ {A = ℕ} 0 1 = cc in omega arith)
+pub next_followed : (o : Maybe Rec) → nexted_answer (Ok (following_of o)) ≡ next_answer o
+next_followed none = refl
+next_followed (some r) = refl
 
 module _ (ws : List ℕ) (z : Layout) (e : Passed z ws) where
   -- "the first level from 0 down that has k decides", by the four searches
@@ -103,7 +95,7 @@ unfolding show_part_in
 part_level z ws i k a b = rw (le-leb 1 i a, le-leb i z.geo.h b, show_part_in)
 
 -- its words are those that show gives
-words_of : (z : Layout) (ws : List ℕ) (o : Option Block) → take (block_part z o).length (drop (block_part z o).start ws) ≡ part_of z ws o
+words_of : (z : Layout) (ws : List ℕ) (o : Maybe Block) → take (block_part z o).length (drop (block_part z o).start ws) ≡ part_of z ws o
 unfolding part
 words_of z ws none = refl
 words_of z ws (some b) = refl
@@ -125,17 +117,17 @@ pub empty_inside : (ws : List ℕ) → Inside ws empty_part
 empty_inside ws = (omega arith, omega arith)
 
 -- the block at the place that entry j of a list names
-abbrev listed_block : Layout → List ℕ → ℕ → Enclosed → Option Block
-listed_block z ws start enclosed.Nowhere = none
-listed_block z ws start (enclosed.At j) = some (block_at z ws (word ws (start + j)))
+abbrev listed_block : Layout → List ℕ → ℕ → Option ℕ → Maybe Block
+listed_block z ws start None = none
+listed_block z ws start (Some j) = some (block_at z ws (word ws (start + j)))
 
 -- the chunk that is answered is one of those gone over
-enclosed_inside : (ws : List ℕ) (d : Directory) (k i n j : ℕ) → enclosed_from ws d k i n ≡ enclosed.At j → j < i + n
+enclosed_inside : (ws : List ℕ) (d : Directory) (k i n j : ℕ) → enclosed_from ws d k i n ≡ Some j → j < i + n
 unfolding enclosed_from
 enclosed_inside ws d k i ℕ.zero j e = absurd (let z : ◌≡◌ {A = ℕ} 0 1 = cc in omega arith)
 enclosed_inside ws d k i (suc n) j e = go (encloses k (chunk_recs ws (chunk_at ws d i))) e (λ q. enclosed_inside ws d k (suc i) n j q)
   where
-    go : (t : Bool) → (if t then enclosed.At i otherwise enclosed_from ws d k (suc i) n) ≡ enclosed.At j → (enclosed_from ws d k (suc i) n ≡ enclosed.At j → j < suc i + n) → j < i + suc n
+    go : (t : Bool) → (if t then Some i otherwise enclosed_from ws d k (suc i) n) ≡ Some j → (enclosed_from ws d k (suc i) n ≡ Some j → j < suc i + n) → j < i + suc n
     go true q ih = let w : i ≡ j = cc in omega arith
     go false q ih = omega (arith, ih q)
 
@@ -143,9 +135,9 @@ module _ (ws : List ℕ) (z : Layout) (e : Passed z ws) where
   -- every level from 1 on can be searched
   pub ready_level : (i : ℕ) → 1 ≤ i → i ≤ 3 → Formed (level_of z ws i) ws
   ready_level ℕ.zero a b = absurd (omega arith)
-  ready_level (suc ℕ.zero) a b = (ready_levels ws z e).formed1
-  ready_level (suc (suc ℕ.zero)) a b = (ready_levels ws z e).formed2
-  ready_level (suc (suc (suc ℕ.zero))) a b = (ready_levels ws z e).formed3
+  ready_level (suc ℕ.zero) a b = ready_levels ws z e 1 (top_of z ws) (omega arith)
+  ready_level (suc (suc ℕ.zero)) a b = ready_levels ws z e 2 (top_of z ws) (omega arith)
+  ready_level (suc (suc (suc ℕ.zero))) a b = ready_levels ws z e 3 (top_of z ws) (omega arith)
   ready_level (suc (suc (suc (suc i)))) a b = absurd (omega arith)
 
   module _ (i : ℕ) (a : 1 ≤ i) (b : i ≤ z.geo.h) where
@@ -163,8 +155,8 @@ module _ (ws : List ℕ) (z : Layout) (e : Passed z ws) where
         ap (λ (rs : List Rec). elim (encloses k rs) [ true ↦ some (block_at z ws p) | false ↦ enclosing k (map (block_at z ws) (words_from ws (suc (list_start z i + j)) n)) ]) (sym (chunk_recs_lem z ws i listed (filled_level z ws (ready_filled ws z e) i a b) j (omega arith)))
         ∙ go k j n (encloses k (chunk_recs ws (chunk_at ws (level_of z ws i) j))) (enclosing k (map (block_at z ws) (words_from ws (suc (list_start z i + j)) n))) (enclosed_from ws (level_of z ws i) k (suc j) n) ih
       where
-        go : (k j n : ℕ) (t : Bool) (o : Option Block) (r : Enclosed) → o ≡ listed_block z ws (list_start z i) r
-            → elim t [ true ↦ some (block_at z ws (word ws (list_start z i + j))) | false ↦ o ] ≡ listed_block z ws (list_start z i) (if t then enclosed.At j otherwise r)
+        go : (k j n : ℕ) (t : Bool) (o : Maybe Block) (r : Option ℕ) → o ≡ listed_block z ws (list_start z i) r
+            → elim t [ true ↦ some (block_at z ws (word ws (list_start z i + j))) | false ↦ o ] ≡ listed_block z ws (list_start z i) (if t then Some j otherwise r)
         go k j n true o r u = refl
         go k j n false o r u = u
 
@@ -175,14 +167,14 @@ module _ (ws : List ℕ) (z : Layout) (e : Passed z ws) where
         let s : list_start z i + 0 ≡ list_start z i = omega arith in
         rw (level_blocks z ws i listed) (rw s at (enclosing_from k 0 (count_at z ws i) (omega arith)))
 
-    part_found : (k : ℕ) (r : Enclosed) → enclosed_of ws (level_of z ws i) k ≡ r → block_part z (listed_block z ws (list_start z i) r) ≡ show_part_in z ws i k
+    part_found : (k : ℕ) (r : Option ℕ) → enclosed_of ws (level_of z ws i) k ≡ r → block_part z (listed_block z ws (list_start z i) r) ≡ show_part_in z ws i k
     part_found k r q = sym (part_level z ws i k a b ∙ ap (block_part z) (enclosing_is k ∙ ap (listed_block z ws (list_start z i)) q))
 
-    pub part_none : (k : ℕ) (d : Directory) → d ≡ level_of z ws i → enclosed.Nowhere ≡ enclosed_of ws d k → empty_part ≡ show_part_in z ws i k
-    part_none k d q h = part_found k enclosed.Nowhere (sym (rw q at h))
+    pub part_none : (k : ℕ) (d : Directory) → d ≡ level_of z ws i → None ≡ enclosed_of ws d k → empty_part ≡ show_part_in z ws i k
+    part_none k d q h = part_found k None (sym (rw q at h))
 
-    module _ (k : ℕ) (d : Directory) (q : d ≡ level_of z ws i) (j : ℕ) (h : enclosed.At j ≡ enclosed_of ws d k) where
-      hit : enclosed_of ws (level_of z ws i) k ≡ enclosed.At j
+    module _ (k : ℕ) (d : Directory) (q : d ≡ level_of z ws i) (j : ℕ) (h : Some j ≡ enclosed_of ws d k) where
+      hit : enclosed_of ws (level_of z ws i) k ≡ Some j
       hit = sym (rw q at h)
 
       -- the entry that names the block is in the list, and names a place
@@ -201,15 +193,15 @@ module _ (ws : List ℕ) (z : Layout) (e : Passed z ws) where
 
       pub part_at : record { start = place_start z (word ws (d.list + j)); length = block_width z.geo } ≡ show_part_in z ws i k
       unfolding block_at
-      part_at = rw shown_listed.0 (part_found k (enclosed.At j) hit)
+      part_at = rw shown_listed.0 (part_found k (Some j) hit)
 
     -- the part lies in the lent store, which is short
     part_inside_level : (k : ℕ) → Inside ws (show_part_in z ws i k)
     part_inside_level k = go (enclosed_of ws (level_of z ws i) k) refl
       where
-        go : (r : Enclosed) → enclosed_of ws (level_of z ws i) k ≡ r → Inside ws (show_part_in z ws i k)
-        go enclosed.Nowhere q = subst (Inside ws) (part_found k enclosed.Nowhere q) (empty_inside ws)
-        go (enclosed.At j) q =
+        go : (r : Option ℕ) → enclosed_of ws (level_of z ws i) k ≡ r → Inside ws (show_part_in z ws i k)
+        go None q = subst (Inside ws) (part_found k None q) (empty_inside ws)
+        go (Some j) q =
             let h = shown_end k (level_of z ws i) refl j (sym q) in
             subst (Inside ws) (part_at k (level_of z ws i) refl j (sym q)) (h, omega (arith, h, e.long, e.proper.short))
 
@@ -219,7 +211,11 @@ module _ (ws : List ℕ) (z : Layout) (e : Passed z ws) where
       (λ l. dite (dec_lt z.geo.h i) (λ m. subst (Inside ws) (part_high z ws i k (omega arith) m) (empty_inside ws))
       (λ m. part_inside_level i (omega arith) (omega arith) k))
 
--- About: what the size words of a store that passes say of it, and N
+-- About: where the words lie that it reads
+pub facts_spots : (ws : List ℕ) (z : Layout) → Passed z ws → (z.six + 5 < length ws) × ((z.live < length ws) × ((z.count + 3 < length ws) × (length ws ≤ 400000)))
+facts_spots ws z e = let f = fitted_spots z ws (ready_sized ws z e) in (omega (arith, f), (omega (arith, f), (omega (arith, f), omega (arith, f))))
+
+-- what the size words of a store that passes say of it, and N
 pub facts_told : (ws : List ℕ) (z : Layout) → Passed z ws → (n : ℕ) → n ≡ key_limit_of z.geo
     → let a = z.six in let c = z.count in
     facts_answer (record { b = word ws a; w = word ws (a + 1); d = word ws (a + 2); g = word ws (a + 3); h = word ws (a + 4); p = word ws (a + 5); live = word ws z.live; limit = n; top = word ws c; blocks1 = word ws (c + 1); blocks2 = word ws (c + 2); blocks3 = word ws (c + 3) }) ≡ about_in z.geo (store_at z ws)

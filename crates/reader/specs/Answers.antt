@@ -1,37 +1,31 @@
 -- Document 01's number and values for each case of an answer: "the answer has only the number and zeros" where a call is turned down.
-use Rattle.std.specs.Prelude.{true, false}
+use Rattle.std.specs.Prelude.{ℕ, true, false, Option, Some, None, Result, Ok, Err}
+use Rattle.geometry.specs.declared.Refusal.{Refusal}
+use Rattle.geometry.specs.Refusals.{number_of}
+use Rattle.levels.specs.Basics.{if◌then◌otherwise◌}
 use Rattle.words.specs.Calls.{LookAnswer, NextAnswer, StretchAnswer, AboutAnswer, about_refused}
-use Rattle.search.specs.declared.Found.{Found}
-use Rattle.search.specs.declared.Found.TheVariants as found
-use Rattle.reader.specs.declared.Looked.{Looked}
-use Rattle.reader.specs.declared.Looked.TheVariants as looked
-use Rattle.reader.specs.declared.Nexted.{Nexted}
-use Rattle.reader.specs.declared.Nexted.TheVariants as nexted
-use Rattle.reader.specs.declared.Stretched.{Stretched}
-use Rattle.reader.specs.declared.Stretched.TheVariants as stretched
+use Rattle.search.specs.declared.Held.{Held}
+use Rattle.walk.specs.declared.Listed.{Listed}
 use Rattle.reader.specs.declared.Facts.{Facts}
-use Rattle.reader.specs.declared.Told.{Told}
-use Rattle.reader.specs.declared.Told.TheVariants as told
 
-abbrev pub looked_answer : Looked → LookAnswer
-looked_answer (looked.Found v) = record { reason = 0; found = true; pay = v }
-looked_answer looked.Absent = record { reason = 0; found = false; pay = 0 }
-looked_answer (looked.Refused n) = record { reason = n; found = false; pay = 0 }
+abbrev pub looked_answer : Result (Option ℕ) Refusal → LookAnswer
+looked_answer (Ok (Some v)) = record { reason = 0; found = true; pay = v }
+looked_answer (Ok None) = record { reason = 0; found = false; pay = 0 }
+looked_answer (Err r) = record { reason = number_of r; found = false; pay = 0 }
 
-abbrev pub nexted_answer : Nexted → NextAnswer
-nexted_answer (nexted.At k v) = record { reason = 0; found = true; key = k; pay = v }
-nexted_answer nexted.Nothing = record { reason = 0; found = false; key = 0; pay = 0 }
-nexted_answer (nexted.Refused n) = record { reason = n; found = false; key = 0; pay = 0 }
+abbrev pub nexted_answer : Result (Option (ℕ × ℕ)) Refusal → NextAnswer
+nexted_answer (Ok (Some (k, v))) = record { reason = 0; found = true; key = k; pay = v }
+nexted_answer (Ok None) = record { reason = 0; found = false; key = 0; pay = 0 }
+nexted_answer (Err r) = record { reason = number_of r; found = false; key = 0; pay = 0 }
 
-abbrev pub stretch_answer : Stretched → StretchAnswer
-stretch_answer (stretched.Written n more) = record { reason = 0; written = n; more = more }
-stretch_answer (stretched.Refused n) = record { reason = n; written = 0; more = false }
+abbrev pub stretch_answer : Result Listed Refusal → StretchAnswer
+stretch_answer (Ok l) = record { reason = 0; written = l.written; more = l.more }
+stretch_answer (Err r) = record { reason = number_of r; written = 0; more = false }
 
 -- "a mark or no record is absent"
-abbrev pub looked_of : Found → Looked
-looked_of found.Absent = looked.Absent
-looked_of (found.Here true v) = looked.Absent
-looked_of (found.Here false v) = looked.Found v
+abbrev pub looked_of : Option Held → Option ℕ
+looked_of None = None
+looked_of (Some h) = if h.mark then None otherwise Some h.pay
 
 -- "the six numbers, live, N, the records in level 0 and the blocks of each level"
 abbrev pub facts_answer : Facts → AboutAnswer
@@ -51,6 +45,6 @@ facts_answer f = record {
   blocks3 = f.blocks3;
 }
 
-abbrev pub told_answer : Told → AboutAnswer
-told_answer (told.Known f) = facts_answer f
-told_answer (told.Refused n) = about_refused n
+abbrev pub told_answer : Result Facts Refusal → AboutAnswer
+told_answer (Ok f) = facts_answer f
+told_answer (Err r) = about_refused (number_of r)

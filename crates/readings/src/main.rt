@@ -17,9 +17,7 @@
 
 ghost use Rattle.std.specs.Prelude.{◌≤◌, length};
 
-use reader::{Looked, Nexted};
 use std::io::{Read, Write};
-use store::Formatted;
 
 // The longest store, in words.
 const ROOM: usize = 4096;
@@ -31,33 +29,20 @@ const COMMANDS: u32 = 1000000;
 fn word(input: &mut impl Read) -> u32 {
     let mut bytes = [0u8; 4];
     let _ = input.read_exact(&mut bytes);
-    joined(&bytes)
+    u32::from_le_bytes(bytes)
 }
 
-// Four bytes as a word.
-fn joined(bytes: &[u8]) -> u32
-    requires { 4 ≤ length bytes.now }
-{
-    let high = bytes[3] as u32 * 256 + bytes[2] as u32;
-    let low = bytes[1] as u32 * 256 + bytes[0] as u32;
-    high * 65536 + low
-}
-
-// A word as a number that is at most this.
-fn bounded(value: u32, most: usize) -> usize
+// The next word as a number that is at most this.
+fn bounded(input: &mut impl Read, most: usize) -> usize
     ensures { result ≤ most }
 {
-    let n = value as usize;
-    if n < most {
-        return n;
-    }
-    most
+    most.min(word(input) as usize)
 }
 
 // All words of a part from the input.
 fn fill(input: &mut impl Read, s: &mut [u32]) {
-    for i in 0..s.len() {
-        s[i] = word(input);
+    for x in s.iter_mut() {
+        *x = word(input);
     }
 }
 
@@ -65,9 +50,9 @@ fn fill(input: &mut impl Read, s: &mut [u32]) {
 fn load(input: &mut impl Read, s: &mut [u32]) -> usize
     ensures { result ≤ length s.old }
 {
-    let n = bounded(word(input), s.len());
-    let start = bounded(word(input), n);
-    let count = bounded(word(input), n - start);
+    let n = bounded(input, s.len());
+    let start = bounded(input, n);
+    let count = bounded(input, n - start);
     fill(input, &mut s[start..start + count]);
     n
 }
@@ -84,62 +69,63 @@ fn print(output: &mut impl Write, letter: u8, numbers: &[u32]) {
 // A number that every word, their order and their count matter to.
 fn checksum(s: &[u32]) -> u32 {
     let mut sum: u64 = 1;
-    for i in 0..s.len() {
-        sum = (sum * 31 + s[i] as u64) % 4294967291;
+    for &word in s {
+        sum = (sum * 31 + u64::from(word)) % 4294967291;
     }
     sum as u32
 }
 
-// Command g, and n and f below: an answer's number and values in a line.
+// Command c, and g, n and f below: an answer's number and values in a line.
+fn check(output: &mut impl Write, s: &[u32]) {
+    let reason = match store::check(s) {
+        Ok(()) => 0,
+        Err(r) => u32::from(r),
+    };
+    print(output, b'c', &[reason]);
+}
+
 fn look_up(output: &mut impl Write, s: &[u32], key: u32) {
-    match store::look_up(s, key) {
-        Looked::Found(payload) => print(output, b'g', &[0, 1, payload]),
-        Looked::Absent => print(output, b'g', &[0, 0, 0]),
-        Looked::Refused(n) => print(output, b'g', &[n, 0, 0]),
-    }
+    let numbers = match store::look_up(s, key) {
+        Ok(Some(payload)) => [0, 1, payload],
+        Ok(None) => [0, 0, 0],
+        Err(r) => [u32::from(r), 0, 0],
+    };
+    print(output, b'g', &numbers);
 }
 
 fn next(output: &mut impl Write, s: &[u32], key: u32) {
-    match store::next(s, key) {
-        Nexted::At(at, payload) => print(output, b'n', &[0, 1, at, payload]),
-        Nexted::Nothing => print(output, b'n', &[0, 0, 0, 0]),
-        Nexted::Refused(n) => print(output, b'n', &[n, 0, 0, 0]),
-    }
+    let numbers = match store::next(s, key) {
+        Ok(Some((at, payload))) => [0, 1, at, payload],
+        Ok(None) => [0, 0, 0, 0],
+        Err(r) => [u32::from(r), 0, 0, 0],
+    };
+    print(output, b'n', &numbers);
 }
 
 fn format(input: &mut impl Read, output: &mut impl Write, s: &mut [u32]) {
-    let b = word(input);
-    let w = word(input);
-    let d = word(input);
-    let g = word(input);
-    let h = word(input);
-    let p = word(input);
-    match store::format(s, b, w, d, g, h, p) {
-        Formatted::Done(limit) => print(output, b'f', &[0, limit]),
-        Formatted::Refused(n) => print(output, b'f', &[n, 0]),
-    }
+    let mut six = [0u32; 6];
+    fill(input, &mut six);
+    let [b, w, d, g, h, p] = six;
+    let numbers = match store::format(s, b, w, d, g, h, p) {
+        Ok(limit) => [0, limit],
+        Err(r) => [u32::from(r), 0],
+    };
+    print(output, b'f', &numbers);
 }
 
 // Any command but l.
-fn answer(input: &mut impl Read, output: &mut impl Write, s: &mut [u32], command: u32) {
-    if command == b'c' as u32 {
-        return print(output, b'c', &[store::check(s)]);
-    }
-    if command == b'g' as u32 {
-        return look_up(output, s, word(input));
-    }
-    if command == b'n' as u32 {
-        return next(output, s, word(input));
-    }
-    if command == b's' as u32 {
-        let level = word(input);
-        return print(output, b's', store::show(s, level, word(input)));
-    }
-    if command == b'f' as u32 {
-        return format(input, output, s);
-    }
-    if command == b'w' as u32 {
-        print(output, b'w', &[checksum(s)]);
+fn answer(input: &mut impl Read, output: &mut impl Write, s: &mut [u32], letter: u8) {
+    match letter {
+        b'c' => check(output, s),
+        b'g' => look_up(output, s, word(input)),
+        b'n' => next(output, s, word(input)),
+        b's' => {
+            let level = word(input);
+            print(output, b's', store::show(s, level, word(input)));
+        }
+        b'f' => format(input, output, s),
+        b'w' => print(output, b'w', &[checksum(s)]),
+        _ => (),
     }
 }
 
@@ -154,11 +140,14 @@ fn perform(
     requires { n ≤ length s.old }
     ensures { result ≤ length s.old }
 {
-    if command == b'l' as u32 {
-        return load(input, s);
+    match u8::try_from(command) {
+        Ok(b'l') => load(input, s),
+        Ok(letter) => {
+            answer(input, output, &mut s[..n], letter);
+            n
+        }
+        Err(_) => n,
     }
-    answer(input, output, &mut s[0..n], command);
-    n
 }
 
 fn main(rt: HostRuntime) {

@@ -25,7 +25,9 @@ use Rattle.words.specs.Calls.{Outcome, ChangeAnswer, change_answer, change_outco
 use Rattle.words.specs.Passed.{Passed}
 use Rattle.words.proofs.Reason.{reason_passed}
 use Rattle.words.proofs.Steps.{put_of_lem, delete_of_lem}
-use Rattle.writer.specs.declared.Changed.{Changed}
+use Rattle.std.specs.Prelude.{Result}
+use Rattle.geometry.specs.declared.Refusal.{Refusal}
+use Rattle.writer.specs.declared.Change as writer
 use Rattle.writer.specs.Answers.{changed_answer}
 use Rattle.store.specs.Change.{SumsFit, PutDone, DeleteDone}
 use Rattle.layout.specs.Layouts.{Proper}
@@ -117,8 +119,8 @@ module _ (ws : List ℕ) where
       go (no n) = rw (ne_eqb (reason_of ws) 0 n, delete_of) (none_fit (reason_of ws))
 
 -- the sums of what put and delete have answered
-pub put_fit : (ws : List ℕ) (k v : ℕ) (r : Changed) (out : List ℕ) → PutDone ws k v r out → SumsFit (changed_answer r)
+pub put_fit : (ws : List ℕ) (k v : ℕ) (r : Result writer.Change Refusal) (out : List ℕ) → PutDone ws k v r out → SumsFit (changed_answer r)
 put_fit ws k v r out d = subst (λ (x : Outcome ChangeAnswer). SumsFit x.answer) (sym d.outcome) (put_sums ws k v)
 
-pub delete_fit : (ws : List ℕ) (k : ℕ) (r : Changed) (out : List ℕ) → DeleteDone ws k r out → SumsFit (changed_answer r)
+pub delete_fit : (ws : List ℕ) (k : ℕ) (r : Result writer.Change Refusal) (out : List ℕ) → DeleteDone ws k r out → SumsFit (changed_answer r)
 delete_fit ws k r out d = subst (λ (x : Outcome ChangeAnswer). SumsFit x.answer) (sym d.outcome) (delete_sums ws k)

@@ -1,5 +1,5 @@
 -- Put and delete: what their contracts say.
-use Rattle.std.specs.Prelude.{ℕ, ◌+◌, ◌<◌, ◌≡◌, List, ◌≢◌, length}
+use Rattle.std.specs.Prelude.{ℕ, ◌+◌, ◌<◌, ◌≡◌, List, ◌≢◌, length, Result}
 use Rattle.std.proofs.Math.Option.{none}
 use Rattle.geometry.specs.Geometry.{key_limit_of}
 use Rattle.levels.specs.Map.{find}
@@ -8,11 +8,12 @@ use Rattle.words.specs.Stores.{geometry_at, store_at, layout_at}
 use Rattle.words.specs.Form.{reason_of}
 use Rattle.words.specs.Calls.{Outcome, ChangeAnswer, map_at, put_of, delete_of, forecast_in, will_put_merge_of, will_delete_merge_of}
 use Rattle.words.specs.Demand.{Demand, own_put, own_delete}
-use Rattle.writer.specs.declared.Changed.{Changed}
+use Rattle.geometry.specs.declared.Refusal.{Refusal}
+use Rattle.writer.specs.declared.Change.{Change}
 use Rattle.writer.specs.Answers.{changed_answer}
 
 -- What a put of k, v on the words ws, all words and all arguments, has answered and left.
-pub record PutDone (ws : List ℕ) (k v : ℕ) (r : Changed) (out : List ℕ) : Type 0 where
+pub record PutDone (ws : List ℕ) (k v : ℕ) (r : Result Change Refusal) (out : List ℕ) : Type 0 where
   -- the answer and, word for word, the lent store of document 01's put, refusals with them
   pub outcome : ◌≡◌ {A = Outcome ChangeAnswer} (record { answer = changed_answer r; words = out }) (put_of ws k v)
   -- demand 2, "a finite map fed with the same accepted puts and deletes": an accepted put enters its record
@@ -30,7 +31,7 @@ pub record PutDone (ws : List ℕ) (k v : ℕ) (r : Changed) (out : List ℕ) : 
       → let z = layout_at ws in let s = store_at z ws in Demand z ws (own_put z.geo s k v) (merges_of (put z.geo s k v)) (changed_answer r) out
 
 -- and a delete of k
-pub record DeleteDone (ws : List ℕ) (k : ℕ) (r : Changed) (out : List ℕ) : Type 0 where
+pub record DeleteDone (ws : List ℕ) (k : ℕ) (r : Result Change Refusal) (out : List ℕ) : Type 0 where
   pub outcome : ◌≡◌ {A = Outcome ChangeAnswer} (record { answer = changed_answer r; words = out }) (delete_of ws k)
   -- demand 2: an accepted delete takes its key out of the map
   pub map : reason_of ws ≡ 0 → (changed_answer r).reason ≡ 0 → map_at out ≡ without k (map_at ws)

@@ -329,14 +329,10 @@ impl Desk {
         let st = self.st;
         let px = st.x;
         let py = st.y;
-        let xe = t.x;
-        let ye = t.y;
-        let pages = t.pages;
         let bottom = t.bottom;
-        let x = sides::peek(s, z, pages, xs, px.i, px.j, xe);
-        let y = sides::peek(s, z, false, ys, py.i, py.j, ye);
-        let m = st.m;
-        let e = sides::last_size(s, z, &self.out, m);
+        let x = sides::peek(s, z, t.pages, xs, px.i, px.j, t.x);
+        let y = sides::peek(s, z, false, ys, py.i, py.j, t.y);
+        let e = sides::last_size(s, z, &self.out, st.m);
         let Some(next) = choose(s, z, bottom, st, x, y, e) else {
             return;
         };

@@ -1,4 +1,2 @@
-pub mod Again
 pub mod Gathering
 pub mod Handing
-pub mod Passed

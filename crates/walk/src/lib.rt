@@ -18,6 +18,14 @@ use directory::Directory;
 // Above every key: the next key of a level that is used up.
 const END: usize = 4294967296;
 
+// No record left of a chunk.
+const NONE: Chunk = Chunk {
+    marks: 0,
+    keys: 0,
+    pays: 0,
+    count: 0,
+};
+
 // Four levels, the upper ones first.
 pub type Levels = [Directory; 4];
 
@@ -40,68 +48,57 @@ struct Front {
 // How many records of a stretch were written, and whether more of it follow.
 #[derive(Clone, Copy)]
 pub struct Listed {
-    pub written: usize,
+    pub written: u32,
     pub more: bool,
 }
 
-// A level from chunk `next` on.
-fn refill(s: &[u32], dir: Directory, next: usize) -> Cursor
-    requires { Formed dir s.now × (next ≤ dir.chunks) }
-    ensures { Good s.now result × (rest s.now result ≡ records_from s.now dir next (dir.chunks - next)) }
+// A level from its chunk `next` on.
+fn refill(s: &[u32], cur: &mut Cursor)
+    requires { Formed cur.old.dir s.now × (cur.old.next ≤ cur.old.dir.chunks) }
+    ensures { Good s.now cur.new × (rest s.now cur.new ≡ records_from s.now cur.old.dir cur.old.next (cur.old.dir.chunks - cur.old.next)) }
 {
-    if next < dir.chunks {
-        let chunk = directory::chunk_at(s, dir, next);
-        return Cursor {
-            dir: dir,
-            next: next + 1,
-            chunk: chunk,
-            key: s[chunk.keys] as usize,
-        };
+    let next = cur.next;
+    if next < cur.dir.chunks {
+        let chunk = directory::chunk_at(s, cur.dir, next);
+        cur.next = next + 1;
+        cur.chunk = chunk;
+        cur.key = s[chunk.keys] as usize;
+        return;
     }
-    let none = Chunk {
-        marks: 0,
-        keys: 0,
-        pays: 0,
-        count: 0,
-    };
-    Cursor {
-        dir: dir,
-        next: next,
-        chunk: none,
-        key: END,
-    }
+    cur.chunk = NONE;
+    cur.key = END;
 }
 
-// A level past its next record.
-fn advance(s: &[u32], cur: Cursor) -> Cursor
-    requires { Good s.now cur × (cur.key < 4294967296) }
-    ensures { Good s.now result × (rest s.now cur ≡ head_of s.now cur.chunk ∷ rest s.now result) }
+// A level past its next record. Where it is called a cursor stays in registers only if this is inlined, and it is just too large
+// for the compiler to do that by itself.
+#[inline(always)]
+fn advance(s: &[u32], cur: &mut Cursor)
+    requires { Good s.now cur.old × (cur.old.key < 4294967296) }
+    ensures { Good s.now cur.new × (rest s.now cur.old ≡ head_of s.now cur.old.chunk ∷ rest s.now cur.new) }
 {
     let chunk = cur.chunk;
     if chunk.count <= 1 {
-        return refill(s, cur.dir, cur.next);
+        refill(s, cur);
+        return;
     }
-    let left = Chunk {
+    let keys = chunk.keys + 1;
+    cur.chunk = Chunk {
         marks: chunk.marks / 2,
-        keys: chunk.keys + 1,
+        keys: keys,
         pays: chunk.pays + 1,
         count: chunk.count - 1,
     };
-    Cursor {
-        dir: cur.dir,
-        next: cur.next,
-        chunk: left,
-        key: s[left.keys] as usize,
-    }
+    cur.key = s[keys] as usize;
 }
 
-// Past the next record, where its key is k.
+// Past the next record, where its key is k: inlined for the same reason.
+#[inline(always)]
 fn step(s: &[u32], cur: &mut Cursor, k: usize)
     requires { Good s.now cur.old × (k < 4294967296) }
     ensures { Good s.now cur.new × (rest s.now cur.new ≡ past k (rest s.now cur.old)) }
 {
     if cur.key == k {
-        *cur = advance(s, *cur);
+        advance(s, cur);
     }
 }
 
@@ -146,27 +143,32 @@ fn cursor_from(s: &[u32], dir: Directory, q: usize) -> Cursor
     requires { Formed dir s.now × (q ≤ 4294967296) }
     ensures { FromKey s.now dir q result }
 {
+    let mut cur = Cursor {
+        dir: dir,
+        next: 0,
+        chunk: NONE,
+        key: END,
+    };
     if dir.chunks < 1 {
-        return refill(s, dir, 0);
+        return cur;
     }
     let i = search::seek_chunk(s, dir, q);
     let chunk = directory::chunk_at(s, dir, i);
     let slot = slices::count_below(s, chunk.keys, chunk.count, q);
+    cur.next = i + 1;
     if chunk.count <= slot {
-        return refill(s, dir, i + 1);
+        refill(s, &mut cur);
+        return cur;
     }
-    let left = Chunk {
+    let keys = chunk.keys + slot;
+    cur.chunk = Chunk {
         marks: chunk.marks >> slot as u32,
-        keys: chunk.keys + slot,
+        keys: keys,
         pays: chunk.pays + slot,
         count: chunk.count - slot,
     };
-    Cursor {
-        dir: dir,
-        next: i + 1,
-        chunk: left,
-        key: s[left.keys] as usize,
-    }
+    cur.key = s[keys] as usize;
+    cur
 }
 
 // The old value for a tombstone, else the new one.
@@ -222,7 +224,7 @@ fn copy_below(
     let mut live = n;
     while (at.key < bound) & (live < room) {
         live = list_one(s, at.chunk, at.key, keys, pays, live);
-        at = advance(s, at);
+        advance(s, &mut at);
     }
     *cur = at;
     live
@@ -322,7 +324,7 @@ pub fn list_stretch(
     let from = enter(s, deepest_last(levels), first);
     let n = walk_on(s, from, last + 1, room, keys, pays);
     Listed {
-        written: n.min(room),
+        written: n.min(room) as u32,
         more: room < n,
     }
 }

@@ -3,7 +3,8 @@ use Prim.Native.Nat.{ℕ, suc, ◌+◌, ◌-◌, ◌≤◌}
 use mathlib.Core.Path.{◌≡◌, refl, sym, ap, ◌∙◌, subst}
 use mathlib.Core.Bool.{Bool, true, false, not}
 use mathlib.Core.List.{List, []}
-use mathlib.Core.Option.{Option, none, some}
+use mathlib.Core.Option.{Option as Maybe, none, some}
+use Rattle.std.specs.Prelude.{Option, Result, Ok, Err}
 use mathlib.Core.Logic.{◌≢◌}
 use native.Mathlib.Omega.{arith}
 use borrow.Author.Tests.{eq-eqb, ne_eqb}
@@ -19,11 +20,12 @@ use Rattle.levels.proofs.PutDelete.{enter_is, put_live, put_full, put_new, delet
 use Rattle.words.specs.Stores.{live_at, store_at}
 use Rattle.words.proofs.Rows.{Filed, filed_none, filed_by}
 use Rattle.words.specs.Calls.{Outcome, ChangeAnswer, change_outcome, merges_counted}
-use Rattle.search.specs.declared.Found.{Found}
+use Rattle.search.specs.declared.Held.{Held}
 use Rattle.search.specs.Search.{found_of}
-use Rattle.steps.specs.declared.Tally.{Tally}
-use Rattle.writer.specs.declared.Changed.{Changed}
-use Rattle.writer.specs.declared.Changed.TheVariants as changed
+use Rattle.steps.specs.Running.{Tally, counts_in}
+use Rattle.geometry.specs.declared.Refusal.{Refusal}
+use Rattle.geometry.specs.declared.Refusal.TheVariants.{Full}
+use Rattle.geometry.specs.Refusals.{number_of}
 use Rattle.writer.specs.declared.Change as writer
 use Rattle.writer.specs.Answers.{changed_answer}
 use Rattle.writer.specs.Change.{live_found, Counted, Entered}
@@ -38,11 +40,11 @@ live_found_lem k ls = go (decides k ls)
     pick r true = refl
     pick r false = refl
 
-    go : (o : Option Rec) → is_some (present o) ≡ live_found (found_of o)
+    go : (o : Maybe Rec) → is_some (present o) ≡ live_found (found_of o)
     go none = refl
     go (some r) = pick r r.tombstone
 
-pub live_is : (k : ℕ) (ls : List (List Rec)) (f : Found) (was t : Bool) → f ≡ found_of (decides k ls) → was ≡ live_found f → was ≡ t → is_live k ls ≡ t
+pub live_is : (k : ℕ) (ls : List (List Rec)) (f : Option Held) (was t : Bool) → f ≡ found_of (decides k ls) → was ≡ live_found f → was ≡ t → is_live k ls ≡ t
 live_is k ls f was t e w h = live_found_lem k ls ∙ ap live_found (sym e) ∙ sym w ∙ h
 
 -- an answer and words, part by part
@@ -52,18 +54,18 @@ same_outcome was a b c x y z o w p q r s = rw (p, q, r, s)
 
 -- a record entered is the change of the definition
 pub enter_outcome : (z : Layout) (ws : List ℕ) (r : Rec) (was : Bool) (live : ℕ) (t : Tally) (out : List ℕ) → Entered z ws r live t out
-    → ◌≡◌ {A = Outcome ChangeAnswer} (record { answer = changed_answer (changed.Done (record { live = was; tally = t })); words = out }) (change_outcome z ws (enter z.geo (store_at z ws) r was live))
+    → ◌≡◌ {A = Outcome ChangeAnswer} (record { answer = changed_answer (Ok (record { live = was; tally = t })); words = out }) (change_outcome z ws (enter z.geo (store_at z ws) r was live))
 unfolding change_outcome
 enter_outcome z ws r was live t out e =
     same_outcome was _ _ _ _ _ _ _ _ e.counts.one e.counts.two e.counts.three e.words
     ∙ ap (change_outcome z ws) (sym (enter_is z.geo (store_at z ws) r was live))
 
 -- a call that changes nothing
-pub refused_outcome : (z : Layout) (ws : List ℕ) (n : ℕ) → ◌≡◌ {A = Outcome ChangeAnswer} (record { answer = changed_answer (changed.Refused n); words = ws }) (change_outcome z ws (refused n))
+pub refused_outcome : (z : Layout) (ws : List ℕ) (r : Refusal) → ◌≡◌ {A = Outcome ChangeAnswer} (record { answer = changed_answer (Err r); words = ws }) (change_outcome z ws (refused (number_of r)))
 unfolding change_outcome counts_of
-refused_outcome z ws n = refl
+refused_outcome z ws r = refl
 
-pub absent_outcome : (z : Layout) (ws : List ℕ) (t : Tally) → Counted t [] → ◌≡◌ {A = Outcome ChangeAnswer} (record { answer = changed_answer (changed.Done (record { live = false; tally = t })); words = ws }) (change_outcome z ws absent)
+pub absent_outcome : (z : Layout) (ws : List ℕ) (t : Tally) → Counted t [] → ◌≡◌ {A = Outcome ChangeAnswer} (record { answer = changed_answer (Ok (record { live = false; tally = t })); words = ws }) (change_outcome z ws absent)
 unfolding change_outcome
 absent_outcome z ws t n = same_outcome false _ _ _ _ _ _ ws ws n.one n.two n.three refl
 
@@ -75,14 +77,14 @@ enter_filed z s r was live c rows rows' e f = filed_by _ _ rows rows' (ap (λ (d
 -- The cases of put and delete, of a store that passes.
 module _ (z : Layout) (ws : List ℕ) (k : ℕ) (rows0 : List (List ℕ)) where
   pub put_turned : (v : ℕ) → is_live k (rows (store_at z ws)) ≡ false → live_at z ws ≡ key_limit_of z.geo
-      → ◌≡◌ {A = Outcome ChangeAnswer} (record { answer = changed_answer (changed.Refused 5); words = ws }) (change_outcome z ws (put z.geo (store_at z ws) k v)) × Filed (tickets_of z.geo (merges_of (put z.geo (store_at z ws) k v))) rows0 rows0
+      → ◌≡◌ {A = Outcome ChangeAnswer} (record { answer = changed_answer (Err Full); words = ws }) (change_outcome z ws (put z.geo (store_at z ws) k v)) × Filed (tickets_of z.geo (merges_of (put z.geo (store_at z ws) k v))) rows0 rows0
   unfolding store_at merges_of
   put_turned v h l =
       let q = put_full z.geo (store_at z ws) k v h (eq-eqb (live_at z ws) (key_limit_of z.geo) l) in
-      (refused_outcome z ws 5 ∙ ap (change_outcome z ws) (sym q), filed_none _ rows0 (ap (λ (c : Change). tickets_of z.geo (merges_of c)) q))
+      (refused_outcome z ws Full ∙ ap (change_outcome z ws) (sym q), filed_none _ rows0 (ap (λ (c : Change). tickets_of z.geo (merges_of c)) q))
 
   pub delete_none : (t : Tally) → is_live k (rows (store_at z ws)) ≡ false → Counted t []
-      → ◌≡◌ {A = Outcome ChangeAnswer} (record { answer = changed_answer (changed.Done (record { live = false; tally = t })); words = ws }) (change_outcome z ws (delete z.geo (store_at z ws) k)) × Filed (tickets_of z.geo (merges_of (delete z.geo (store_at z ws) k))) rows0 rows0
+      → ◌≡◌ {A = Outcome ChangeAnswer} (record { answer = changed_answer (Ok (record { live = false; tally = t })); words = ws }) (change_outcome z ws (delete z.geo (store_at z ws) k)) × Filed (tickets_of z.geo (merges_of (delete z.geo (store_at z ws) k))) rows0 rows0
   unfolding merges_of
   delete_none t h n =
       let q = delete_absent z.geo (store_at z ws) k h in
@@ -90,14 +92,14 @@ module _ (z : Layout) (ws : List ℕ) (k : ℕ) (rows0 : List (List ℕ)) where
 
   module _ (rows1 : List (List ℕ)) where
     pub put_over : (v : ℕ) (t : Tally) (out : List ℕ) → is_live k (rows (store_at z ws)) ≡ true → Entered z ws (put_rec k v) (live_at z ws) t out × Filed (tickets_of z.geo (merges_for z.geo (store_at z ws) k)) rows0 rows1
-        → ◌≡◌ {A = Outcome ChangeAnswer} (record { answer = changed_answer (changed.Done (record { live = true; tally = t })); words = out }) (change_outcome z ws (put z.geo (store_at z ws) k v)) × Filed (tickets_of z.geo (merges_of (put z.geo (store_at z ws) k v))) rows0 rows1
+        → ◌≡◌ {A = Outcome ChangeAnswer} (record { answer = changed_answer (Ok (record { live = true; tally = t })); words = out }) (change_outcome z ws (put z.geo (store_at z ws) k v)) × Filed (tickets_of z.geo (merges_of (put z.geo (store_at z ws) k v))) rows0 rows1
     unfolding store_at
     put_over v t out h e =
         let q = put_live z.geo (store_at z ws) k v h in
         (enter_outcome z ws (put_rec k v) true (live_at z ws) t out e.0 ∙ ap (change_outcome z ws) (sym q), enter_filed z (store_at z ws) (put_rec k v) true (live_at z ws) _ rows0 rows1 q e.1)
 
     pub put_added : (v : ℕ) (t : Tally) (out : List ℕ) → is_live k (rows (store_at z ws)) ≡ false → live_at z ws ≢ key_limit_of z.geo → Entered z ws (put_rec k v) (live_at z ws + 1) t out × Filed (tickets_of z.geo (merges_for z.geo (store_at z ws) k)) rows0 rows1
-        → ◌≡◌ {A = Outcome ChangeAnswer} (record { answer = changed_answer (changed.Done (record { live = false; tally = t })); words = out }) (change_outcome z ws (put z.geo (store_at z ws) k v)) × Filed (tickets_of z.geo (merges_of (put z.geo (store_at z ws) k v))) rows0 rows1
+        → ◌≡◌ {A = Outcome ChangeAnswer} (record { answer = changed_answer (Ok (record { live = false; tally = t })); words = out }) (change_outcome z ws (put z.geo (store_at z ws) k v)) × Filed (tickets_of z.geo (merges_of (put z.geo (store_at z ws) k v))) rows0 rows1
     unfolding store_at
     put_added v t out h l e =
         let n : live_at z ws + 1 ≡ suc (live_at z ws) = omega arith in
@@ -107,12 +109,12 @@ module _ (z : Layout) (ws : List ℕ) (k : ℕ) (rows0 : List (List ℕ)) where
         )
 
     pub delete_over : (t : Tally) (out : List ℕ) → is_live k (rows (store_at z ws)) ≡ true → Entered z ws (delete_rec k) (live_at z ws - 1) t out × Filed (tickets_of z.geo (merges_for z.geo (store_at z ws) k)) rows0 rows1
-        → ◌≡◌ {A = Outcome ChangeAnswer} (record { answer = changed_answer (changed.Done (record { live = true; tally = t })); words = out }) (change_outcome z ws (delete z.geo (store_at z ws) k)) × Filed (tickets_of z.geo (merges_of (delete z.geo (store_at z ws) k))) rows0 rows1
+        → ◌≡◌ {A = Outcome ChangeAnswer} (record { answer = changed_answer (Ok (record { live = true; tally = t })); words = out }) (change_outcome z ws (delete z.geo (store_at z ws) k)) × Filed (tickets_of z.geo (merges_of (delete z.geo (store_at z ws) k))) rows0 rows1
     unfolding store_at
     delete_over t out h e =
         let q = delete_live z.geo (store_at z ws) k h in
         (enter_outcome z ws (delete_rec k) true (live_at z ws - 1) t out e.0 ∙ ap (change_outcome z ws) (sym q), enter_filed z (store_at z ws) (delete_rec k) true (live_at z ws - 1) _ rows0 rows1 q e.1)
 
 -- the merges that an answer counts are few
-pub done_few : (c : Changed) (d : writer.Change) → c ≡ changed.Done d → merges_counted (changed_answer c) ≤ 512 → d.tally.one.merges + d.tally.two.merges + d.tally.three.merges ≤ 512
-done_few c d e h = subst (λ (x : Changed). merges_counted (changed_answer x) ≤ 512) e h
+pub done_few : (c : Result writer.Change Refusal) (d : writer.Change) → c ≡ Ok d → merges_counted (changed_answer c) ≤ 512 → merges_counted (changed_answer (Ok d)) ≤ 512
+done_few c d e h = subst (λ (x : Result writer.Change Refusal). merges_counted (changed_answer x) ≤ 512) e h

@@ -8,8 +8,8 @@ use native.Mathlib.Omega.{arith}
 use lib.Dec.{ltb}
 use lib.ListN.{length, set}
 use borrow.Author.Tests.{lt-ltb, ltb-true}
-use Rattle.slices.specs.declared.Rank.{Rank}
-use Rattle.slices.specs.Ranks.{rank_of}
+use Rattle.std.specs.Prelude.{Result, Ok, Err, is_ok}
+use Rattle.slices.specs.Ranks.{among, count_below, ranked, rank_of}
 use Rattle.geometry.specs.Geometry.{Ranged, top_capacity_of}
 use Rattle.geometry.proofs.Laws.{key_limit_high}
 use Rattle.levels.specs.Basics.{is_some}
@@ -32,7 +32,7 @@ use Rattle.words.proofs.Blocks.{blocks_none, blocks_length}
 use Rattle.words.proofs.Reason.{passed_count}
 use Rattle.top.specs.Top.{TopReady, Room, with_top}
 use Rattle.top.proofs.Laws.{with_top_words, top_count_back, top_back, words_ready, top_rises, set_live}
-use Rattle.steps.specs.declared.Tally.{Tally}
+use Rattle.steps.specs.Running.{Tally}
 use Rattle.levels.specs.Tickets.{tickets_of}
 use Rattle.words.proofs.Rows.{Filed, filed_none, filed_by}
 use Rattle.cascade.specs.Cascade.{FullStore, MergedAll}
@@ -44,15 +44,21 @@ use Rattle.layout.specs.declared.Layout.{Layout}
 unfoldable pub has_room : Layout → List ℕ → ℕ → Bool
 has_room z ws k = is_some (find k (top_recs z ws)) || ltb (top_count_at z ws) (top_capacity_of z.geo)
 
+-- a key is found where it is one of the keys
+rank_found : (b : Bool) (i : ℕ) → is_ok (ranked b i) ≡ b
+rank_found true i = refl
+rank_found false i = refl
+
 -- where the key stands says if there is room
-pub room_at_lem : (z : Layout) (ws : List ℕ) (k : ℕ) (at : Rank) → at ≡ rank_of k (keys_of (top_recs z ws)) → room_at z ws at ≡ has_room z ws k
+pub room_at_lem : (z : Layout) (ws : List ℕ) (k : ℕ) (at : Result ℕ ℕ) → at ≡ rank_of k (keys_of (top_recs z ws)) → room_at z ws at ≡ has_room z ws k
 unfolding room_at has_room
-room_at_lem z ws k at e = ap (λ (b : Bool). b || ltb (top_count_at z ws) (top_capacity_of z.geo)) (ap (λ (r : Rank). r.found) e ∙ found_is k (top_recs z ws))
+room_at_lem z ws k at e = ap (λ (b : Bool). b || ltb (top_count_at z ws) (top_capacity_of z.geo)) (ap is_ok e ∙ rank_found (among k (keys_of (top_recs z ws))) (count_below k (keys_of (top_recs z ws))) ∙ found_is k (top_recs z ws))
 
 -- where there is room, level 0 takes the record
-pub room_is : (z : Layout) (ws : List ℕ) (at : Rank) → room_at z ws at ≡ true → Room z ws at
+pub room_is : (z : Layout) (ws : List ℕ) (at : Result ℕ ℕ) → room_at z ws at ≡ true → Room z ws at
 unfolding room_at
-room_is z ws at h n = ltb-true (top_count_at z ws) (top_capacity_of z.geo) (subst (λ (b : Bool). (b || ltb (top_count_at z ws) (top_capacity_of z.geo)) ≡ true) n h)
+room_is z ws (Ok i) h = tt
+room_is z ws (Err i) h = ltb-true (top_count_at z ws) (top_capacity_of z.geo) h
 
 -- live stands in the words
 pub ready_live : (z : Layout) (ws : List ℕ) → TopReady z ws → z.live < length ws

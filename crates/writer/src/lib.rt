@@ -1,7 +1,7 @@
 // What put and delete do to a store that passes (document 01, "Calls").
 #![tactic(auto)]
 
-ghost use Rattle.std.specs.Prelude.{◌≡◌, true, [], ◌≤◌};
+ghost use Rattle.std.specs.Prelude.{◌≡◌, true, [], ◌≤◌, Ok};
 ghost use Rattle.slices.specs.Ranks.{rank_of};
 ghost use Rattle.geometry.specs.Geometry.{key_limit_of};
 ghost use Rattle.levels.specs.Basics.{if◌then◌otherwise◌, is_some};
@@ -18,9 +18,9 @@ ghost use Rattle.top.specs.Top.{TopReady};
 ghost use Rattle.writer.specs.Answers.{changed_answer, forecast_answer};
 ghost use Rattle.writer.specs.Change.{live_found, room_at, with_entered, Counted, Entered};
 
+use geometry::Refusal;
 use layout::Layout;
-use search::Found;
-use slices::Rank;
+use search::Held;
 use steps::{Counts, Tally};
 
 // What a put or delete did: live says if the key was live, the tally what was merged and written for it.
@@ -30,95 +30,63 @@ pub struct Change {
     pub tally: Tally,
 }
 
-// What a put or delete did, or the reason that it is turned down for.
-#[derive(Clone, Copy)]
-pub enum Changed {
-    Done(Change),
-    Refused(u32),
-}
-
-// The merges into level 1 that a put or delete is going to make, 1 or 0, or the reason that it would be turned down for.
-#[derive(Clone, Copy)]
-pub enum Forecast {
-    Merges(u32),
-    Refused(u32),
-}
-
 // v for k, over what k had, in a store that passes; the tickets of its merges, as many as there are rows.
-pub fn put_ready(s: &mut [u32], z: Layout, k: u32, v: u32, rows: &mut [[u32; 4]]) -> Changed
+pub fn put_ready(
+    s: &mut [u32],
+    z: Layout,
+    k: u32,
+    v: u32,
+    rows: &mut [[u32; 4]],
+) -> Result<Change, Refusal>
     requires { Passed z s.old }
     ensures { ◌≡◌ {A = Outcome ChangeAnswer} (record { answer = changed_answer result; words = s.new })
         (change_outcome z s.old (put z.geo (store_at z s.old) k v))
         × (rows.new ≡ laid (rows_of (tickets_of z.geo (merges_of (put z.geo (store_at z s.old) k v)))) rows.old) }
 {
     let was = is_live(reader::find_key(s, z, k as usize));
-    let at = z.live;
-    let live = s[at];
+    let live = s[z.live];
     if was {
-        let t = enter_record(s, z, k, false, v, live, rows);
-        return Changed::Done(Change {
-            live: true,
-            tally: t,
-        });
+        let tally = enter_record(s, z, k, false, v, live, rows);
+        return Ok(Change { live: true, tally });
     }
-    let g = z.geo;
-    if live as usize == g.key_limit() {
-        return Changed::Refused(5);
+    if live as usize == z.geo.key_limit() {
+        return Err(Refusal::Full);
     }
-    let t = enter_record(s, z, k, false, v, live + 1, rows);
-    Changed::Done(Change {
-        live: false,
-        tally: t,
-    })
+    let tally = enter_record(s, z, k, false, v, live + 1, rows);
+    Ok(Change { live: false, tally })
 }
 
 // k out of the map, of a store that passes; the tickets of its merges, as many as there are rows.
-pub fn delete_ready(s: &mut [u32], z: Layout, k: u32, rows: &mut [[u32; 4]]) -> Changed
+pub fn delete_ready(s: &mut [u32], z: Layout, k: u32, rows: &mut [[u32; 4]]) -> Change
     requires { Passed z s.old }
-    ensures { ◌≡◌ {A = Outcome ChangeAnswer} (record { answer = changed_answer result; words = s.new })
+    ensures { ◌≡◌ {A = Outcome ChangeAnswer} (record { answer = changed_answer (Ok result); words = s.new })
         (change_outcome z s.old (delete z.geo (store_at z s.old) k))
         × (rows.new ≡ laid (rows_of (tickets_of z.geo (merges_of (delete z.geo (store_at z s.old) k)))) rows.old) }
 {
     let was = is_live(reader::find_key(s, z, k as usize));
     if was {
-        let at = z.live;
-        let live = s[at];
-        let t = enter_record(s, z, k, true, 0, live - 1, rows);
-        return Changed::Done(Change {
-            live: true,
-            tally: t,
-        });
+        let live = s[z.live];
+        let tally = enter_record(s, z, k, true, 0, live - 1, rows);
+        return Change { live: true, tally };
     }
-    Changed::Done(Change {
+    Change {
         live: false,
         tally: no_tally(),
-    })
+    }
 }
 
 // A tombstone or no record is not live.
-fn is_live(f: Found) -> bool
-    ensures { result ≡ live_found f }
+fn is_live(held: Option<Held>) -> bool
+    ensures { result ≡ live_found held }
 {
-    let Found::Here(m, _) = f else {
-        return false;
-    };
-    !m
+    held.is_some_and(|h| !h.mark)
 }
 
 // The tally of a call that merges nothing.
 fn no_tally() -> Tally
     ensures { Counted result [] }
 {
-    let none = Counts {
-        merges: 0,
-        written: 0,
-        compacted: 0,
-    };
-    Tally {
-        one: none,
-        two: none,
-        three: none,
-    }
+    [Counts::default(); 3]
 }
 
 // A record into level 0, after the merges that make room for it there.
@@ -147,54 +115,55 @@ fn enter_record(
 }
 
 // A record is overwritten in level 0, or there is room for one more.
-fn has_room(s: &[u32], z: Layout, at: Rank) -> bool
+fn has_room(s: &[u32], z: Layout, at: Result<usize, usize>) -> bool
     requires { TopReady z s.now }
     ensures { result ≡ room_at z s.now at }
 {
-    if at.found {
-        return true;
-    }
-    let g = z.geo;
-    let room = g.top_capacity();
-    let c = z.count;
-    (s[c] as usize) < room
+    at.is_ok() || (s[z.count] as usize) < z.geo.top_capacity()
 }
 
 // A record into level 0, where its key stands and there is room for it, and live as it is then.
-fn place_record(s: &mut [u32], z: Layout, at: Rank, k: u32, mark: bool, v: u32, live: u32)
+fn place_record(
+    s: &mut [u32],
+    z: Layout,
+    at: Result<usize, usize>,
+    k: u32,
+    mark: bool,
+    v: u32,
+    live: u32,
+)
     requires { TopReady z s.old × ((at ≡ rank_of k (keys_of (top_recs z s.old))) × (room_at z s.old at ≡ true)) }
     ensures { s.new ≡ with_entered z s.old (record { key = k; tombstone = mark; pay = v }) live }
 {
     top::enter(s, z, at, k, mark, v);
-    let spot = z.live;
-    s[spot] = live;
+    s[z.live] = live;
 }
 
 // The merges that a put or delete has made.
-pub fn merges(changed: Changed) -> usize
+pub fn merges(changed: Result<Change, Refusal>) -> usize
     requires { merges_counted (changed_answer changed) ≤ merges_most }
     ensures { result ≡ merges_counted (changed_answer changed) }
 {
     match changed {
-        Changed::Refused(_) => 0,
-        Changed::Done(change) => {
-            let one = change.tally.one;
-            let two = change.tally.two;
-            let three = change.tally.three;
+        Ok(change) => {
+            let [one, two, three] = change.tally;
             one.merges + two.merges + three.merges
         }
+        Err(_) => 0,
     }
 }
 
-// What a put of k is going to do, in a store that passes (document 02, card 5).
-pub fn foresee_put(s: &[u32], z: Layout, k: u32) -> Forecast
+// What a put of k is going to do, in a store that passes (document 02, card 5): its merges into level 1, 1 or 0, or that it
+// would be turned down.
+pub fn foresee_put(s: &[u32], z: Layout, k: u32) -> Result<u32, Refusal>
     requires { Passed z s.now }
     ensures { forecast_answer result ≡ foretold (if is_full (key_limit_of z.geo) (map_of (rows (store_at z s.now))) k then 5 otherwise 0) (top_merges z s.now k) }
 {
     if is_full(s, z, k) {
-        return Forecast::Refused(5);
+        Err(Refusal::Full)
+    } else {
+        Ok(top_merges(s, z, k))
     }
-    Forecast::Merges(top_merges(s, z, k))
 }
 
 // A put of k would be turned down as full. Only a store that holds as many keys as it may is searched for k.
@@ -202,25 +171,16 @@ fn is_full(s: &[u32], z: Layout, k: u32) -> bool
     requires { Passed z s.now }
     ensures { result ≡ is_full (key_limit_of z.geo) (map_of (rows (store_at z s.now))) k }
 {
-    let g = z.geo;
-    let live = z.live;
-    if s[live] as usize == g.key_limit() {
-        let was = is_live(reader::find_key(s, z, k as usize));
-        return !was;
-    }
-    false
+    s[z.live] as usize == z.geo.key_limit() && !is_live(reader::find_key(s, z, k as usize))
 }
 
 // What a delete of k is going to do: nothing is merged for a key that is not live.
-pub fn foresee_delete(s: &[u32], z: Layout, k: u32) -> Forecast
+pub fn foresee_delete(s: &[u32], z: Layout, k: u32) -> u32
     requires { Passed z s.now }
-    ensures { forecast_answer result ≡ foretold 0 (if is_some (find k (map_of (rows (store_at z s.now)))) then top_merges z s.now k otherwise 0) }
+    ensures { forecast_answer (Ok result) ≡ foretold 0 (if is_some (find k (map_of (rows (store_at z s.now)))) then top_merges z s.now k otherwise 0) }
 {
     let was = is_live(reader::find_key(s, z, k as usize));
-    if was {
-        return Forecast::Merges(top_merges(s, z, k));
-    }
-    Forecast::Merges(0)
+    if was { top_merges(s, z, k) } else { 0 }
 }
 
 // The merges into level 1 that make room for a record of k: one where level 0 is full and has none of k.
@@ -228,9 +188,6 @@ fn top_merges(s: &[u32], z: Layout, k: u32) -> u32
     requires { Passed z s.now }
     ensures { result ≡ top_merges z s.now k }
 {
-    let slot = top::locate(s, z, k);
-    if has_room(s, z, slot) {
-        return 0;
-    }
-    1
+    let room = has_room(s, z, top::locate(s, z, k));
+    if room { 0 } else { 1 }
 }

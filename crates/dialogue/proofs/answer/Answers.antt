@@ -4,14 +4,14 @@ use Rattle.dialogue.proofs.Replies.{line_fits, room_fits, part_room_lem, change_
 use borrow.Author.Rules.{rules}
 use Rattle.dialogue.proofs.answer.Goals as goal
 
-pub print_line-requires : goal.print_line-requires
-print_line-requires c = omega (arith, c.requires.1.1.1, line_fits c.args.tickets)
-
 pub slice_bounds-format-end : goal.slice_bounds-format-end
-slice_bounds-format-end c = omega (arith, (room_fits _ _ _ c.room_for.ensures c.in-Words.is).1.1, c.requires.0)
+slice_bounds-format-end c = omega (arith, (room_fits _ _ c.in-Ok.ensures).1.1, c.requires.0)
 
 pub print_formatted-requires : goal.print_formatted-requires
 print_formatted-requires c = omega (arith, c.requires.1.1.1, line_fits c.args.tickets)
+
+pub print_formatted-requires-in-Ok : goal.print_formatted-requires-in-Ok
+print_formatted-requires-in-Ok c = omega (arith, c.requires.1.1.1, line_fits c.args.tickets)
 
 pub say_put-end-requires : goal.say_put-end-requires
 say_put-end-requires c = part_room_lem _ _ _ _ c.requires.1.0 c.requires.1.1.1
@@ -25,11 +25,11 @@ print_looked-requires c = omega (arith, c.requires.1.1.1, line_fits c.args.ticke
 pub print_line-requires-in-Unreadable : goal.print_line-requires-in-Unreadable
 print_line-requires-in-Unreadable c = omega (arith, c.requires.1.1.1, line_fits c.args.tickets)
 
-pub returns-in-Refused : goal.returns-in-Refused
-returns-in-Refused c = refused_replied _ _ _ _ _ _ _ c.requires.1.0 c.requires.1.1.0 c.answered.ensures _ _ _ _ _ _ _ _ c.in-Format.is c.room_for.ensures _ _ c.in-Refused.is (printed_as _ _ _ _ _ _ _ (format_is _ _) (omega arith) c.print_line.ensures)
+pub returns-in-Err : goal.returns-in-Err
+returns-in-Err c = refused_replied _ _ _ _ _ _ _ c.requires.1.0 c.requires.1.1.0 c.answered.ensures _ _ _ _ _ _ _ c.in-Format.is _ _ c.in-Err.ensures c.print_formatted.ensures
 
-pub returns-in-Words : goal.returns-in-Words
-returns-in-Words c = format_replied _ _ _ _ _ _ _ c.requires.1.0 (room_fits _ _ _ c.room_for.ensures c.in-Words.is).1.1 c.answered-in-Words.ensures _ _ _ _ _ _ _ _ c.in-Format.is c.room_for.ensures c.args.n c.format-f.result _ _ _ c.in-Words.is c.requires.0 c.format-f.ensures c.format-f.auto.s c.print_formatted.ensures
+pub returns-in-Ok : goal.returns-in-Ok
+returns-in-Ok c = format_replied _ _ _ _ _ _ _ c.requires.1.0 (room_fits _ _ c.in-Ok.ensures).1.1 c.answered-in-Ok.ensures _ _ _ _ _ _ _ c.in-Format.is c.args.n c.format-f.result _ _ _ c.in-Ok.ensures c.requires.0 c.format-f.ensures c.format-f.auto.s c.print_formatted-in-Ok.ensures
 
 pub returns-in-Put : goal.returns-in-Put
 returns-in-Put c = change_replied _ _ _ _ _ _ _ c.requires.1.0 c.requires.1.1.0 c.answered-in-Put.ensures _ _ c.requires.0 _ _ _ _ c.in-Put.is c.requires.1.0 c.say_put-end.auto.s c.say_put-end.ensures

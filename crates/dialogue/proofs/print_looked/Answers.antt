@@ -2,11 +2,11 @@ use Rattle.std.proofs.Common.{arith}
 use Rattle.lines.proofs.Print.{get_is, printed_as}
 use Rattle.dialogue.proofs.print_looked.Goals as goal
 
-pub returns-in-Found : goal.returns-in-Found
-returns-in-Found c = rw c.in-Found.is (printed_as _ _ _ _ _ _ _ (get_is _ _ _) (omega arith) c.print_line.ensures)
+pub returns-in-Some : goal.returns-in-Some
+returns-in-Some c = rw (c.in-Ok.is, c.in-Some.is) (printed_as _ _ _ _ _ _ _ (get_is _ _ _) (omega arith) c.print_line.ensures)
 
-pub returns-in-Absent : goal.returns-in-Absent
-returns-in-Absent c = rw c.in-Absent.is (printed_as _ _ _ _ _ _ _ (get_is _ _ _) (omega arith) c.print_line-in-Absent.ensures)
+pub returns-in-None : goal.returns-in-None
+returns-in-None c = rw (c.in-Ok.is, c.in-None.is) (printed_as _ _ _ _ _ _ _ (get_is _ _ _) (omega arith) c.print_line-in-None.ensures)
 
-pub returns-in-Refused : goal.returns-in-Refused
-returns-in-Refused c = rw c.in-Refused.is (printed_as _ _ _ _ _ _ _ (get_is _ _ _) (omega arith) c.print_line-in-Refused.ensures)
+pub returns-in-Err : goal.returns-in-Err
+returns-in-Err c = rw (c.in-Err.is, ← c.from.ensures) (printed_as _ _ _ _ _ _ _ (get_is _ _ _) (omega arith) c.print_line-in-Err.ensures)

@@ -1,18 +1,19 @@
-use native.Mathlib.Omega.{arith}
-use mathlib.Core.Path.{sym, ap, ◌∙◌}
+use Rattle.std.proofs.Common.{ap, ◌∙◌, arith}
+use Rattle.std.proofs.lemmas.Result.{err_from_is_err_and}
 use Rattle.layout.specs.declared.Layout.{Layout}
 use Rattle.dialogue.proofs.Replies.{room_broken, room_long, room_words, built_legal}
-use borrow.Author.Rules.{rules}
 use Rattle.dialogue.proofs.room_for.Goals as goal
 
-pub returns-in_default : goal.returns-in_default
-returns-in_default c = room_broken _ (sym c.new.ensures ∙ c.in_default.is)
+pub returns-in_err-new : goal.returns-in_err-new
+returns-in_err-new c =
+    let p = err_from_is_err_and c.from_residual.result c.from_residual.ensures.1 in
+    rw (p.1, p.2) (room_broken _ _ c.in_err-new.ensures)
 
 pub old-z-requires : goal.old-z-requires
-old-z-requires c = built_legal _ _ (sym c.new.ensures ∙ c.in-Legal.is)
+old-z-requires c = built_legal _ _ c.in_ok-new.ensures
 
 pub returns-then-need-gt-BENCH_WORDS : goal.returns-then-need-gt-BENCH_WORDS
-returns-then-need-gt-BENCH_WORDS c = room_long _ _ (sym c.new.ensures ∙ c.in-Legal.is) (omega (arith, c.if-need-gt-BENCH_WORDS.true, ap (λ (y : Layout). y.length) c.old-z.ensures))
+returns-then-need-gt-BENCH_WORDS c = room_long _ _ c.in_ok-new.ensures (omega (arith, c.if-need-gt-BENCH_WORDS.true, ap (λ (y : Layout). y.length) c.old-z.ensures))
 
 pub returns : goal.returns
-returns c = room_words _ _ _ (sym c.new.ensures ∙ c.in-Legal.is) (ap (λ (y : Layout). y.length) c.old-z.ensures) (omega (arith, c.if-need-gt-BENCH_WORDS.false))
+returns c = room_words _ _ _ c.in_ok-new.ensures (ap (λ (y : Layout). y.length) c.old-z.ensures) (omega (arith, c.if-need-gt-BENCH_WORDS.false))

@@ -2,5 +2,5 @@
 use Rattle.std.proofs.Common.{◌<◌}
 use Rattle.readings.proofs.checksum.Given as goal
 
-abbrev pub invariant-loop-i : goal.invariant-loop-i
-invariant-loop-i l = l.sum < 4294967291
+abbrev pub invariant-loop-word : goal.invariant-loop-word
+invariant-loop-word l = l.sum < 4294967291

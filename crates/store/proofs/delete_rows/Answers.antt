@@ -1,13 +1,16 @@
-use Rattle.form.proofs.Ready.{checked_passes}
-use mathlib.Core.Path.{sym, ◌∙◌}
+use Rattle.std.proofs.lemmas.Result.{err_from_is_err_and}
+use Rattle.std.proofs.Common.{Ok}
+use Rattle.store.proofs.Answering.{passed}
 use Rattle.store.proofs.Changing.{delete_refused, delete_ready}
 use Rattle.store.proofs.delete_rows.Goals as goal
 
+pub returns-in_err-z : goal.returns-in_err-z
+returns-in_err-z c =
+    let p = err_from_is_err_and c.from_residual.result c.from_residual.ensures.1 in
+    rw (p.1, p.2) (delete_refused _ _ c.in_err-z.ensures _ _)
+
 pub delete_ready-requires : goal.delete_ready-requires
-delete_ready-requires c = checked_passes _ _ (sym c.check.ensures ∙ c.in-Ready.is)
+delete_ready-requires c = passed _ _ c.in_ok-z.ensures
 
-pub returns-in-Refused : goal.returns-in-Refused
-returns-in-Refused c = delete_refused _ _ (sym c.check.ensures ∙ c.in-Refused.is) _ _
-
-pub returns-in-Ready : goal.returns-in-Ready
-returns-in-Ready c = delete_ready _ _ (sym c.check.ensures ∙ c.in-Ready.is) _ _ _ _ _ c.delete_ready.ensures
+pub returns : goal.returns
+returns c = delete_ready _ _ c.in_ok-z.ensures _ _ _ (Ok c.delete_ready.result) _ c.delete_ready.ensures

@@ -1,20 +1,26 @@
-use mathlib.Core.Path.{refl, sym, ◌∙◌}
-use Rattle.store.proofs.Formatting.{cleared_headed, format_refused, format_done, layout_is, header_asks, limit_asks, length_is}
+use Rattle.std.proofs.Common.{◌≡◌, length, replicate, refl, arith, rules}
+use Rattle.std.proofs.lemmas.Result.{err_from_is_err_and}
+use Rattle.geometry.proofs.Laws.{key_limit_word}
+use Rattle.store.proofs.Formatting.{format_refused, format_done, header_asks, limit_asks}
 use Rattle.store.proofs.format.Goals as goal
+
+pub returns-in_err-z : goal.returns-in_err-z
+returns-in_err-z c =
+    let p = err_from_is_err_and c.from_residual.result c.from_residual.ensures.1 in
+    rw (p.1, p.2) (format_refused _ _ _ c.in_err-z.ensures)
 
 pub put_header-requires : goal.put_header-requires
 put_header-requires c =
-    let k = header_asks _ _ _ (sym c.fit.ensures ∙ c.in-Ready.is) _ c.clear.auto.s in
+    let k = header_asks _ _ _ c.in_ok-z.ensures _ c.fill.auto.self in
     (k.0, (refl, k.1))
 
-pub limit-requires : goal.limit-requires
-limit-requires c =
-    limit_asks _ _ _ (sym c.fit.ensures ∙ c.in-Ready.is)
+pub key_limit-requires : goal.key_limit-requires
+key_limit-requires c = (limit_asks _ _ _ c.in_ok-z.ensures).ranged
 
-pub returns-in-Refused : goal.returns-in-Refused
-returns-in-Refused c = sym (format_refused _ _ _ (sym c.fit.ensures ∙ c.in-Refused.is))
+pub overflow_cast-result : goal.overflow_cast-result
+overflow_cast-result c = omega (arith, key_limit_word _ (limit_asks _ _ _ c.in_ok-z.ensures), c.key_limit.ensures)
 
-pub returns-in-Ready : goal.returns-in-Ready
-returns-in-Ready c =
-    let e = sym c.fit.ensures ∙ c.in-Ready.is in
-    rw (c.limit.ensures, c.put_header.ensures, c.clear.ensures, cleared_headed _ _ _ (layout_is _ _ _ e) (length_is _ _ _ e)) (sym (format_done _ _ _ e))
+pub returns : goal.returns
+returns c =
+    let e : c.fill.new.self ≡ replicate (length c.args.s.now) 0 = search rules in
+    rw (c.put_header.ensures, e) (format_done _ _ _ c.in_ok-z.ensures _ _ refl c.key_limit.ensures)

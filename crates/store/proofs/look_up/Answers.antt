@@ -1,14 +1,6 @@
-use Rattle.form.proofs.Ready.{checked_passes}
-use native.Mathlib.Omega.{arith}
-use mathlib.Core.Path.{sym, ◌∙◌}
-use Rattle.store.proofs.Answering.{look_refused, look_ready}
+use Rattle.std.proofs.Common.{arith}
+use Rattle.store.proofs.Answering.{passed}
 use Rattle.store.proofs.look_up.Goals as goal
 
-pub find_key-requires : goal.find_key-requires
-find_key-requires c = (checked_passes _ _ (sym c.check.ensures ∙ c.in-Ready.is), omega arith)
-
-pub returns-in-Refused : goal.returns-in-Refused
-returns-in-Refused c = look_refused _ _ (sym c.check.ensures ∙ c.in-Refused.is) _
-
-pub returns-in-Ready : goal.returns-in-Ready
-returns-in-Ready c = rw c.look_answer.ensures (look_ready _ _ (sym c.check.ensures ∙ c.in-Ready.is) _ _ c.find_key.ensures)
+pub find_key-held-requires : goal.find_key-held-requires
+find_key-held-requires c = (passed _ _ c.in_ok-check.ensures, omega arith)

@@ -7,11 +7,11 @@ use Rattle.store.proofs.put_header.Goals as goal
 pub copy-requires : goal.copy-requires
 copy-requires c = (search rules, omega (arith, fitted_spots _ _ c.requires.0))
 
-pub offset_bounds-s-hand : goal.offset_bounds-s-hand
-offset_bounds-s-hand c = omega (arith, fitted_spots _ _ c.requires.0)
+pub offset_bounds-s-z : goal.offset_bounds-s-z
+offset_bounds-s-z c = omega (arith, fitted_spots _ _ c.requires.0)
 
-pub bounds-s-hand : goal.bounds-s-hand
-bounds-s-hand c = omega (arith, c.copy.auto.out, fitted_spots _ _ c.requires.0)
+pub bounds-s-z : goal.bounds-s-z
+bounds-s-z c = omega (arith, c.copy.auto.out, fitted_spots _ _ c.requires.0)
 
 pub returns : goal.returns
 returns c = rw c.copy.ensures (header_laid _ _ _ c.requires.0 c.requires.1.0)

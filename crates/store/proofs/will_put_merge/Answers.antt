@@ -1,13 +1,15 @@
-use mathlib.Core.Path.{sym, ◌∙◌}
-use Rattle.store.proofs.Answering.{will_put_refused, will_put_ready}
-use Rattle.form.proofs.Ready.{checked_passes}
+use Rattle.std.proofs.Common.{◌∙◌}
+use Rattle.std.proofs.lemmas.Result.{err_from_is_err_and}
+use Rattle.store.proofs.Answering.{passed, will_put_refused, will_put_ready}
 use Rattle.store.proofs.will_put_merge.Goals as goal
 
+pub returns-in_err-check : goal.returns-in_err-check
+returns-in_err-check c =
+    let p = err_from_is_err_and c.from_residual.result c.from_residual.ensures.1 in
+    rw (p.1, p.2) (will_put_refused _ _ c.in_err-check.ensures _)
+
 pub foresee_put-requires : goal.foresee_put-requires
-foresee_put-requires c = checked_passes _ _ (sym c.check.ensures ∙ c.in-Ready.is)
+foresee_put-requires c = passed _ _ c.in_ok-check.ensures
 
-pub returns-in-Refused : goal.returns-in-Refused
-returns-in-Refused c = will_put_refused _ _ (sym c.check.ensures ∙ c.in-Refused.is) _
-
-pub returns-in-Ready : goal.returns-in-Ready
-returns-in-Ready c = c.foresee_put.ensures ∙ will_put_ready _ _ (sym c.check.ensures ∙ c.in-Ready.is) _
+pub returns : goal.returns
+returns c = c.foresee_put.ensures ∙ will_put_ready _ _ c.in_ok-check.ensures _

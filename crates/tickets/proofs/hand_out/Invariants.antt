@@ -1,11 +1,8 @@
--- Up to 512 turns, each nearer the end of the tickets.
-use Prim.Native.Nat.{◌-◌}
-use Rattle.levels.specs.Inside.{merges_most}
-use Rattle.tickets.proofs.Handing.{Handing}
+use Rattle.std.proofs.Common.{◌≡◌, map}
+use Rattle.levels.specs.Tickets.{ticket_from, laid}
+use Rattle.words.specs.Rows.{laid_from}
+use Rattle.tickets.proofs.Handing.{left}
 use Rattle.tickets.proofs.hand_out.Given as goal
 
 abbrev pub invariant-loop-i : goal.invariant-loop-i
-invariant-loop-i l = Handing l.r l.initial.t l.t l.i
-
-abbrev pub decreases-loop-i : goal.decreases-loop-i
-decreases-loop-i l = merges_most - l.i
+invariant-loop-i l = laid_from l.i (left l.rows l.i) l.tickets ≡ laid (map ticket_from l.rows) l.initial.tickets

@@ -10,5 +10,5 @@ returns-then-chunk-le1 c = advance_last _ _ c.requires.0 c.requires.1 _ c.if-chu
 
 pub returns : goal.returns
 returns c =
-    let b : get_or c.args.s.now (c.args.cur.chunk.keys + 1) 0 < 4294967296 = search rules in
+    let b : get_or c.args.s.now (c.args.cur.now.chunk.keys + 1) 0 < 4294967296 = search rules in
     advance_in _ _ c.requires.0 c.requires.1 _ c.if-chunk-le1.false refl b

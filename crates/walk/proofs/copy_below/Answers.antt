@@ -19,4 +19,4 @@ pub loop-at-preserved : goal.loop-at-preserved
 loop-at-preserved c =
     let l = c.list_one-live.ensures in
     let b : c.loop-at.at.key < c.args.bound = search rules in
-    copies_on _ _ _ _ _ _ _ _ _ _ c.loop-at.invariant b c.requires.1.0 _ _ _ l.0 l.1.0 l.1.1 _ c.advance-at.ensures.0 c.advance-at.ensures.1
+    copies_on _ _ _ _ _ _ _ _ _ _ c.loop-at.invariant b c.requires.1.0 _ _ _ l.0 l.1.0 l.1.1 _ c.advance.ensures.0 c.advance.ensures.1

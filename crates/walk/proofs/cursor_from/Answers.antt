@@ -13,26 +13,26 @@ room : (c : Else-chunk-slot) → SlotRoom c.args.s.now c.chunk_at-chunk.result c
 room c = slot_room _ _ c.requires.0 _ _ c.seek_chunk-i.ensures _ c.chunk_at-chunk.ensures _ c.count_below-slot.ensures (omega (arith, c.if-chunk-slot.false))
 
 pub returns-then-dir-lt1 : goal.returns-then-dir-lt1
-returns-then-dir-lt1 c = from_none _ _ _ _ c.if-dir-lt1.true c.requires.1 c.refill.ensures.0 c.refill.ensures.1
+returns-then-dir-lt1 c = from_none _ _ _ c.requires.0 c.if-dir-lt1.true c.requires.1
 
 pub count_below-slot-requires : goal.count_below-slot-requires
 count_below-slot-requires c = let p = rank_ready _ _ c.requires.0 _ c.seek_chunk-i.ensures.inside _ c.chunk_at-chunk.ensures in (p.0, (p.1, c.requires.1))
 
 pub returns-then-chunk-slot : goal.returns-then-chunk-slot
 returns-then-chunk-slot c =
-    from_after _ _ c.requires.0 _ _ c.seek_chunk-i.ensures _ c.chunk_at-chunk.ensures _ c.count_below-slot.ensures _ (omega (arith, c.if-chunk-slot.true)) c.requires.1 c.refill-then-chunk-slot.ensures.0 c.refill-then-chunk-slot.ensures.1
+    from_after _ _ c.requires.0 _ _ c.seek_chunk-i.ensures _ c.chunk_at-chunk.ensures _ c.count_below-slot.ensures _ (omega (arith, c.if-chunk-slot.true)) c.requires.1 c.refill.ensures.0 c.refill.ensures.1
 
-pub overflow_add-left : goal.overflow_add-left
-overflow_add-left c = let p = room (goal.at.overflow_add-left c).Else-chunk-slot in omega (arith, p.key_in, p.short)
+pub overflow_add-keys : goal.overflow_add-keys
+overflow_add-keys c = let p = room (goal.at.overflow_add-keys c).Else-chunk-slot in omega (arith, p.key_in, p.short)
 
-pub overflow_add-left-2 : goal.overflow_add-left-2
-overflow_add-left-2 c = let p = room (goal.at.overflow_add-left-2 c).Else-chunk-slot in omega (arith, p.pay_in, p.short)
+pub overflow_add-cur-2 : goal.overflow_add-cur-2
+overflow_add-cur-2 c = let p = room (goal.at.overflow_add-cur-2 c).Else-chunk-slot in omega (arith, p.pay_in, p.short)
 
-pub offset_bounds-s-left : goal.offset_bounds-s-left
-offset_bounds-s-left c = let p = room (goal.at.offset_bounds-s-left c).Else-chunk-slot in omega (arith, p.key_in, p.short)
+pub offset_bounds-s-keys : goal.offset_bounds-s-keys
+offset_bounds-s-keys c = let p = room (goal.at.offset_bounds-s-keys c).Else-chunk-slot in omega (arith, p.key_in, p.short)
 
-pub bounds-s-left : goal.bounds-s-left
-bounds-s-left c = (room (goal.at.bounds-s-left c).Else-chunk-slot).key_in
+pub bounds-s-keys : goal.bounds-s-keys
+bounds-s-keys c = (room (goal.at.bounds-s-keys c).Else-chunk-slot).key_in
 
 pub returns : goal.returns
 returns c =

@@ -1,18 +1,23 @@
-use native.Mathlib.Omega.{arith}
+use Rattle.std.proofs.Common.{◌≡◌, ◌∙◌, sym, true, false, arith}
+use Rattle.std.specs.Prelude.{is_ok}
 use Rattle.top.proofs.Words.{ready_bounds}
 use Rattle.writer.specs.Change.{room_at}
 use Rattle.writer.proofs.has_room.Goals as goal
 
-pub returns-then-at : goal.returns-then-at
+pub returns-then-is_ok : goal.returns-then-is_ok
 unfolding room_at
-returns-then-at c = rw c.if-at.true
+returns-then-is_ok c =
+    let e : is_ok c.args.at ≡ true = sym c.is_ok.ensures.value ∙ c.if-is_ok.true in
+    rw (c.if-is_ok.true, e)
 
-pub offset_bounds-s-c : goal.offset_bounds-s-c
-offset_bounds-s-c c = omega (arith, ready_bounds _ _ c.requires)
+pub offset_bounds-s-z : goal.offset_bounds-s-z
+offset_bounds-s-z c = omega (arith, ready_bounds _ _ c.requires)
 
-pub bounds-s-c : goal.bounds-s-c
-bounds-s-c c = (ready_bounds _ _ c.requires).1.1
+pub bounds-s-z : goal.bounds-s-z
+bounds-s-z c = (ready_bounds _ _ c.requires).1.1
 
-pub returns : goal.returns
+pub returns-else-is_ok : goal.returns-else-is_ok
 unfolding room_at
-returns c = rw (c.top_capacity-room.ensures, c.if-at.false)
+returns-else-is_ok c =
+    let e : is_ok c.args.at ≡ false = sym c.is_ok.ensures.value ∙ c.if-is_ok.false in
+    rw (c.top_capacity.ensures, e)
