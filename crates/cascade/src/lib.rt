@@ -45,7 +45,7 @@ fn merge_below(
         × (rows.new ≡ laid_from 1 (rows_of (tickets_of z.geo (merges_below load_most z.geo t))) rows.old) }
 {
     let mut v = r;
-    let mut filed = 1;
+    let mut filed: usize = 1;
     while let Some(level) = deepest(z.geo, v.ns) {
         let merged = steps::merge_step(s, lists, z, level, v);
         slices::file(rows, filed, merged.ticket.into());
