@@ -10,7 +10,7 @@ use lib.ListN.{length, take, length-take}
 use lib.Seq.{take_at}
 use borrow.Author.Tests.{leb-true, le-leb, lt-leb}
 use Rattle.geometry.specs.declared.Geometry.{Geometry}
-use Rattle.std.specs.Prelude.{Option, Result, Ok, Err, sum, map}
+use Rattle.std.specs.Prelude.{Option, Result, Ok, Err}
 use Rattle.geometry.specs.declared.Refusal.{Refusal}
 use Rattle.geometry.specs.declared.Refusal.TheVariants.{BrokenLimit, WrongLength}
 use Rattle.geometry.specs.Refusals.{number_of}
@@ -25,30 +25,18 @@ use Rattle.lines.specs.Bytes.{Printed}
 use Rattle.lines.specs.Lines.{longest_line, format_line, unreadable_line}
 use Rattle.lines.specs.Machine.{run}
 use Rattle.writer.specs.declared.Change.{Change}
-use Rattle.steps.specs.Running.{counts_in}
-use Rattle.writer.proofs.Changing.{tally_sum}
 use Rattle.reader.specs.Answers.{looked_answer}
 use Rattle.writer.specs.Answers.{changed_answer}
 use Rattle.store.specs.Answers.{format_answer}
 use Rattle.store.specs.Change.{SumsFit}
 use Rattle.dialogue.specs.declared.Fed.{Fed}
 use Rattle.dialogue.specs.Bench.{bench_words, room_of}
-use Rattle.dialogue.specs.Said.{Said, formatted_line, looked_line, merged_sum, compacted_sum, format_said, said_of, tickets_most, longest_answer}
+use Rattle.dialogue.specs.Said.{Said, formatted_line, looked_line, format_said, said_of, tickets_most, longest_answer}
 use Rattle.dialogue.specs.State.{Feeds, closed, answered_as, Says}
 
--- The sums of what was done, over the levels: those of the answer, and words.
-module _ (c : Result Change Refusal) (d : Change) (e : c ≡ Ok d) (h : SumsFit (changed_answer c)) (l : length d.tally ≡ 3) where
-  sums : SumsFit (changed_answer (Ok d))
-  sums = subst (λ (x : Result Change Refusal). SumsFit (changed_answer x)) e h
-
-  pub written_sum : sum (map (λ n. n.written) d.tally) ≡ merged_sum (changed_answer (Ok d))
-  written_sum = tally_sum (λ n. n.written) d.tally l
-
-  pub compacted_is : sum (map (λ n. n.compacted) d.tally) ≡ compacted_sum (changed_answer (Ok d))
-  compacted_is = tally_sum (λ n. n.compacted) d.tally l
-
-  pub done_fit : (sum (map (λ n. n.written) d.tally) < 4294967296) × (sum (map (λ n. n.compacted) d.tally) < 4294967296)
-  done_fit = (omega (arith, written_sum, sums.merged), omega (arith, compacted_is, sums.compacted))
+-- the sums of what was done are words
+pub done_fit : (c : Result Change Refusal) (d : Change) → c ≡ Ok d → SumsFit (changed_answer c) → SumsFit (changed_answer (Ok d))
+done_fit c d e h = subst (λ (x : Result Change Refusal). SumsFit (changed_answer x)) e h
 
 -- The room that a format finds.
 pub room_broken : (g : Geometry) (r : Refusal) → Err r ≡ built_of g → Err r ≡ room_of g

@@ -94,8 +94,9 @@ fn print_changed(out: &mut [u8], at: usize, letter: u8, changed: Result<Change, 
 {
     match changed {
         Ok(change) => {
-            let merged: usize = change.tally.iter().map(|counts| counts.written).sum();
-            let compacted: usize = change.tally.iter().map(|counts| counts.compacted).sum();
+            let [one, two, three] = change.tally;
+            let merged = one.written + two.written + three.written;
+            let compacted = one.compacted + two.compacted + three.compacted;
             let numbers = [0, u32::from(change.live), merged as u32, compacted as u32];
             lines::print_line(out, at, letter, &numbers)
         }

@@ -22,8 +22,8 @@ say_delete-end-requires c = part_room_lem _ _ _ _ c.requires.1.0 c.requires.1.1.
 pub print_looked-requires : goal.print_looked-requires
 print_looked-requires c = omega (arith, c.requires.1.1.1, line_fits c.args.tickets)
 
-pub print_line-requires-in-Unreadable : goal.print_line-requires-in-Unreadable
-print_line-requires-in-Unreadable c = omega (arith, c.requires.1.1.1, line_fits c.args.tickets)
+pub print_line-requires : goal.print_line-requires
+print_line-requires c = omega (arith, c.requires.1.1.1, line_fits c.args.tickets)
 
 pub returns-in-Err : goal.returns-in-Err
 returns-in-Err c = refused_replied _ _ _ _ _ _ _ c.requires.1.0 c.requires.1.1.0 c.answered.ensures _ _ _ _ _ _ _ c.in-Format.is _ _ c.in-Err.ensures c.print_formatted.ensures
@@ -41,4 +41,4 @@ pub returns-in-Get : goal.returns-in-Get
 returns-in-Get c = get_replied _ _ _ _ _ _ _ c.requires.1.0 c.requires.1.1.0 c.answered-in-Get.ensures _ _ c.requires.0 _ c.look_up-l.result c.in-Get.is c.look_up-l.ensures c.print_looked.ensures
 
 pub returns-in-Unreadable : goal.returns-in-Unreadable
-returns-in-Unreadable c = unreadable_replied _ _ _ _ _ _ _ c.requires.1.0 c.requires.1.1.0 c.answered-in-Unreadable.ensures _ _ c.requires.0 c.in-Unreadable.is (printed_as _ _ _ _ _ _ _ unreadable_is (omega arith) c.print_line-in-Unreadable.ensures)
+returns-in-Unreadable c = unreadable_replied _ _ _ _ _ _ _ c.requires.1.0 c.requires.1.1.0 c.answered-in-Unreadable.ensures _ _ c.requires.0 c.in-Unreadable.is (printed_as _ _ _ _ _ _ _ unreadable_is (omega arith) c.print_line.ensures)
