@@ -13,7 +13,7 @@ use Rattle.levels.specs.Record.{Rec}
 use Rattle.levels.specs.Map.{into, overlay, view, unmarked, map_of, live_count}
 use Rattle.levels.specs.Rising.{Rising, Below, Risings}
 use Rattle.levels.proofs.Rising.{rising_from}
-use Rattle.levels.proofs.Overlay.{find_below, into_below, into_same, into_above, Way, less, same, more, way, overlay_nil}
+use Rattle.levels.proofs.Overlay.{find_below, into_below, into_same, into_above, Way, less, same, more, way}
 use Rattle.levels.proofs.View.{unmarked_drop, view_rising}
 use Rattle.words.specs.Stores.{keys_of}
 use Rattle.words.proofs.Ranks.{found_is}

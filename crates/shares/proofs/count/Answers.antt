@@ -2,7 +2,6 @@ use Rattle.std.proofs.Common.{rules}
 use native.Mathlib.Omega.{arith}
 use mathlib.Core.Path.{◌≡◌, ◌∙◌}
 use lib.ListN.{length}
-use Prim.Native.Nat.{◌<◌}
 use Rattle.shares.proofs.Levels.{counted_level, counted_empty, counted_all}
 use Rattle.shares.proofs.count.Goals as goal
 use Rattle.shares.proofs.count.Goals.{then-low-gt0, else-low-gt0}
