@@ -1,9 +1,8 @@
 use Prim.Native.Nat.{◌-◌}
-use mathlib.Core.Path.{refl, ap, sym, ◌∙◌}
+use mathlib.Core.Path.{refl, sym, ◌∙◌}
 use native.Mathlib.Omega.{arith}
 use Rattle.steps.proofs.Standing.{markable}
 use Rattle.steps.proofs.Compacting.{entries_ask, due_asks, kept_level, list_asks, out_long, list_few, copy_asks, compacted}
-use Rattle.stream.specs.declared.Desk.{Desk}
 use Rattle.steps.proofs.compact_level.Goals as goal
 
 pub entries-list-requires : goal.entries-list-requires
@@ -18,7 +17,7 @@ returns-then-not-needs_compacting c =
     kept_level _ _ _ _ p.0 (c.args.level - 1) _ _ (omega (arith, p.1.0)) p.1.1 c.levels-h.ensures (rw c.entries-list.ensures at (sym c.needs_compacting.ensures ∙ c.if-not-needs_compacting.true))
 
 pub marks-requires : goal.marks-requires
-marks-requires c = let k = c.requires.0 in (ap (λ (d : Desk). d.used) c.new-desk.ensures, rw c.levels-h.ensures (markable _ _ _ _ _ _ k.proper k.inside k.stands))
+marks-requires c = let k = c.requires.0 in (refl, rw c.levels-h.ensures (markable _ _ _ _ _ _ k.proper k.inside k.stands))
 
 pub entries-old-requires : goal.entries-old-requires
 entries-old-requires c = let p = c.requires in entries_ask _ _ _ _ p.0 (c.args.level - 1) _ _ (omega (arith, p.1.0)) p.1.1 c.levels-h.ensures
