@@ -123,6 +123,6 @@ pub fn close(s: &mut [u32], desk: &mut Desk, ys: &[u32; blocks::LIST_ROOM], z: O
     let m = desk.st.m;
     let from = desk.st.y.i;
     let rest = end - from;
-    slices::copy(ys, from, rest, &mut desk.out, m);
+    stream::copy_list(ys, from, rest, &mut desk.out, m);
     desk.st.m = m + rest;
 }

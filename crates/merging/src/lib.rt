@@ -97,7 +97,7 @@ pub fn merge_blocks(
     let end = parts.end;
     desk.st = parts.begin(cursor);
     let limit = parts.limit();
-    slices::copy(ys, start, y - start, &mut desk.out, 0);
+    stream::copy_list(ys, start, y - start, &mut desk.out, 0);
     desk.stream(s, xs, ys, o, t, limit);
     joins::close(s, desk, ys, o, end);
     Merged {

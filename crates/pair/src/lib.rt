@@ -145,7 +145,7 @@ fn merge_list(
 {
     let x = xs.unwrap_or(lists);
     let r = merging::merge_blocks(s, desk, x, lists, z, parts, cursor);
-    slices::copy(&desk.out, 0, r.count, lists, parts.start);
+    stream::copy_list(&desk.out, 0, r.count, lists, parts.start);
     r
 }
 

@@ -122,7 +122,7 @@ fn compact_level(
     let old = lists::entries(lists, h, level, n);
     let m = compaction::compact(s, desk, old, z, r.cursor);
     let at = lists::start_of(h, level);
-    slices::copy(&desk.out, 0, m.count, lists, at);
+    stream::copy_list(&desk.out, 0, m.count, lists, at);
     let counts = Counts {
         merges: 0,
         written: 0,

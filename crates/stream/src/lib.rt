@@ -1,7 +1,8 @@
 // Step 3 of a merge: X and Y are read in key order, blocks are reused or their records gathered.
 #![tactic(auto)]
 
-ghost use Rattle.std.specs.Prelude.{◌≡◌, true, false, ℕ, ◌+◌, ◌-◌, ◌≤◌, ◌<◌, is_some};
+ghost use Rattle.std.specs.Prelude.{◌≡◌, true, false, ℕ, ◌+◌, ◌-◌, ◌≤◌, ◌<◌, is_some, take, drop};
+ghost use Rattle.slices.specs.Slices.{put_at};
 ghost use Rattle.std.specs.Option.{ForSome};
 ghost use Rattle.blocks.specs.Room.{places_most, list_room};
 ghost use Rattle.sides.specs.Sides.{Searchable, first};
@@ -64,6 +65,23 @@ pub struct Inputs {
     pub y: usize,
     pub pages: bool,
     pub bottom: bool,
+}
+
+// n entries of one place list, from entry `from` on, to those of another, from entry `to` on. A loop, and not the library's copy:
+// between two lists that are lent that one calls memmove, and the library for C calls memcpy and memset alone (include/mewilovang.h).
+pub fn copy_list(
+    list: &[u32; blocks::LIST_ROOM],
+    from: usize,
+    n: usize,
+    out: &mut [u32; blocks::LIST_ROOM],
+    to: usize,
+)
+    requires { (from + n ≤ list_room) × (to + n ≤ list_room) }
+    ensures { out.new ≡ put_at to (take n (drop from list.now)) out.old }
+{
+    for i in 0..n {
+        out[to + i] = list[from + i];
+    }
 }
 
 impl Progress {

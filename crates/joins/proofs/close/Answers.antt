@@ -29,8 +29,8 @@ overflow_sub-rest c = (room (goal.at.overflow_sub-rest c).After-flush).0
 pub overflow_add-desk : goal.overflow_add-desk
 overflow_add-desk c = let h = (room (goal.at.overflow_add-desk c).After-flush).1 in omega arith
 
-pub copy-requires : goal.copy-requires
-copy-requires c = let r = room (goal.at.copy-requires c).After-flush in let h = c.requires.afters.end_high in (omega arith, omega arith)
+pub copy_list-requires : goal.copy_list-requires
+copy_list-requires c = let r = room (goal.at.copy_list-requires c).After-flush in let h = c.requires.afters.end_high in (omega arith, omega arith)
 
 pub returns : goal.returns
 unfolding closed
@@ -38,4 +38,4 @@ returns c =
     let r = room (goal.at.returns c).After-flush in
     let h = c.requires.afters.end_high in
     let l : length c.flush.new.self.out ≡ 4096 = search rules in
-    rw (c.copy.ensures, rested_put c.flush.new.self.out c.flush.new.self.st.m c.args.ys.now c.flush.new.self.st.y.i (c.args.end - c.flush.new.self.st.y.i) (omega arith) (omega arith)) (ap (λ (a : Memory). rested a c.args.ys.now c.args.end) (ends (goal.at.returns c).After-flush))
+    rw (c.copy_list.ensures, rested_put c.flush.new.self.out c.flush.new.self.st.m c.args.ys.now c.flush.new.self.st.y.i (c.args.end - c.flush.new.self.st.y.i) (omega arith) (omega arith)) (ap (λ (a : Memory). rested a c.args.ys.now c.args.end) (ends (goal.at.returns c).After-flush))

@@ -15,14 +15,14 @@ list c = ap (λ l. l.now) c.unwrap_or-x.ensures ∙ made_or (λ l. l.now) c.args
 pub merge_blocks-r-requires : goal.merge_blocks-r-requires
 merge_blocks-r-requires c = rw (list (goal.at.merge_blocks-r-requires c).After-unwrap_or-x) (c.requires.mergeable _ (search rules))
 
-pub copy-requires : goal.copy-requires
-copy-requires c =
+pub copy_list-requires : goal.copy_list-requires
+copy_list-requires c =
     let p = c.requires in
     let a = c.args in
-    let k = rw (list (goal.at.copy-requires c).After-unwrap_or-x) at (c.merge_blocks-r.ensures (record { used = p.in_use.places; cursor = a.cursor }) refl p.in_use.marks) in
+    let k = rw (list (goal.at.copy_list-requires c).After-unwrap_or-x) at (c.merge_blocks-r.ensures (record { used = p.in_use.places; cursor = a.cursor }) refl p.in_use.marks) in
     (omega (arith, k.count_high, k.list_long), omega (arith, p.fits, leaves_count _ _ _ _ _ _ _ _ k, p.lists_long))
 
 pub returns : goal.returns
 returns c =
     let a = c.args in
-    λ al e m. let k = rw (list (goal.at.returns c).After-unwrap_or-x) at (c.merge_blocks-r.ensures al e m) in record { out = _; leaves = k; put = c.copy.ensures ∙ ap (λ (l : List _). put_at a.parts.start l a.lists.now) k.list }
+    λ al e m. let k = rw (list (goal.at.returns c).After-unwrap_or-x) at (c.merge_blocks-r.ensures al e m) in record { out = _; leaves = k; put = c.copy_list.ensures ∙ ap (λ (l : List _). put_at a.parts.start l a.lists.now) k.list }
