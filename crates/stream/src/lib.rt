@@ -1,7 +1,7 @@
 // Step 3 of a merge: X and Y are read in key order, blocks are reused or their records gathered.
 #![tactic(auto)]
 
-ghost use Rattle.std.specs.Prelude.{◌≡◌, true, false, ℕ, ◌+◌, ◌-◌, ◌≤◌, ◌<◌, is_some, take, drop};
+ghost use Rattle.std.specs.Prelude.{◌≡◌, true, false, ℕ, ◌+◌, ◌-◌, ◌≤◌, ◌<◌, is_some, length, take, drop};
 ghost use Rattle.slices.specs.Slices.{put_at};
 ghost use Rattle.std.specs.Option.{ForSome};
 ghost use Rattle.blocks.specs.Room.{places_most, list_room};
@@ -69,14 +69,8 @@ pub struct Inputs {
 
 // n entries of one place list, from entry `from` on, to those of another, from entry `to` on. A loop, and not the library's copy:
 // between two lists that are lent that one calls memmove, and the library for C calls memcpy and memset alone (include/mewilovang.h).
-pub fn copy_list(
-    list: &[u32; blocks::LIST_ROOM],
-    from: usize,
-    n: usize,
-    out: &mut [u32; blocks::LIST_ROOM],
-    to: usize,
-)
-    requires { (from + n ≤ list_room) × (to + n ≤ list_room) }
+pub fn copy_list(list: &[u32], from: usize, n: usize, out: &mut [u32], to: usize)
+    requires { (from + n ≤ length list.now) × (to + n ≤ length out.old) }
     ensures { out.new ≡ put_at to (take n (drop from list.now)) out.old }
 {
     for i in 0..n {

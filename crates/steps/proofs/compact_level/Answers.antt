@@ -31,6 +31,12 @@ compact-m-requires c =
 pub start_of-at-requires : goal.start_of-at-requires
 start_of-at-requires c = let e = c.levels-h.ensures in (omega (arith, e, c.requires.1.1), omega (arith, e, c.requires.0.proper.valid.ranged.h_high))
 
+pub slice_bounds-copy_list-end : goal.slice_bounds-copy_list-end
+slice_bounds-copy_list-end c =
+    let p = c.requires in
+    let h = rw c.entries-list.ensures at (sym c.needs_compacting.ensures ∙ c.if-not-needs_compacting.false) in
+    out_long _ _ _ _ p.0 (c.args.level - 1) _ _ (omega (arith, p.1.0)) p.1.1 c.levels-h.ensures h c.marks.new.used c.marks.ensures _ _ _ _ (rw c.entries-old.ensures at c.compact-m.ensures)
+
 pub copy_list-requires : goal.copy_list-requires
 copy_list-requires c =
     let p = c.requires in

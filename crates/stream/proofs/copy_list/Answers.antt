@@ -1,7 +1,5 @@
-use borrow.Author.Rules.{rules}
 use native.Mathlib.Omega.{arith}
 use mathlib.Core.Path.{◌≡◌, sym}
-use lib.ListN.{length}
 use Rattle.slices.proofs.Put.{put_none}
 use Rattle.stream.proofs.Lists.{copy_more}
 use Rattle.stream.proofs.copy_list.Goals as goal
@@ -13,8 +11,6 @@ pub loop-i-preserved : goal.loop-i-preserved
 loop-i-preserved c =
     let a = c.args in
     let l = c.loop-i in
-    let e : length a.out.now ≡ 4096 = search rules in
-    let f : length a.list.now ≡ 4096 = search rules in
     rw l.invariant (copy_more a.to a.from l.i a.list.now a.out.now (omega arith) (omega arith))
 
 pub returns : goal.returns
