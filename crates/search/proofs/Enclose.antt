@@ -1,26 +1,29 @@
 -- Of the chunks of a level, only the one that a search finds can enclose the key.
 use Prim.Native.Nat.{ℕ, zero, suc, ◌+◌, ◌-◌, ◌/◌, ◌≤◌, ◌<◌}
-use mathlib.Core.Path.{◌≡◌, refl, ap, ◌∙◌}
+use mathlib.Core.Path.{◌≡◌, refl, sym, ap, ◌∙◌}
 use mathlib.Core.Bool.{Bool, true, false, ◌&&◌, and-false}
 use mathlib.Core.List.{List, [], ◌∷◌, ◌++◌}
 use native.Mathlib.Numerals.{add-one}
 use native.Mathlib.Omega.{arith}
 use Rattle.std.specs.Prelude.{Option, Some, None}
 use borrow.Author.Tests.{lt-leb}
-use lib.Dec.{leb}
+use lib.Dec.{leb, ltb}
+use lib.ListN.{length, get_or}
+use Rattle.slices.specs.Ranks.{count_below}
+use Rattle.slices.proofs.Ranks.{some_not_below}
 use Rattle.levels.specs.Basics.{if◌then◌otherwise◌}
 use Rattle.levels.specs.Record.{Rec, first_key, last_key}
 use Rattle.levels.specs.Rising.{Rising, Below}
 use Rattle.levels.proofs.Rising.{rising_right}
 use Rattle.words.specs.Stores.{word, slots_at}
 use Rattle.chunks.specs.declared.Chunk.{Chunk}
-use Rattle.chunks.specs.Chunks.{chunk_recs}
+use Rattle.chunks.specs.Chunks.{Inside, chunk_recs}
 use Rattle.chunks.proofs.Slots.{slots_first}
 use Rattle.directory.specs.declared.Directory.{Directory}
 use Rattle.directory.specs.Directory.{Formed, records_from, chunk_at}
 use Rattle.search.specs.Search.{Sought, encloses, enclosed_from, enclosed_of}
 use Rattle.search.proofs.Between.{below_left, below_right}
-use Rattle.search.proofs.Laws.{chunk_ready, chunk_first, first_of, others_of, span_before, span_after}
+use Rattle.search.proofs.Laws.{chunk_keys, keys_rising, keys_long, key_is, chunk_ready, chunk_first, first_of, others_of, span_before, span_after}
 
 -- the first and the last key of a chunk
 slots_last : (ws : List ℕ) (m k v n : ℕ) → last_key (slots_at ws m k v (suc n)) ≡ word ws (k + n)
@@ -35,6 +38,20 @@ chunk_last_key : (ws : List ℕ) (c : Chunk) → 1 ≤ c.count → last_key (chu
 chunk_last_key ws c h =
     let e : c.count ≡ suc (c.count - 1) = omega arith in
     ap (λ (n : ℕ). last_key (slots_at ws c.marks c.keys c.pays n)) e ∙ slots_last ws c.marks c.keys c.pays (c.count - 1)
+
+-- a chunk encloses a key if its first key is not above it and not all keys are below it
+module _ (ws : List ℕ) (c : Chunk) (n : Inside c ws) (h : Rising 0 (chunk_recs ws c)) (l : 1 ≤ c.count) (k : ℕ) where
+  abbrev keys : List ℕ
+  keys = chunk_keys ws c
+
+  long : length keys ≡ c.count
+  long = keys_long ws c n h
+
+  chunk_encloses : encloses k (chunk_recs ws c) ≡ (leb (word ws c.keys) k && ltb (count_below k keys) c.count)
+  chunk_encloses =
+      let r = keys_rising ws c n h in
+      let z : word ws (c.keys + (c.count - 1)) ≡ get_or keys (length keys - 1) 0 = rw long (sym (key_is ws c n h (c.count - 1) (omega arith))) in
+      rw (chunk_first_key ws c l, chunk_last_key ws c l, z, some_not_below k 0 keys r (rw long l), long)
 
 last_below : (k : ℕ) (r : Rec) (rs : List Rec) → Below k (r ∷ rs) → last_key (r ∷ rs) < k
 last_below k r [] b = b.0
@@ -102,12 +119,12 @@ module _ (ws : List ℕ) (d : Directory) (k : ℕ) where
         ∙ enclosed_append 0 (r - 0) (suc (d.chunks - (r + 1)))
         ∙ rw (b, q, enclosed_first r (d.chunks - (r + 1)), a)
 
-    -- the same by the first and the last key of that chunk, as the code reads them
-    pub enclosed_read : (r : ℕ) → Sought ws d k r → (c : Chunk) → c ≡ chunk_at ws d r → (first last : ℕ) → first ≡ word ws c.keys → last ≡ word ws (c.keys + (c.count - 1))
-        → enclosed_of ws d k ≡ (if leb first k && leb k last then Some r otherwise None)
-    enclosed_read r s c e first last a z =
+    -- the same by the first key of that chunk and by how many of its keys are below k, as the code reads it
+    pub enclosed_read : (r : ℕ) → Sought ws d k r → (c : Chunk) → c ≡ chunk_at ws d r → (first below : ℕ) → first ≡ word ws c.keys → below ≡ count_below k (chunk_keys ws c)
+        → enclosed_of ws d k ≡ (if leb first k && ltb below c.count then Some r otherwise None)
+    enclosed_read r s c e first below a q =
         let p = chunk_ready ws d f r s.inside c e in
-        sought_encloses r s ∙ rw (← e, chunk_first_key ws c p.1.0, chunk_last_key ws c p.1.0, a, z)
+        sought_encloses r s ∙ rw (← e, chunk_encloses ws c p.0 p.1.1.1 p.1.0 k, a, q)
 
 -- a level of no chunks encloses nothing
 pub enclosed_empty : (ws : List ℕ) (d : Directory) (k : ℕ) → d.chunks < 1 → enclosed_of ws d k ≡ None

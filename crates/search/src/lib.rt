@@ -68,8 +68,10 @@ pub fn enclosing(s: &[u32], dir: Directory, k: usize) -> Option<usize>
     let i = seek_chunk(s, dir, k);
     let chunk = directory::chunk_at(s, dir, i);
     let first = slices::word(s, chunk.keys);
-    let last = slices::word(s, chunk.keys + (chunk.count - 1));
-    if first <= k && k <= last {
+    let below = slices::count_below(s, chunk.keys, chunk.count, k);
+    // The first key is not above k, and the last one not below it.
+    let held = (first <= k) & (below < chunk.count);
+    if held {
         return Some(i);
     }
     None

@@ -1,2 +1,4 @@
+pub mod Again
 pub mod Gathering
 pub mod Handing
+pub mod Passed
