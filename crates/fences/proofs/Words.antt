@@ -80,7 +80,7 @@ keys_top z ws h =
     map_take (λ (r : Rec). r.key) (top_count_at z ws) (top_slots z ws) ∙ rw (keys_pages z ws 0 (capacity_of z.geo 0), e) (each_take (word ws) z.keys (top_count_at z ws) (capacity_of z.geo 0 * z.geo.b) h)
 
 -- the fence of a full page of level 0
-page_words : (z : Layout) (ws : List ℕ) (i : ℕ) → 1 ≤ z.geo.b → suc i * z.geo.b ≤ top_count_at z ws → top_count_at z ws ≤ top_capacity_of z.geo
+pub page_words : (z : Layout) (ws : List ℕ) (i : ℕ) → 1 ≤ z.geo.b → suc i * z.geo.b ≤ top_count_at z ws → top_count_at z ws ≤ top_capacity_of z.geo
     → page_fence z ws i ≡ record { first = word ws (z.keys + i * z.geo.b); last = word ws (z.keys + i * z.geo.b + z.geo.b - 1) }
 unfolding page_fence
 page_words z ws i p h l =

@@ -1,9 +1,9 @@
 // The geometry of a store: six numbers set by format, their limits and the capacities that follow from them (document 01, "Geometry").
 #![tactic(auto)]
 
-ghost use Rattle.std.specs.Prelude.{◌≡◌, ◌+◌, ◌^◌, ◌≤◌};
+ghost use Rattle.std.specs.Prelude.{◌≡◌, ◌+◌, ◌^◌, ◌≤◌, Some};
 ghost use Rattle.geometry.specs.Geometry.{capacity_of, window_of, capacity_sum, flash_capacity_of, key_limit_of, in_ranges, in_sizes, built_of, Ranged, block_width, top_capacity_of};
-ghost use Rattle.geometry.specs.Refusals.{number_of};
+ghost use Rattle.geometry.specs.Refusals.{number_of, text_of};
 
 use std::error::Error;
 use std::fmt;
@@ -45,6 +45,8 @@ impl From<Refusal> for u32 {
 }
 
 impl fmt::Display for Refusal {
+    ghost output = { λ r. Some (text_of r) };
+
     fn fmt<W: fmt::Write>(&self, f: &mut fmt::Formatter<W>) -> fmt::Result {
         f.write_str(match self {
             Refusal::TooShort => "the store has fewer than 12 words",

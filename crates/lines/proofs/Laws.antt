@@ -17,7 +17,11 @@ use Rattle.lines.specs.declared.Reading.{Reading}
 use Rattle.lines.specs.declared.Reading.TheVariants.{Start, Letter, Space, Digits, Spoiled}
 use Rattle.lines.specs.Bytes.{digit_nine, space, letter_d, letter_f, letter_g, letter_p, is_digit, if◌then◌otherwise◌, every}
 use Rattle.lines.specs.Lines.{first_field, further_fields, value_from, value_of, word_limit, is_number, spoken, named, line_of}
-use Rattle.lines.specs.Machine.{letter_of, call_of, no_numbers, pushed, last_of, is_letter, after_start, after_letter, after_space, grown, after_digits, step, run, said, line_after, is_start}
+use Rattle.lines.specs.Machine.{letter_of, call_of, no_numbers, pushed, last_of, after_start, after_letter, after_space, grown, after_digits, step, run, said, line_after, is_start}
+
+-- a byte that a call begins with
+unfoldable pub is_letter : ℕ → Bool
+is_letter x = eqb x letter_f || (eqb x letter_p || (eqb x letter_d || eqb x letter_g))
 
 -- small facts of tests
 pub if_same : {A : Type 0} (t : Bool) (a : A) → (if t then a otherwise a) ≡ a

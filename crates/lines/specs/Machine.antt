@@ -1,6 +1,6 @@
 -- The code's reading of a line byte by byte, as a machine: the contracts' own definitions. What it finds at a line's end is
 -- `Lines.line_of`, the law `line_is` of `proofs/Laws.antt`.
-use Rattle.std.specs.Prelude.{ℕ, ◌+◌, ◌-◌, ◌*◌, Bool, true, false, ◌&&◌, ◌||◌, List, [], ◌∷◌, Option, None, Some, ltb, eqb, get_or, set}
+use Rattle.std.specs.Prelude.{ℕ, ◌+◌, ◌-◌, ◌*◌, Bool, true, false, ◌&&◌, List, [], ◌∷◌, Option, None, Some, ltb, eqb, get_or, set}
 use Rattle.lines.specs.declared.Line.{Line}
 use Rattle.lines.specs.declared.Line.TheVariants.{Format, Put, Delete, Get, Unreadable}
 use Rattle.lines.specs.declared.Call.{Call}
@@ -56,9 +56,6 @@ pushed ns v = record { count = ns.count + 1; last = fifth_of ns ∷ fourth_of ns
 -- the last number exchanged
 abbrev pub relast : Numbers → ℕ → Numbers
 relast ns v = record { count = ns.count; last = set ns.last 5 v }
-
-unfoldable pub is_letter : ℕ → Bool
-is_letter x = eqb x letter_f || (eqb x letter_p || (eqb x letter_d || eqb x letter_g))
 
 unfoldable pub after_start : ℕ → Reading
 after_start x = elim (call_of x) [ Some call ↦ Letter call | None ↦ Spoiled ]

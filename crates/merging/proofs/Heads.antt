@@ -67,14 +67,14 @@ recs_tombstone ws c j (suc n) h = go (get_or ws c.marks 0 / 2 ^ j) refl (recs_to
 
 -- what a head shows of the blocks that are left
 pub record Shows (ws : List ℕ) (h : Head) (b : Block) : Type 0 where
-  pub whole : is_some h.place ≡ placed b
+  pub whole : is_some h.whole ≡ placed b
   pub key : h.key ≡ first_key b.recs
   pub last : get_or ws (h.keys + (h.n - 1)) 0 ≡ last_key b.recs
   pub head : head_rec b ≡ record { key = h.key; tombstone = eqb h.tombstone 1; pay = h.pay }
   pub filled : 1 ≤ size b
-  pub place : (q : ℕ) → h.place ≡ Some q → b.place ≡ some q
-  pub n : is_some h.place ≡ true → h.n ≡ size b
-  pub marks : is_some h.place ≡ true → has_tombstone b.recs ≡ not (eqb h.marks 0)
+  pub place : (q : ℕ) → h.whole ≡ Some q → b.place ≡ some q
+  pub n : is_some h.whole ≡ true → h.n ≡ size b
+  pub marks : is_some h.whole ≡ true → has_tombstone b.recs ≡ not (eqb h.marks 0)
 
 pub data Sees (ws : List ℕ) : Option Head → Level → Type 0 where
   nothing : Sees ws None []
@@ -88,7 +88,7 @@ pub shows_at : (z : Offsets) (ws : List ℕ) (c : Chunk) (j : ℕ) → Formed z 
 unfolding recs_from
 shows_at z ws c zero f l = go c.n c.place refl f.low
   where
-    go : (n : ℕ) (o : Option ℕ) → c.n ≡ n → 1 ≤ n → Shows ws (record { key = get_or ws (c.keys + 0) 0; tombstone = get_or ws c.marks 0 / 2 ^ 0 % 2; pay = get_or ws (c.pays + 0) 0; marks = get_or ws c.marks 0; keys = c.keys; pays = c.pays; n = n; place = o }) (record { place = elim o [ Some q ↦ some q | None ↦ none ]; recs = recs_from ws c 0 n })
+    go : (n : ℕ) (o : Option ℕ) → c.n ≡ n → 1 ≤ n → Shows ws (record { key = get_or ws (c.keys + 0) 0; tombstone = get_or ws c.marks 0 / 2 ^ 0 % 2; pay = get_or ws (c.pays + 0) 0; marks = get_or ws c.marks 0; keys = c.keys; pays = c.pays; n = n; place = o; whole = o }) (record { place = elim o [ Some q ↦ some q | None ↦ none ]; recs = recs_from ws c 0 n })
     go zero o e l = absurd (omega arith)
     go (suc n) o e l =
         record {
@@ -156,9 +156,9 @@ off false v x = refl
 pub follows_same : (z : Offsets) (bottom : Bool) (ws : List ℕ) (h : Head) (o : Option Head) (b : Block) (l : Level) (out : Out) (e : ℕ) → Shows ws h b → Sees ws o l → e ≡ head_size z.b out.done
     → follows z bottom ws h o (length out.buffer) e ≡ reusable z.b bottom out l b
 unfolding follows whole_below
-follows_same z bottom ws h o b l out e s t d = go (is_some h.place) refl out.buffer out.done d
+follows_same z bottom ws h o b l out e s t d = go (is_some h.whole) refl out.buffer out.done d
   where
-    go : (w : Bool) → is_some h.place ≡ w → (buf : List Rec) (done : Level) → e ≡ head_size z.b done → follows z bottom ws h o (length buf) e ≡ reusable z.b bottom (record { buffer = buf; done = done }) l b
+    go : (w : Bool) → is_some h.whole ≡ w → (buf : List Rec) (done : Level) → e ≡ head_size z.b done → follows z bottom ws h o (length buf) e ≡ reusable z.b bottom (record { buffer = buf; done = done }) l b
     go false w buf done d = rw (← s.whole, w) (if_same (eqb (length buf) 0) ∙ sym (off (ends_below (last_key b.recs) l) _ _))
     go true w [] done d =
         rw (← s.whole, w, ends_same ws (last_key b.recs) o l t, s.last, s.marks w, s.n w, d, apart_same z.b (size b) done s.filled)

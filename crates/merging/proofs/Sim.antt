@@ -100,7 +100,7 @@ module _ {z : Offsets} {pages : Bool} {ws : List ℕ} {used : List Bool} {list :
   whole_is : eqb p.j 0 ≡ true → block_of ws chunk ≡ top
   whole_is e = rw (eqb-true p.j 0 e)
 
-  found : (q : ℕ) → head.place ≡ Some q → Placed z ws used q top
+  found : (q : ℕ) → head.whole ≡ Some q → Placed z ws used q top
   found q e = go (eqb p.j 0) refl e
     where
       go : (t : Bool) → eqb p.j 0 ≡ t → (if t then chunk.place otherwise None) ≡ Some q → Placed z ws used q top
@@ -228,7 +228,7 @@ module _ (z : Offsets) (t : Inputs) (xs ys : List ℕ) (d : Flash) where
 
     -- a block reused is the one that the head shows
     placed_at : (i : Option Head) (end : ℕ) (pages : Bool) (list : List ℕ) (p : Point) (k : SideAt z pages a.words a.used list end p) (g : p.i < end) (q : ℕ) → whole (head k g) i ≡ Some q → Placed z a.words a.used q (top k g)
-    placed_at i end pages list p k g q f = found k g q (place_of_start (follows z t.bottom a.words (head k g) i a.st.buf.n (last_size z a.words a.out a.st.m)) (head k g).place q f)
+    placed_at i end pages list p k g q f = found k g q (place_of_start (follows z t.bottom a.words (head k g) i a.st.buf.n (last_size z a.words a.out a.st.m)) (head k g).whole q f)
 
     module _ (gx : a.st.x.i < t.x) where
       upper_step : (i : Option Head) (l : Level) → l ≡ side z false a.words ys a.st.y.i a.st.y.j t.y → Sees a.words i l → let h = head c.upper gx in let w = whole h i in

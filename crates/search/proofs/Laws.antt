@@ -195,11 +195,11 @@ module _ (ws : List ℕ) (d : Directory) (f : Formed d ws) where
       pub level_absent : (i : ℕ) → Err i ≡ rank_of k (chunk_keys ws c) → find k (records_of ws d) ≡ none
       level_absent i f = sym sought_find ∙ rw (← e) (chunk_absent ws c ready.0 ready.1.1.1 k (rank_err k i (chunk_keys ws c) f).0)
 
-      pub level_here : (i : ℕ) → Ok i ≡ rank_of k (chunk_keys ws c) → (i < 16) × (c.pays + i < length ws) × (find k (records_of ws d) ≡ some (slot_of ws c i))
+      pub level_here : (i : ℕ) → Ok i ≡ rank_of k (chunk_keys ws c) → (i < 16) × (c.pays + i < length ws) × (find k (records_of ws d) ≡ some (slot_of ws c i)) × (i < c.count)
       level_here i f =
           let o = rank_ok k i (chunk_keys ws c) f in
           let p = chunk_here ws c ready.0 ready.1.1.1 k i o.1 o.0 in
-          (omega (arith, p.0, ready.1.1.0), omega (arith, p.0, ready.0.pays_end), sym sought_find ∙ rw (← e) p.1)
+          (omega (arith, p.0, ready.1.1.0), omega (arith, p.0, ready.0.pays_end), sym sought_find ∙ rw (← e) p.1, p.0)
 
       module _ (i : ℕ) (q : i ≡ count_below k (chunk_keys ws c)) where
         -- or where it would stand

@@ -10,16 +10,18 @@ use borrow.Author.Tests.{leb-true, leb-false, lt-leb, ne_eqb}
 use lib.ListN.{length, get_or, take, drop, length-drop}
 use lib.Seq.{length-take-le, get_or-take, get_or-drop}
 use Rattle.std.specs.Prelude.{Option, Some, None, is_some}
+use Rattle.std.specs.Option.{ForSome}
 use Rattle.slices.specs.Ranks.{count_below}
 use Rattle.slices.proofs.Ranks.{all_below}
 use Rattle.levels.specs.Basics.{if◌then◌otherwise◌}
 use Rattle.levels.proofs.Basics.{if_either}
 use Rattle.blocks.specs.declared.Offsets.{Offsets}
 use Rattle.blocks.specs.Blocks.{Sized, start_of}
+use Rattle.blocks.specs.Room.{places_most}
 use Rattle.blocks.proofs.Laws.{ends}
 use Rattle.sides.specs.declared.Chunk.{Chunk}
 use Rattle.sides.specs.declared.Head.{Head}
-use Rattle.sides.specs.Sides.{HeadOk, Chunked, Readable, Searchable, chunk_of, head_of, head_at, no_head, last_size, whole_below, follows, follows_at}
+use Rattle.sides.specs.Sides.{Chunked, Readable, Searchable, chunk_of, head_of, head_at, no_head, last_size, whole_below, follows, follows_at}
 
 -- the words of a chunk lie in the store
 pub chunk_inside : (z : Offsets) (pages : Bool) (xs list : List ℕ) (i : ℕ) → Chunked z pages xs list i → (chunk_of z pages xs list i).n ≤ z.b
@@ -43,7 +45,14 @@ unfolding chunk_of
 chunk_place_lem z true xs list i k q e = absurd (cc)
 chunk_place_lem z false xs list i k q e = let f : get_or list i 0 ≡ q = cc in let l = k.place refl in let s = k.sized in omega arith
 
--- the place that a record has, or a block that follows, is its block's
+-- what is read at a record: a mark bit, a block's records, a place, and that place at the block's first record
+pub record HeadOk (h : Head) : Type 0 where
+  pub tombstone : h.tombstone < 2
+  pub n : h.n ≤ 16
+  pub place : ForSome h.place (λ q. q < places_most)
+  pub whole : ForSome h.whole (λ q. q < places_most)
+
+-- the place that a block's first record has, or a block that follows, is the block's
 pub place_of_start : (t : Bool) (o : Option ℕ) (q : ℕ) → (if t then o otherwise None) ≡ Some q → o ≡ Some q
 place_of_start true o q e = e
 place_of_start false o q e = absurd (cc)
@@ -83,11 +92,8 @@ module _ (z : Offsets) (pages : Bool) (xs list : List ℕ) (i j end : ℕ) (k : 
   -- the next record of a side is a record
   pub head_ok : HeadOk h
   head_ok =
-      of_record HeadOk (record {
-        tombstone = omega arith;
-        n = omega (arith, k.count within, k.sized);
-        place = λ q f. chunk_place_lem z pages xs list i (readable_chunked z pages xs list i j end k within) q (place_of_start (eqb j 0) chunk.place q f);
-      })
+      let low = chunk_place_lem z pages xs list i (readable_chunked z pages xs list i j end k within) in
+      of_record HeadOk (record { tombstone = omega arith; n = omega (arith, k.count within, k.sized); place = low; whole = λ q f. low q (place_of_start (eqb j 0) chunk.place q f) })
 
   pub head_some : (i < 4096) × (j < 16)
   head_some = (omega (arith, k.end_high, within), omega (arith, k.inside within, k.count within, k.sized))
@@ -109,12 +115,12 @@ and_no : (p q : Bool) → p ≡ false → (p && q) ≡ false
 and_no true q e = absurd (true≢false e)
 and_no false q e = refl
 
--- a block that has no place does not follow
-follows_placed : (z : Offsets) (bottom : Bool) (xs : List ℕ) (h : Head) (o : Option Head) (n e : ℕ) → is_some h.place ≡ false → follows z bottom xs h o n e ≡ false
+-- a block that is not at its first record, or has no place, does not follow
+follows_placed : (z : Offsets) (bottom : Bool) (xs : List ℕ) (h : Head) (o : Option Head) (n e : ℕ) → is_some h.whole ≡ false → follows z bottom xs h o n e ≡ false
 unfolding follows whole_below
 follows_placed z bottom xs h o n e w = if_either (λ (v : Bool). v ≡ false) (eqb n 0) _ _ (and_no _ _ (and_no _ _ w)) (and_no _ _ (and_no _ _ w))
 
--- nor does that of a record that is not its first
+-- that of a later record, for one
 pub follows_late : (z : Offsets) (bottom : Bool) (xs : List ℕ) (c : Chunk) (j : ℕ) (o : Option Head) (n e : ℕ) → 1 ≤ j → follows z bottom xs (head_at xs c j) o n e ≡ false
 follows_late z bottom xs c j o n e l =
     let w : is_some (if eqb j 0 then c.place otherwise None) ≡ false = rw (ne_eqb j 0 (λ s. omega arith)) in
@@ -122,9 +128,9 @@ follows_late z bottom xs c j o n e l =
 
 -- so a place is given exactly where the block follows
 pub follows_some : (z : Offsets) (bottom : Bool) (xs : List ℕ) (h : Head) (o : Option Head) (n e : ℕ) → is_some (follows_at z bottom xs h o n e) ≡ follows z bottom xs h o n e
-follows_some z bottom xs h o n e = go (follows z bottom xs h o n e) (is_some h.place) refl refl
+follows_some z bottom xs h o n e = go (follows z bottom xs h o n e) (is_some h.whole) refl refl
   where
-    go : (t u : Bool) → follows z bottom xs h o n e ≡ t → is_some h.place ≡ u → is_some (if t then h.place otherwise None) ≡ t
+    go : (t u : Bool) → follows z bottom xs h o n e ≡ t → is_some h.whole ≡ u → is_some (if t then h.whole otherwise None) ≡ t
     go true true f w = w
     go true false f w = absurd (true≢false (sym f ∙ follows_placed z bottom xs h o n e w))
     go false u f w = refl

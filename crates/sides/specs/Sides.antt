@@ -1,11 +1,10 @@
 -- What a side of a merge reads next, and whether its block may follow as it stands: what the code does.
 use Rattle.std.specs.Prelude.{ℕ, ◌+◌, ◌-◌, ◌*◌, ◌/◌, ◌%◌, ◌^◌, ◌≤◌, ◌<◌, ◌≡◌, Bool, true, false, not, ◌&&◌, List, ltb, leb, eqb, length, get_or, take, drop, Option, None, Some, is_some}
-use Rattle.std.specs.Option.{ForSome}
 use Rattle.slices.specs.Ranks.{Rising}
 use Rattle.levels.specs.Basics.{if◌then◌otherwise◌}
 use Rattle.blocks.specs.declared.Offsets.{Offsets}
 use Rattle.blocks.specs.Blocks.{Sized, start_of}
-use Rattle.blocks.specs.Room.{places_most, list_room}
+use Rattle.blocks.specs.Room.{list_room}
 use Rattle.sides.specs.declared.Chunk.{Chunk}
 use Rattle.sides.specs.declared.Head.{Head}
 
@@ -57,7 +56,8 @@ head_at xs c j =
       keys = c.keys;
       pays = c.pays;
       n = c.n;
-      place = if eqb j 0 then c.place otherwise None;
+      place = c.place;
+      whole = if eqb j 0 then c.place otherwise None;
     }
 
 -- what a side reads next, record j of chunk i, or that it is used up
@@ -88,7 +88,7 @@ pub record Searchable (xs : List ℕ) (h : Head) : Type 0 where
 
 -- a starts a listed block whose last key is below b's next key
 unfoldable pub whole_below : List ℕ → Head → Option Head → Bool
-whole_below xs a b = is_some a.place && comes_before (get_or xs (a.keys + (a.n - 1)) 0) b
+whole_below xs a b = is_some a.whole && comes_before (get_or xs (a.keys + (a.n - 1)) 0) b
 
 -- Step 3, "b is reused at its place if ..": a starts a listed block that ends below b's next key, it has no mark in level h, and the
 -- buffer of n records, the block and e of e records hold more than B together, pair by pair
@@ -99,10 +99,4 @@ follows z bottom xs a b n e =
 
 -- the place of a's block, where it follows as it stands
 abbrev pub follows_at : Offsets → Bool → List ℕ → Head → Option Head → ℕ → ℕ → Option ℕ
-follows_at z bottom xs a b n e = if follows z bottom xs a b n e then a.place otherwise None
-
--- what is read at a record: a mark bit, a block's records, a place
-pub record HeadOk (h : Head) : Type 0 where
-  pub tombstone : h.tombstone < 2
-  pub n : h.n ≤ 16
-  pub place : ForSome h.place (λ q. q < places_most)
+follows_at z bottom xs a b n e = if follows z bottom xs a b n e then a.whole otherwise None

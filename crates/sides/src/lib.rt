@@ -21,7 +21,8 @@ pub struct Chunk {
 }
 
 // What a side of the merge reads next: the next record, and the block that it stands in, by its mark word, the indices of its
-// first key and payload and its count. A record that starts a listed block has its place: the block may then be reused.
+// first key and payload and its count. `place` is the block's place, whichever of its records comes; a page has none. `whole` is that
+// place again, if the record starts the block, which may then be reused; None at a later record.
 #[derive(Clone, Copy)]
 pub struct Head {
     pub key: u32,
@@ -32,6 +33,7 @@ pub struct Head {
     pub pays: usize,
     pub n: usize,
     pub place: Option<usize>,
+    pub whole: Option<usize>,
 }
 
 // The block at place q.
@@ -91,7 +93,7 @@ pub fn head_at(s: &[u32], chunk: Chunk, j: usize) -> Head
     let m = s[ma];
     let k = s[ka + j];
     let v = s[va + j];
-    let place = if j == 0 { chunk.place } else { None };
+    let whole = if j == 0 { chunk.place } else { None };
     Head {
         key: k,
         tombstone: (m >> j) % 2,
@@ -100,7 +102,8 @@ pub fn head_at(s: &[u32], chunk: Chunk, j: usize) -> Head
         keys: ka,
         pays: va,
         n: n,
-        place: place,
+        place: chunk.place,
+        whole: whole,
     }
 }
 
@@ -150,10 +153,10 @@ pub fn before(a: Option<Head>, other: Option<Head>) -> bool
 
 // a starts a listed block that ends below the other's next key: all its keys are below it.
 fn whole_below(s: &[u32], a: Head, other: Option<Head>) -> bool
-    requires { is_some a.place ≡ true → Searchable s.now a }
+    requires { is_some a.whole ≡ true → Searchable s.now a }
     ensures { result ≡ whole_below s.now a other }
 {
-    if a.place.is_none() {
+    if a.whole.is_none() {
         return false;
     }
     let Some(b) = other else {
@@ -173,7 +176,7 @@ fn may_follow(
     n: usize,
     e: usize,
 ) -> bool
-    requires { (z.b ≤ 16) × (a.n ≤ 16) × (n ≤ 16) × (e < 2 ^ 32) × (is_some a.place ≡ true → Searchable s.now a) }
+    requires { (z.b ≤ 16) × (a.n ≤ 16) × (n ≤ 16) × (e < 2 ^ 32) × (is_some a.whole ≡ true → Searchable s.now a) }
     ensures { result ≡ follows z bottom s.now a other n e }
 {
     let cap = z.b;
@@ -196,11 +199,11 @@ pub fn reusable(
     n: usize,
     e: usize,
 ) -> Option<usize>
-    requires { (z.b ≤ 16) × (a.n ≤ 16) × (n ≤ 16) × (e < 2 ^ 32) × (is_some a.place ≡ true → Searchable s.now a) }
+    requires { (z.b ≤ 16) × (a.n ≤ 16) × (n ≤ 16) × (e < 2 ^ 32) × (is_some a.whole ≡ true → Searchable s.now a) }
     ensures { result ≡ follows_at z bottom s.now a other n e }
 {
     if may_follow(s, z, bottom, a, other, n, e) {
-        a.place
+        a.whole
     } else {
         None
     }

@@ -1,5 +1,5 @@
 -- Step 5 for one level, on words and lists.
-use Prim.Native.Nat.{ℕ, suc, ◌+◌, ◌-◌, ◌≤◌, ◌<◌}
+use Prim.Native.Nat.{ℕ, zero, suc, ◌+◌, ◌-◌, ◌≤◌, ◌<◌}
 use mathlib.Core.Path.{◌≡◌, refl, sym, ap, ◌∙◌, subst}
 use mathlib.Core.Bool.{Bool, true, false}
 use mathlib.Core.List.{List, [], ◌∷◌, map, append-nil}
@@ -42,7 +42,7 @@ use Rattle.compaction.specs.Machine.{Countable, Compactable}
 use Rattle.pair.proofs.Room.{count_few}
 use Rattle.steps.specs.declared.Counts.{Counts}
 use Rattle.steps.specs.declared.Run.{Run}
-use Rattle.steps.specs.Running.{Tally, counts_in, no_counts, named, store_of, Marking, numbers_of, plus, sum_of, counted, Grown, Leaving, Running, compacted_counts}
+use Rattle.steps.specs.Running.{Tally, counts_in, no_counts, named, store_of, Marking, numbers_of, plus, sum_of, index_of, counted, Grown, Leaving, Running, compacted_counts}
 use Rattle.steps.proofs.Standing.{inside_short, stand, top_fits_lem, held_words, places_new, level_is, entries_are, in_part, countable, mergeables, marking}
 use Rattle.layout.specs.declared.Layout.{Layout}
 
@@ -69,10 +69,17 @@ grown_none f t h = (refl, λ j l. let n = h (suc j) in same_counts (numbers_of (
 abbrev none : levels.Counts
 none = numbers_of no_counts
 
+-- where the counts of level j + 1 stand
+index_is : (level j : ℕ) → level ≡ suc j → level ≤ 3 → index_of level ≡ j
+index_is level zero e h = ap index_of e
+index_is level (suc zero) e h = ap index_of e
+index_is level (suc (suc zero)) e h = ap index_of e
+index_is level (suc (suc (suc j))) e h = absurd (omega arith)
+
 -- c more for level j + 1
-pub grown_counted : (f : ℕ → levels.Counts) (t u : Tally) (level j : ℕ) (c : Counts) → level ≡ suc j → j < length t → u ≡ counted t level c → ((i : ℕ) → f i ≡ (if eqb level i then numbers_of c otherwise none)) → Grown f t u
-grown_counted f t u level j c el h e q =
-    let b : level - 1 ≡ j = omega arith in
+pub grown_counted : (f : ℕ → levels.Counts) (t u : Tally) (level j : ℕ) (c : Counts) → level ≡ suc j → level ≤ 3 → j < length t → u ≡ counted t level c → ((i : ℕ) → f i ≡ (if eqb level i then numbers_of c otherwise none)) → Grown f t u
+grown_counted f t u level j c el l3 h e q =
+    let b : index_of level ≡ j = index_is level j el l3 in
     let d : u ≡ set t j (sum_of (counts_in t j) c) = e ∙ rw b in
     rw d (length-set t j (sum_of (counts_in t j) c), λ i l. more i (ℕ_discrete i j))
   where
@@ -227,6 +234,6 @@ module _ (z : Layout) (ws lists : List ℕ) (r : Run) (k : Running 2000000000 z 
             (record {
               stands = stand z k.entry c.finish ws' _ _ k.proper facts.finish_inside held fits relisted left_is.cursor;
               words = held_words z c.finish st.written ws ws' held left_is.words;
-              counts = grown_counted (compacted_counts (c ∷ [])) r.tally tally level j (record { merges = 0; written = 0; compacted = m.writes }) el (omega (arith, low, k.proper.valid.ranged.h_high, k.small.three)) et
+              counts = grown_counted (compacted_counts (c ∷ [])) r.tally tally level j (record { merges = 0; written = 0; compacted = m.writes }) el (omega (arith, el, low, k.proper.valid.ranged.h_high)) (omega (arith, low, k.proper.valid.ranged.h_high, k.small.three)) et
                   (λ i. compacted_one c m.writes (suc j) refl w i ∙ ap (λ (x : ℕ). if eqb x i then (record { merges = 0; written = 0; compacted = m.writes }) otherwise none) (sym el));
             })

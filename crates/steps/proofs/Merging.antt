@@ -100,7 +100,7 @@ module _ (z : Layout) (e t : Store) (i : ℕ) (v : Proper z) (f : MergeFacts z.g
   pub merged_grown : (tally u : Tally) (k n : ℕ) → length tally ≡ 3 → k ≡ suc i → n ≡ length (merge_level z.geo i t).written → u ≡ counted tally k (record { merges = 1; written = n; compacted = 0 }) → Grown (merged_counts (merge_level z.geo i t)) tally u
   merged_grown tally u k n long ek en eu =
       let b : blocks_merged (merge_level z.geo i t) ≡ n = merge_written z.geo e (merge_level z.geo i t) v.valid f ∙ sym en in
-      grown_counted (merged_counts (merge_level z.geo i t)) tally u k i (record { merges = 1; written = n; compacted = 0 }) ek (omega (arith, long, level_low, v.valid.ranged.h_high)) eu
+      grown_counted (merged_counts (merge_level z.geo i t)) tally u k i (record { merges = 1; written = n; compacted = 0 }) ek (omega (arith, ek, level_low, v.valid.ranged.h_high)) (omega (arith, long, level_low, v.valid.ranged.h_high)) eu
       (λ x. ap (λ (y : ℕ). of y (blocks_merged (merge_level z.geo i t)) x) (ap suc (merge_level_lem z.geo i t) ∙ sym ek) ∙ ap (λ (y : ℕ). of k y x) b ∙ pick (eqb k x) n)
     where
       of : ℕ → ℕ → ℕ → levels.Counts

@@ -78,9 +78,13 @@ no_counts = record { merges = 0; written = 0; compacted = 0 }
 abbrev pub counts_in : Tally → ℕ → Counts
 counts_in t j = get_or t j no_counts
 
+-- where the counts of a level stand in a tally; no other number is asked for, and one would be taken for level 3's
+abbrev pub index_of : ℕ → ℕ
+index_of level = if eqb level 1 then 0 otherwise if eqb level 2 then 1 otherwise 2
+
 -- a tally with c added to the counts of a level
 abbrev pub counted : Tally → ℕ → Counts → Tally
-counted t level c = set t (level - 1) (sum_of (counts_in t (level - 1)) c)
+counted t level c = set t (index_of level) (sum_of (counts_in t (index_of level)) c)
 
 -- No call counts so many of anything: it makes at most 98,304 merges (`cascade`), and each adds at most 16,384 to a count. So no
 -- sum wraps. A step begins with fewer, so that it ends within it.

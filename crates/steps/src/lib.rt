@@ -57,11 +57,15 @@ fn sum(a: Counts, more: Counts) -> Counts
 
 // As many more for a level.
 fn count(t: Tally, level: usize, more: Counts) -> Tally
-    requires { (1 ≤ level) × ((level ≤ 3) × (Small counts_most t × Few places_most more)) }
+    requires { Small counts_most t × Few places_most more }
     ensures { result ≡ counted t level more }
 {
+    let j = match level {
+        1 => 0,
+        2 => 1,
+        _ => 2,
+    };
     let mut grown = t;
-    let j = level - 1;
     grown[j] = sum(t[j], more);
     grown
 }

@@ -17,11 +17,9 @@ use geometry::Refusal;
 use layout::Layout;
 use levels::Ticket;
 use reader::{Facts, Part};
+use tickets::ROOM;
 use walk::Listed;
 use writer::Change;
-
-// Rows for the tickets of a call: no call makes more merges (law `merges-few` of levels).
-const ROOM: usize = 512;
 
 // An empty store of this geometry, whatever the words were before: N, or why the words or the geometry are turned down.
 pub fn format(s: &mut [u32], b: u32, w: u32, d: u32, g: u32, h: u32, p: u32) -> Result<u32, Refusal>

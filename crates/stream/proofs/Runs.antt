@@ -299,8 +299,8 @@ module _ (z : Offsets) (t : Inputs) (xs ys : List ℕ) (a : Memory) where
     whole_low : Readable z t.pages a.words xs p.i p.j t.x → Readable z false a.words ys q.i q.j t.y → (k : ℕ) → c.whole ≡ Some k → k < 8192
     whole_low kx ky =
         chosen_by z t.bottom a.words p q (λ (m : Move). (k : ℕ) → m.whole ≡ Some k → k < 8192) x y n e c s
-        (λ i r f k w. (head_ok z false a.words ys q.i q.j t.y ky i r).place k (place_of_start (follows z t.bottom a.words i x n e) i.place k w))
-        (λ h r f g k w. (head_ok z t.pages a.words xs p.i p.j t.x kx h r).place k (place_of_start (follows z t.bottom a.words h y n e) h.place k w)) (λ h i r v f g k w. absurd (cc))
+        (λ i r f k w. (head_ok z false a.words ys q.i q.j t.y ky i r).whole k (place_of_start (follows z t.bottom a.words i x n e) i.whole k w))
+        (λ h r f g k w. (head_ok z t.pages a.words xs p.i p.j t.x kx h r).whole k (place_of_start (follows z t.bottom a.words h y n e) h.whole k w)) (λ h i r v f g k w. absurd (cc))
 
     -- what the code makes of the next move
     abbrev pub Grown : Run → Type 0

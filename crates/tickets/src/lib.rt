@@ -7,6 +7,9 @@ ghost use Rattle.levels.specs.Tickets.{ticket_from, laid};
 
 use levels::Ticket;
 
+// Rows for the tickets of a call: no call makes more merges (law `merges-few` of levels).
+pub const ROOM: usize = 512;
+
 // The tickets of rows into the caller's list, in their order, as many as fit.
 pub fn hand_out(tickets: &mut [Ticket], rows: &[[u32; 4]])
     ensures { tickets.new ≡ laid (map ticket_from rows.now) tickets.old }

@@ -1,8 +1,11 @@
--- The room for the answers to a part.
+-- A count of a part's bytes, of the whole; the room for the answers to a part.
 use mathlib.Core.Path.{◌≡◌, subst, sym}
 use native.Mathlib.Nat.{mul-le-mul_left, min-le_right}
-use Rattle.std.proofs.Common.{ℕ, ◌+◌, ◌*◌, ◌≤◌, List, length, take, length-take, arith}
+use Rattle.std.proofs.Common.{ℕ, ◌+◌, ◌-◌, ◌*◌, ◌≤◌, List, length, take, drop, length-take, length-drop, arith}
 use Rattle.dialogue.specs.Said.{tickets_most, longest_answer}
+
+pub within : (xs : List ℕ) (a n : ℕ) → n ≤ length (take (length xs - a) (drop a xs)) → a ≤ length xs → a + n ≤ length xs
+within xs a n h l = let k = rw (length-take (length xs - a) (drop a xs), length-drop a xs) at h in omega arith
 
 pub part_fits : (n : ℕ) (xs : List ℕ) (l : ℕ) → length xs ≡ l → length (take n xs) ≤ l
 part_fits n xs l e = omega (arith, e, length-take n xs, min-le_right n (length xs))

@@ -158,16 +158,13 @@ module _ (ws : List ℕ) (d : Directory) (f : Formed d ws) (q r : ℕ) (s : Soug
       }
 
 -- a cursor into a level of no chunks
-pub from_none : (ws : List ℕ) (d : Directory) (q : ℕ) → Formed d ws → d.chunks < 1 → q ≤ 4294967296
-    → FromKey ws d q (record { dir = d; next = 0; chunk = record { marks = 0; keys = 0; pays = 0; count = 0 }; key = 4294967296 })
+pub from_none : (ws : List ℕ) (d : Directory) (q : ℕ) (c : Cursor) → d.chunks < 1 → q ≤ 4294967296 → Good ws c → rest ws c ≡ records_from ws d 0 (d.chunks - 0) → FromKey ws d q c
 unfolding records_from
-from_none ws d q f l h =
-    let c : Cursor = record { dir = d; next = 0; chunk = record { marks = 0; keys = 0; pays = 0; count = 0 }; key = 4294967296 } in
+from_none ws d q c l h g e =
     let z : d.chunks ≡ 0 = omega arith in
-    let g = refill_none ws d f 0 (omega arith) (omega arith) in
     let y : d.chunks - 0 ≡ 0 = omega arith in
-    let r : rest ws c ≡ [] = rw y at g.1 in
-    record { good = g.0; passed = []; cut = rw (r, z); below = tt; ahead = h }
+    let r : rest ws c ≡ [] = rw y at e in
+    record { good = g; passed = []; cut = rw (r, z); below = tt; ahead = key_from ws q c g h (rw r tt) }
 
 split_level : (ws : List ℕ) (d : Directory) (q : ℕ) (c : Cursor) → Formed d ws → (k : FromKey ws d q c) → Split q (records_of ws d) k.passed (rest ws c)
 split_level ws d q c f k =

@@ -1,6 +1,6 @@
 -- What a cursor's next record is, and what is left without it.
 use Prim.Native.Nat.{ℕ, suc, ◌+◌, ◌-◌, ◌/◌, ◌≤◌, ◌<◌}
-use mathlib.Core.Path.{◌≡◌, sym, ◌∙◌, refl}
+use mathlib.Core.Path.{◌≡◌, sym, ap, ◌∙◌, refl}
 use mathlib.Core.Logic.{dite}
 use mathlib.Core.List.{List, [], ◌∷◌, ◌++◌}
 use native.Mathlib.Decide.{ℕ_discrete, dec_lt}
@@ -102,6 +102,21 @@ module _ (ws : List ℕ) (d : Directory) (f : Formed d ws) (next : ℕ) where
       let p : d.chunks - next ≡ 0 = omega arith in
       (record { formed = f; low = h2; keys_in = omega arith; pays_in = omega arith; alive = λ y. absurd (omega arith); ended = λ z. (refl, omega arith) }, rw p)
 
+-- a cursor one record further in its chunk
+pub step_chunk : (ws : List ℕ) (c : Cursor) (key : ℕ) → Good ws c → 1 < c.chunk.count → key ≡ word ws (c.chunk.keys + 1) → key < 4294967296
+    → Good ws (record { dir = c.dir; next = c.next; chunk = record { marks = c.chunk.marks / 2; keys = c.chunk.keys + 1; pays = c.chunk.pays + 1; count = c.chunk.count - 1 }; key = key })
+step_chunk ws c key g h e b =
+    record { formed = g.formed; low = g.low; keys_in = let p = g.keys_in in omega arith; pays_in = let p = g.pays_in in omega arith; alive = λ y. (e, b); ended = λ z. absurd (omega arith) }
+
+pub more_chunk : (ws : List ℕ) (c : Cursor) (key : ℕ) → rest ws (record { dir = c.dir; next = c.next; chunk = record { marks = c.chunk.marks / 2; keys = c.chunk.keys + 1; pays = c.chunk.pays + 1; count = c.chunk.count - 1 }; key = key }) ≡ more ws c
+unfolding rest
+more_chunk ws c key = refl
+
+-- the last record of a chunk leaves the chunks after it
+pub more_last : (ws : List ℕ) (c : Cursor) → c.chunk.count ≤ 1 → more ws c ≡ records_from ws c.dir c.next (c.dir.chunks - c.next)
+unfolding slots_at
+more_last ws c h = let p : c.chunk.count - 1 ≡ 0 = omega arith in rw p
+
 -- a cursor one record further in its chunk, or at the chunk after it
 module _ (ws : List ℕ) (c : Cursor) (g : Good ws c) (h : c.key < 4294967296) where
   -- its next record can be read
@@ -111,15 +126,10 @@ module _ (ws : List ℕ) (c : Cursor) (g : Good ws c) (h : c.key < 4294967296) w
   pub advance_in : (key : ℕ) → 1 < c.chunk.count → key ≡ word ws (c.chunk.keys + 1) → key < 4294967296
       → Good ws (record { dir = c.dir; next = c.next; chunk = record { marks = c.chunk.marks / 2; keys = c.chunk.keys + 1; pays = c.chunk.pays + 1; count = c.chunk.count - 1 }; key = key })
       × (rest ws c ≡ head_of ws c.chunk ∷ rest ws (record { dir = c.dir; next = c.next; chunk = record { marks = c.chunk.marks / 2; keys = c.chunk.keys + 1; pays = c.chunk.pays + 1; count = c.chunk.count - 1 }; key = key }))
-  unfolding rest
-  advance_in key m e b =
-      (record { formed = g.formed; low = g.low; keys_in = let p = g.keys_in in omega arith; pays_in = let p = g.pays_in in omega arith; alive = λ y. (e, b); ended = λ z. absurd (omega arith) }, rest_alive ws c g next_in)
+  advance_in key m e b = (step_chunk ws c key g m e b, rest_alive ws c g next_in ∙ ap (λ rs. head_of ws c.chunk ∷ rs) (sym (more_chunk ws c key)))
 
   pub advance_last : (e : Cursor) → c.chunk.count ≤ 1 → Good ws e → rest ws e ≡ records_from ws c.dir c.next (c.dir.chunks - c.next) → Good ws e × (rest ws c ≡ head_of ws c.chunk ∷ rest ws e)
-  unfolding slots_at
-  advance_last e m i q =
-      let p : c.chunk.count - 1 ≡ 0 = omega arith in
-      (i, rest_alive ws c g next_in ∙ rw (p, q))
+  advance_last e m i q = (i, rest_alive ws c g next_in ∙ ap (λ rs. head_of ws c.chunk ∷ rs) (more_last ws c m ∙ sym q))
 
 -- a record before a list, where its key is k
 pub past_head : (ws : List ℕ) (c e : Cursor) (k : ℕ) → Good ws c → k < 4294967296 → c.key ≡ k → rest ws c ≡ head_of ws c.chunk ∷ rest ws e → rest ws e ≡ past k (rest ws c)

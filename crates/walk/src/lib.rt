@@ -52,7 +52,8 @@ pub struct Listed {
     pub more: bool,
 }
 
-// A level from its chunk `next` on.
+// A level from its chunk `next` on. Inlined, as `advance` is, so that no cursor has to lie in memory.
+#[inline(always)]
 fn refill(s: &[u32], cur: &mut Cursor)
     requires { Formed cur.old.dir s.now × (cur.old.next ≤ cur.old.dir.chunks) }
     ensures { Good s.now cur.new × (rest s.now cur.new ≡ records_from s.now cur.old.dir cur.old.next (cur.old.dir.chunks - cur.old.next)) }
@@ -70,25 +71,26 @@ fn refill(s: &[u32], cur: &mut Cursor)
 }
 
 // A level past its next record. This and the other parts of a turn of the walk are inlined before the compiler looks at them one by
-// one: only then it takes four cursors for numbers, and not for places in memory.
+// one: only then it takes four cursors for numbers, and not for places in memory. A record that has another behind it in its chunk comes
+// first: so the compiler lays the loop over a chunk in one piece, which the other way round it does not (docs/SPEED.md).
 #[inline(always)]
 fn advance(s: &[u32], cur: &mut Cursor)
     requires { Good s.now cur.old × (cur.old.key < 4294967296) }
     ensures { Good s.now cur.new × (rest s.now cur.old ≡ head_of s.now cur.old.chunk ∷ rest s.now cur.new) }
 {
     let chunk = cur.chunk;
-    if chunk.count <= 1 {
-        refill(s, cur);
+    if 1 < chunk.count {
+        let keys = chunk.keys + 1;
+        cur.chunk = Chunk {
+            marks: chunk.marks / 2,
+            keys: keys,
+            pays: chunk.pays + 1,
+            count: chunk.count - 1,
+        };
+        cur.key = s[keys] as usize;
         return;
     }
-    let keys = chunk.keys + 1;
-    cur.chunk = Chunk {
-        marks: chunk.marks / 2,
-        keys: keys,
-        pays: chunk.pays + 1,
-        count: chunk.count - 1,
-    };
-    cur.key = s[keys] as usize;
+    refill(s, cur);
 }
 
 // Past the next record, where its key is k.

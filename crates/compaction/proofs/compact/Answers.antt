@@ -1,3 +1,4 @@
+use Rattle.std.proofs.lemmas.List.{take_rest}
 use borrow.Author.Rules.{rules}
 use mathlib.Core.Path.{◌≡◌, ◌∙◌}
 use lib.ListN.{length}
@@ -10,16 +11,16 @@ pub gather_blocks-requires : goal.gather_blocks-requires
 gather_blocks-requires c =
     let a = c.args in
     let l : length a.desk.now.out ≡ list_room = search rules in
-    rw (c.of-o.ensures, c.begin-desk.ensures) (gathers a.z a.s.now a.desk.now.used a.desk.now.out a.list.now a.cursor c.requires l)
+    rw (c.of-o.ensures, c.begin-desk.ensures) (search (rules, take_rest, gathers a.z a.s.now a.desk.now.used a.desk.now.out a.list.now a.cursor c.requires l))
 
 pub flush-requires : goal.flush-requires
 flush-requires c =
     let a = c.args in
     let l : length a.desk.now.out ≡ list_room = search rules in
-    rw c.of-o.ensures (flushes_in a.z a.s.now a.desk.now.used a.desk.now.out a.list.now a.cursor c.requires l (memory c.gather_blocks.new.s c.gather_blocks.new.desk) (c.gather_blocks.ensures ∙ rw (c.of-o.ensures, c.begin-desk.ensures)))
+    rw c.of-o.ensures (flushes_in a.z a.s.now a.desk.now.used a.desk.now.out a.list.now a.cursor c.requires l (memory c.gather_blocks.new.s c.gather_blocks.new.desk) (c.gather_blocks.ensures ∙ rw (c.of-o.ensures, c.begin-desk.ensures) (search (rules, take_rest))))
 
 pub returns : goal.returns
 returns c =
     let a = c.args in
     let l : length a.desk.now.out ≡ list_room = search rules in
-    leaves_in a.z a.s.now a.desk.now.used a.desk.now.out a.list.now a.cursor c.requires l (memory c.flush.new.s c.flush.new.self) (c.flush.ensures ∙ rw (c.gather_blocks.ensures, c.of-o.ensures, c.begin-desk.ensures))
+    leaves_in a.z a.s.now a.desk.now.used a.desk.now.out a.list.now a.cursor c.requires l (memory c.flush.new.s c.flush.new.self) (c.flush.ensures ∙ rw (c.gather_blocks.ensures, c.of-o.ensures, c.begin-desk.ensures) (search (rules, take_rest)))

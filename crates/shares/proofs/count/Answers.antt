@@ -14,7 +14,7 @@ loop-i-preserved c =
     elim c.if-low-gt0.branch [
       | then-low-gt0 w ↦
           rw (w.starts-is, w.gone-is, w.total-is)
-          (w.under.auto.starts ∙ i.0, (w.under.auto.gone ∙ i.1.0, counted_level _ _ _ _ i.1.1 (omega (arith, n, t)) _ _ w.shown-total.ensures.1 _ w.shown-total.ensures.0 w.under.ensures))
+          (w.under.auto.starts ∙ i.0, (w.under.auto.gone ∙ i.1.0, counted_level _ _ _ _ i.1.1 (omega (arith, n, t)) _ _ w.shown-total.ensures.1 _ w.shown-total.ensures.0 (search (rules, w.under.ensures))))
       | else-low-gt0 w ↦ rw (w.starts-is, w.gone-is, w.total-is) (i.0, (i.1.0, counted_empty _ _ _ _ i.1.1 (omega (arith, n, t)) _ w.if-low-gt0.false))
     ]
 

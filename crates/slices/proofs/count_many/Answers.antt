@@ -1,4 +1,4 @@
-use Rattle.std.proofs.Common.{ltb, rules}
+use Rattle.std.proofs.Common.{arith, ltb, rules}
 use Rattle.std.proofs.lemmas.List.Sorted.{IsPartitionPoint-from_clause}
 use Rattle.slices.proofs.Ranks.{rising_parted, parted_count}
 use Rattle.slices.proofs.count_many.Goals as goal
@@ -9,4 +9,5 @@ returns c =
     let keys = c.args.keys.now in
     let parted = rising_parted k keys c.requires in
     let e = c.partition_point.ensures in
-    parted_count k keys c.requires _ e.bound (IsPartitionPoint-from_clause (λ y. ltb y k) keys _ e.partitioned parted (λ a r q h. search rules))
+    let p = parted_count k keys c.requires _ e.bound (IsPartitionPoint-from_clause (λ y. ltb y k) keys _ e.partitioned parted (λ a r q h. search rules)) in
+    omega (arith, p, e.bound)

@@ -48,7 +48,7 @@ count-requires c =
     let p = c.requires in
     let h = rw c.entries-list.ensures at (sym c.needs_compacting.ensures ∙ c.if-not-needs_compacting.false) in
     let w = list_few _ _ _ _ p.0 (c.args.level - 1) _ _ (omega (arith, p.1.0)) p.1.1 c.levels-h.ensures h c.marks.new.used c.marks.ensures _ _ _ _ (rw c.entries-old.ensures at c.compact-m.ensures) in
-    (p.1.0, (omega (arith, p.1.1, p.0.proper.valid.ranged.h_high), (p.0.small, record { merges = omega arith; written = omega arith; compacted = w })))
+    (p.0.small, record { merges = omega arith; written = omega arith; compacted = w })
 
 pub returns : goal.returns
 returns c =

@@ -15,7 +15,7 @@ close_gap-requires c = gap_ready _ _ _ _ c.requires.0 c.args.desk.now.used c.req
 pub count-requires : goal.count-requires
 count-requires c =
     let w = page_few _ _ _ _ c.requires.0 c.args.desk.now.used c.requires.1 _ _ _ _ c.merge_pages-m.ensures in
-    (omega arith, (omega arith, (c.requires.0.small, record { merges = omega arith; written = w; compacted = omega arith })))
+    (c.requires.0.small, record { merges = omega arith; written = w; compacted = omega arith })
 
 pub ticket-requires : goal.ticket-requires
 ticket-requires c = page_words _ _ _ _ c.requires.0 c.args.desk.now.used c.requires.1 _ _ _ _ c.merge_pages-m.ensures

@@ -42,7 +42,7 @@ merge_pair-m-requires c = two_ready _ _ _ _ _ c.requires.0 _ c.requires.1.0 (c.a
 pub count-requires : goal.count-requires
 count-requires c =
     let w = two_few _ _ _ _ _ c.requires.0 c.args.desk.now.used c.requires.1.0 (c.args.level - 1) (omega (arith, c.requires.1.1)) _ _ _ _ c.merge_pair-m.ensures in
-    (omega arith, (omega (arith, low (goal.at.count-requires c).Start), (c.requires.0.small, record { merges = omega arith; written = w; compacted = omega arith })))
+    (c.requires.0.small, record { merges = omega arith; written = w; compacted = omega arith })
 
 pub ticket-requires : goal.ticket-requires
 ticket-requires c = two_words _ _ _ _ _ c.requires.0 c.args.desk.now.used c.requires.1.0 (c.args.level - 1) (omega (arith, c.requires.1.1)) _ _ _ _ c.merge_pair-m.ensures

@@ -4,6 +4,7 @@ use mathlib.Core.Path.{refl}
 use lib.ListN.{get_or}
 use native.Mathlib.Omega.{arith}
 use Rattle.search.proofs.Laws.{rank_ready}
+use Rattle.walk.proofs.Rest.{refill_none}
 use Rattle.walk.proofs.From.{SlotRoom, slot_room, from_slot, from_after, from_none}
 use Rattle.walk.proofs.cursor_from.Goals as goal
 use Rattle.walk.proofs.cursor_from.Goals.{Else-chunk-slot}
@@ -13,7 +14,8 @@ room : (c : Else-chunk-slot) → SlotRoom c.args.s.now c.chunk_at-chunk.result c
 room c = slot_room _ _ c.requires.0 _ _ c.seek_chunk-i.ensures _ c.chunk_at-chunk.ensures _ c.count_below-slot.ensures (omega (arith, c.if-chunk-slot.false))
 
 pub returns-then-dir-lt1 : goal.returns-then-dir-lt1
-returns-then-dir-lt1 c = from_none _ _ _ c.requires.0 c.if-dir-lt1.true c.requires.1
+returns-then-dir-lt1 c =
+    let g = refill_none _ _ c.requires.0 0 (omega (arith, c.if-dir-lt1.true)) (omega arith) in from_none _ _ _ _ c.if-dir-lt1.true c.requires.1 g.0 g.1
 
 pub count_below-slot-requires : goal.count_below-slot-requires
 count_below-slot-requires c = let p = rank_ready _ _ c.requires.0 _ c.seek_chunk-i.ensures.inside _ c.chunk_at-chunk.ensures in (p.0, (p.1, c.requires.1))
