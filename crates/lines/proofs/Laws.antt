@@ -17,7 +17,14 @@ use Rattle.lines.specs.declared.Reading.{Reading}
 use Rattle.lines.specs.declared.Reading.TheVariants.{Start, Letter, Space, Digits, Spoiled}
 use Rattle.lines.specs.Bytes.{digit_nine, space, letter_d, letter_f, letter_g, letter_p, is_digit, if◌then◌otherwise◌, every}
 use Rattle.lines.specs.Lines.{first_field, further_fields, value_from, value_of, word_limit, is_number, spoken, named, line_of}
-use Rattle.lines.specs.Machine.{letter_of, call_of, no_numbers, pushed, last_of, after_start, after_letter, after_space, grown, after_digits, step, run, said, line_after, is_start}
+use Rattle.lines.specs.Machine.{call_of, no_numbers, pushed, last_of, after_start, after_letter, after_space, grown, after_digits, step, run, said, line_after, is_start}
+
+-- a call's letter
+abbrev pub letter_of : Call → ℕ
+letter_of AFormat = letter_f
+letter_of APut = letter_p
+letter_of ADelete = letter_d
+letter_of AGet = letter_g
 
 -- a byte that a call begins with
 unfoldable pub is_letter : ℕ → Bool

@@ -11,13 +11,6 @@ use Rattle.lines.specs.declared.Reading.TheVariants.{Start, Letter, Space, Digit
 use Rattle.lines.specs.Bytes.{space, letter_d, letter_f, letter_g, letter_p, is_digit, if◌then◌otherwise◌}
 use Rattle.lines.specs.Lines.{word_limit}
 
--- a call's letter
-abbrev pub letter_of : Call → ℕ
-letter_of AFormat = letter_f
-letter_of APut = letter_p
-letter_of ADelete = letter_d
-letter_of AGet = letter_g
-
 -- the call that a letter names
 unfoldable pub call_of : ℕ → Option Call
 call_of x =

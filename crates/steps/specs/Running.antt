@@ -1,5 +1,5 @@
 -- The store while the merges of a call run: its lists in a work array, its block counts, cursor and counts in numbers.
-use Rattle.std.specs.Prelude.{ℕ, suc, ◌+◌, ◌-◌, ◌≤◌, ◌<◌, ◌≡◌, Bool, List, [], ◌∷◌, ◌++◌, map, eqb, length, get_or, set}
+use Rattle.std.specs.Prelude.{ℕ, suc, ◌+◌, ◌≤◌, ◌<◌, ◌≡◌, Bool, List, [], ◌∷◌, ◌++◌, map, eqb, length, get_or, set}
 use Rattle.geometry.specs.Geometry.{top_capacity_of}
 use Rattle.geometry.specs.Room.{places_most, list_room}
 use Rattle.levels.specs.Basics.{if◌then◌otherwise◌}

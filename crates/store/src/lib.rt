@@ -27,7 +27,8 @@ pub fn format(s: &mut [u32], b: u32, w: u32, d: u32, g: u32, h: u32, p: u32) -> 
         (format_of s.old (record { b = b; w = w; d = d; g = g; h = h; p = p })) }
 {
     let z = layout::fit(s.len(), b, w, d, g, h, p)?;
-    s.fill(0);
+    let n = s.len();
+    slices::clear(s, 0, n);
     put_header(s, z, [b, w, d, g, h, p]);
     Ok(z.geo.key_limit() as u32)
 }

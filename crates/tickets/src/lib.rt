@@ -7,7 +7,7 @@ ghost use Rattle.levels.specs.Tickets.{ticket_from, laid};
 
 use levels::Ticket;
 
-// Rows for the tickets of a call: no call makes more merges (law `merges-few` of levels).
+// Rows for the tickets of a call: no call makes more merges (law `merges_few` of levels).
 pub const ROOM: usize = 512;
 
 // The tickets of rows into the caller's list, in their order, as many as fit.

@@ -26,7 +26,7 @@ use Rattle.search.proofs.Laws.{chunk_keys, span, chunk_ready, level_cut, span_af
 use Rattle.walk.specs.declared.Cursor.{Cursor}
 use Rattle.walk.specs.declared.Front.{Front}
 use Rattle.walk.specs.Walk.{head_of, rest, Good, FromKey, layered, AllFormed, rests, Ahead, Entered, SameLevels}
-use Rattle.walk.proofs.Rest.{refill_none, more as others, rest_alive, least_of_lem}
+use Rattle.walk.proofs.Rest.{more as others, rest_alive, least_of_lem}
 use Rattle.walk.proofs.Between.{overlay_before}
 use Rattle.walk.proofs.Four.{four_items, layered_few}
 

@@ -1,3 +1,4 @@
+-- The searches are for the edit `skips_first_block`: a part of the list is proved where it is the whole list, and refused where it is not.
 use Rattle.std.proofs.lemmas.List.{take_rest}
 use borrow.Author.Rules.{rules}
 use mathlib.Core.Path.{◌≡◌, ◌∙◌}

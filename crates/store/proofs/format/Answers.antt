@@ -1,4 +1,6 @@
-use Rattle.std.proofs.Common.{◌≡◌, length, replicate, refl, arith, rules}
+use Rattle.std.proofs.Common.{length, replicate, refl, arith}
+use lib.ListN.{length-replicate}
+use Rattle.slices.proofs.Put.{put_all}
 use Rattle.std.proofs.lemmas.Result.{err_from_is_err_and}
 use Rattle.geometry.proofs.Laws.{key_limit_word}
 use Rattle.store.proofs.Formatting.{format_refused, format_done, header_asks, limit_asks}
@@ -11,7 +13,7 @@ returns-in_err-z c =
 
 pub put_header-requires : goal.put_header-requires
 put_header-requires c =
-    let k = header_asks _ _ _ c.in_ok-z.ensures _ c.fill.auto.self in
+    let k = header_asks _ _ _ c.in_ok-z.ensures _ c.clear.auto.s in
     (k.0, (refl, k.1))
 
 pub key_limit-requires : goal.key_limit-requires
@@ -22,5 +24,5 @@ overflow_cast-result c = omega (arith, key_limit_word _ (limit_asks _ _ _ c.in_o
 
 pub returns : goal.returns
 returns c =
-    let e : c.fill.new.self ≡ replicate (length c.args.s.now) 0 = search rules in
-    rw (c.put_header.ensures, e) (format_done _ _ _ c.in_ok-z.ensures _ _ refl c.key_limit.ensures)
+    let n = length c.args.s.now in
+    rw (c.put_header.ensures, c.clear.ensures, put_all (replicate n 0) c.args.s.now (length-replicate n 0)) (format_done _ _ _ c.in_ok-z.ensures _ _ refl c.key_limit.ensures)
