@@ -72,7 +72,7 @@ fn refill(s: &[u32], cur: &mut Cursor)
 
 // A level past its next record. This and the other parts of a turn of the walk are inlined before the compiler looks at them one by
 // one: only then it takes four cursors for numbers, and not for places in memory. A record that has another behind it in its chunk comes
-// first: so the compiler lays the loop over a chunk in one piece, which the other way round it does not (docs/SPEED.md).
+// first: with that, and `refill` inlined, the loop over a chunk takes two branches a record, where it took three (docs/SPEED.md).
 #[inline(always)]
 fn advance(s: &[u32], cur: &mut Cursor)
     requires { Good s.now cur.old × (cur.old.key < 4294967296) }
