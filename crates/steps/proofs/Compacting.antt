@@ -1,5 +1,5 @@
 -- Step 5 for one level, on words and lists.
-use Prim.Native.Nat.{ℕ, zero, suc, ◌+◌, ◌≤◌, ◌<◌}
+use Prim.Native.Nat.{ℕ, zero, suc, ◌+◌, ◌-◌, ◌≤◌, ◌<◌}
 use mathlib.Core.Path.{◌≡◌, refl, sym, ap, ◌∙◌, subst}
 use mathlib.Core.Bool.{Bool, true, false}
 use mathlib.Core.List.{List, [], ◌∷◌, map, append-nil}
@@ -76,10 +76,10 @@ index_is level (suc zero) e h = ap index_of e
 index_is level (suc (suc zero)) e h = ap index_of e
 index_is level (suc (suc (suc j))) e h = absurd (omega arith)
 
--- c more for level j + 1
-pub grown_counted : (f : ℕ → levels.Counts) (t u : Tally) (level j : ℕ) (c : Counts) → level ≡ suc j → level ≤ 3 → j < length t → u ≡ counted t level c → ((i : ℕ) → f i ≡ (if eqb level i then numbers_of c otherwise none)) → Grown f t u
-grown_counted f t u level j c el l3 h e q =
-    let b : index_of level ≡ j = index_is level j el l3 in
+-- c more at the entry one below a level's number, whatever the level, where the tally has that entry
+pub grown_at : (f : ℕ → levels.Counts) (t u : Tally) (level j : ℕ) (c : Counts) → level ≡ suc j → j < length t → u ≡ set t (level - 1) (sum_of (counts_in t (level - 1)) c) → ((i : ℕ) → f i ≡ (if eqb level i then numbers_of c otherwise none)) → Grown f t u
+grown_at f t u level j c el h e q =
+    let b : level - 1 ≡ j = omega arith in
     let d : u ≡ set t j (sum_of (counts_in t j) c) = e ∙ rw b in
     rw d (length-set t j (sum_of (counts_in t j) c), λ i l. more i (ℕ_discrete i j))
   where
@@ -88,6 +88,12 @@ grown_counted f t u level j c el l3 h e q =
     more i (no n) =
         rw (get_or-set_other t j i (sum_of (counts_in t j) c) no_counts n)
         (same_counts (numbers_of (counts_in t i)) none refl refl refl ∙ ap (plus (numbers_of (counts_in t i))) (sym (q (suc i) ∙ rw (ne_eqb level (suc i) (λ y. n (omega arith))))))
+
+-- c more for level j + 1
+pub grown_counted : (f : ℕ → levels.Counts) (t u : Tally) (level j : ℕ) (c : Counts) → level ≡ suc j → level ≤ 3 → j < length t → u ≡ counted t level c → ((i : ℕ) → f i ≡ (if eqb level i then numbers_of c otherwise none)) → Grown f t u
+grown_counted f t u level j c el l3 h e q =
+    let b : j ≡ level - 1 = omega arith in
+    grown_at f t u level j c el h (e ∙ rw (index_is level j el l3 ∙ b)) q
 
 -- the counts of one compaction
 compacted_one : (c : Compaction) (n level : ℕ) → c.level ≡ level → blocks_compacted c ≡ n → (i : ℕ) → compacted_counts (c ∷ []) i ≡ (if eqb level i then (record { merges = 0; written = 0; compacted = n }) otherwise none)
